@@ -6,6 +6,7 @@ mod failing;
 mod ids;
 mod memory;
 mod memory_sink;
+mod moment;
 mod sink;
 mod texts;
 
@@ -14,5 +15,6 @@ pub use failing::FailingDisk;
 pub use ids::IdWords;
 pub use memory::MemoryDisk;
 pub use memory_sink::MemorySink;
+pub use moment::Moment;
 pub use sink::{Sink, StreamError};
-pub use texts::{Memory, Moment, Text};
+pub use texts::{Memory, Text};
