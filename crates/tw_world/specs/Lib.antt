@@ -1,8 +1,13 @@
+pub mod Calls
 pub mod Disk
 pub mod Failing
+pub mod Ids
 pub mod Memory
+pub mod MemoryPeer
 pub mod MemorySink
+pub mod MemorySource
 pub mod Moment
+pub mod Peer
 pub mod Replay
 pub mod Sink
-pub mod Ids
+pub mod Source

@@ -1,20 +1,34 @@
-//! What the product asks of the outside: disks and sinks, and such objects in memory.
+//! What the program asks of the outside: disks, folders, streams, moments and drawn identifiers.
+//! Each trait says what its object holds, what a crash may leave of it and how often it has failed; objects in memory meet it.
+//! It stands on std alone.
 #![tactic(auto)]
 
+mod calls;
 mod disk;
 mod failing;
 mod ids;
 mod memory;
+mod memory_peer;
 mod memory_sink;
+mod memory_source;
 mod moment;
+mod peer;
 mod sink;
+mod source;
 mod texts;
 
 pub use disk::{Disk, DiskError};
 pub use failing::FailingDisk;
 pub use ids::IdWords;
 pub use memory::MemoryDisk;
+pub use memory_peer::MemoryPeer;
 pub use memory_sink::MemorySink;
+pub use memory_source::MemorySource;
 pub use moment::Moment;
+pub use peer::Peer;
 pub use sink::{Sink, StreamError};
+pub use source::Source;
 pub use texts::{Memory, Text};
+
+#[cfg(test)]
+mod tests;

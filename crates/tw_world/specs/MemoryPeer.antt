@@ -1,0 +1,28 @@
+-- A peer in memory.
+use Rattle.std.specs.Prelude.{◌≡◌, ℕ, Bool, List, true, drop}
+use Rattle.tw_world.specs.Peer.{PeerModel}
+use Rattle.tw_world.specs.Calls.{is_named, counted, failed}
+use Rattle.tw_world.specs.declared.memory_peer.MemoryPeer.{MemoryPeer}
+
+-- the bytes that are still to be read
+abbrev pub peer_rest : MemoryPeer → List ℕ
+peer_rest p = drop p.at p.content.items
+
+-- the bytes written to it
+abbrev pub peer_bytes : MemoryPeer → List ℕ
+peer_bytes p = p.written.items
+
+abbrev pub memory_peer_model : PeerModel MemoryPeer
+memory_peer_model = record { faults = λ p. p.calls.faults; tells = λ p. true; rest = peer_rest; held = peer_bytes }
+
+-- is the next call one that is to fail?
+abbrev pub peer_due : MemoryPeer → Bool
+peer_due p = is_named p.calls
+
+-- how many calls were made, of both kinds
+abbrev pub peer_calls : MemoryPeer → ℕ
+peer_calls p = p.calls.made
+
+-- only the count of calls and that of faults went up
+abbrev pub PeerRefused : MemoryPeer → MemoryPeer → Type 0
+PeerRefused old new = new ≡ record old { calls = failed (counted old.calls) }
