@@ -1,0 +1,13 @@
+pub mod Appends
+pub mod Options
+pub mod Ends
+pub mod Numbers
+pub mod Settles
+pub mod OneAnswer
+pub mod Visible
+pub mod Uuids
+pub mod Written
+pub mod Back
+pub mod Answered
+pub mod Responses
+pub mod Serving

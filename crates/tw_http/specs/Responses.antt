@@ -1,0 +1,86 @@
+-- What bytes are read as, where a response is awaited. The answer is determined, and each refusal comes in this order.
+use Rattle.std.specs.Prelude.{◌≡◌, ◌⊎◌, ℕ, ◌<◌, ◌≤◌, ◌==◌, Bool, true, false, List, [], Option, Some, None, Result, Ok, Err, if◌then◌else◌, codes, length, take, drop, map}
+use Rattle.httparse.specs.Grammar.{ResponseHead, ReadsResponse, status_code}
+use Rattle.httparse.specs.Spans.{name_and_value}
+use Rattle.tw_http.specs.declared.message.Asked.{Asked}
+use Rattle.tw_http.specs.declared.message.Asked.TheVariants as asked
+use Rattle.tw_http.specs.declared.message.Response.{Response}
+use Rattle.tw_http.specs.declared.message.Response.TheVariants as answer
+use Rattle.tw_http.specs.declared.response_reader.Kind.{Kind}
+use Rattle.tw_http.specs.declared.response_reader.Kind.TheVariants as kinds
+use Rattle.tw_http.specs.declared.message.HttpError.{HttpError}
+use Rattle.tw_http.specs.declared.message.HttpError.TheVariants.{Head, Status}
+use Rattle.tw_http.specs.Messages.{max_head, max_lines}
+use Rattle.tw_http.specs.Heads.{◌>>=◌, head_len, no_head}
+use Rattle.tw_http.specs.Fields.{Fields, uuid_field}
+use Rattle.tw_http.specs.Bodies.{body_len, body_of}
+
+-- the statuses that any request may get
+abbrev pub refused : ℕ → Result Kind HttpError
+refused status = if status == 400 then Ok kinds.Bad else if status == 413 then Ok kinds.TooLong else if status == 500 then Ok kinds.Taken else Err (Status status)
+
+abbrev pub added_in : Fields → Result Kind HttpError
+added_in fs = uuid_field (codes "X-Version-Id") fs >>= λ id. Ok (kinds.Added id)
+
+abbrev pub conflict_in : Fields → Result Kind HttpError
+conflict_in fs = uuid_field (codes "X-Parent-Version-Id") fs >>= λ latest. Ok (kinds.Conflict latest)
+
+abbrev pub child_in : Fields → Result Kind HttpError
+child_in fs = do
+  id ← uuid_field (codes "X-Version-Id") fs
+  parent ← uuid_field (codes "X-Parent-Version-Id") fs
+  Ok (kinds.Child id parent)
+
+-- the response of a status and its fields to what was asked, without its segment
+abbrev pub kind_in : Asked → ℕ → Fields → Result Kind HttpError
+kind_in asked.Add status fs = if status == 200 then added_in fs else if status == 409 then conflict_in fs else refused status
+kind_in asked.Child status fs = if status == 200 then child_in fs else if status == 404 then Ok kinds.UpToDate else if status == 410 then Ok kinds.Gone else refused status
+
+abbrev pub response_made : Kind → List ℕ → Response
+response_made (kinds.Added id) body = answer.Added id
+response_made (kinds.Conflict latest) body = answer.Conflict latest
+response_made (kinds.Child id parent) body = answer.Child id parent body
+response_made kinds.UpToDate body = answer.UpToDate
+response_made kinds.Gone body = answer.Gone
+response_made kinds.Bad body = answer.Bad
+response_made kinds.TooLong body = answer.TooLong
+response_made kinds.Taken body = answer.Taken
+
+-- the response of a head and what follows it, or the first refusal
+unfoldable pub response_after : Asked → ℕ → Fields → List ℕ → Result Response HttpError
+response_after what status fs rest = do
+  kind ← kind_in what status fs
+  n ← body_len true fs
+  body ← body_of n rest
+  Ok (response_made kind body)
+
+-- the responses that may come to a request
+abbrev pub answers : Asked → Response → Bool
+answers asked.Add (answer.Added id) = true
+answers asked.Add (answer.Conflict latest) = true
+answers asked.Add (answer.Child id parent segment) = false
+answers asked.Add answer.UpToDate = false
+answers asked.Add answer.Gone = false
+answers asked.Add answer.Bad = true
+answers asked.Add answer.TooLong = true
+answers asked.Add answer.Taken = true
+answers asked.Child (answer.Added id) = false
+answers asked.Child (answer.Conflict latest) = false
+answers asked.Child (answer.Child id parent segment) = true
+answers asked.Child answer.UpToDate = true
+answers asked.Child answer.Gone = true
+answers asked.Child answer.Bad = true
+answers asked.Child answer.TooLong = true
+answers asked.Child answer.Taken = true
+
+abbrev pub IsResponseHeadAnswer : Asked → List ℕ → List ℕ → Result Response HttpError → Type 0
+IsResponseHeadAnswer what front rest r =
+    ((h : ResponseHead) × ReadsResponse front h [] × (length h.fields ≤ max_lines) × (r ≡ response_after what (status_code h) (map name_and_value h.fields) rest))
+    ⊎ (((h : ResponseHead) → ReadsResponse front h [] → max_lines < length h.fields) × (r ≡ Err Head))
+
+abbrev pub IsResponseAnswerAt : Asked → Option ℕ → List ℕ → Result Response HttpError → Type 0
+IsResponseAnswerAt what None bytes r = r ≡ Err (no_head bytes)
+IsResponseAnswerAt what (Some n) bytes r = IsResponseHeadAnswer what (take n bytes) (drop n bytes) r
+
+abbrev pub IsResponseAnswer : Asked → List ℕ → Result Response HttpError → Type 0
+IsResponseAnswer what bytes r = IsResponseAnswerAt what (head_len (take max_head bytes)) bytes r
