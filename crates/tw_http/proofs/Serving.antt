@@ -1,6 +1,5 @@
 -- What a server says is read as what it says.
-use Rattle.std.proofs.Common.{◌≡◌, ◌∙◌, ℕ, ◌+◌, ◌<◌, ◌≤◌, inl, Bool, true, false, cond, List, [], ◌∷◌, ◌++◌, length, Some, Ok, refl, sym, ap, subst, arith, All, IsTrue, unwrap_or}
-use Rattle.std.specs.List.{list_all}
+use Rattle.std.proofs.Common.{ℕ, ◌<◌, ◌≤◌, inl, Bool, true, false, cond, List, [], ◌∷◌, ◌++◌, length, Some, Ok, refl, sym, subst, arith, All, IsTrue}
 use Rattle.std.specs.Prelude.{nat_lt}
 use Rattle.std.proofs.lemmas.Bool.Decides.{nat_tests}
 use Rattle.std.proofs.lemmas.List.Elements.{All-head, All-tail}
@@ -8,7 +7,7 @@ use Rattle.std.proofs.lemmas.List.Sums.{AllPass-from_list_all}
 use Rattle.uuid.specs.Parts.{zero_bytes}
 use Rattle.uuid.specs.Text.{lower}
 use Rattle.uuid.proofs.RoundTrips.{parses_hyphenated_text}
-use Rattle.tw_protocol.specs.Chain.{Version, IsUuid, same_id, last_from, latest, IsRow, has_id, IsChain}
+use Rattle.tw_protocol.specs.Chain.{Version, IsUuid, same_id, last_from, latest, IsRow, has_id}
 use Rattle.tw_protocol.specs.Answer.{Told, version, accepts, child_behind}
 use Rattle.tw_protocol.specs.Answer.Told.{Added, Conflict, Found, UpToDate, Gone, Taken}
 use Rattle.tw_http.specs.declared.message.Asked.TheVariants as asked

@@ -9,7 +9,11 @@ use httparse::spans::HeaderSpan;
 use uuid::Uuid;
 
 // The uuid of a field that stands there exactly once.
-pub(crate) fn uuid_field(front: &[u8], headers: &[HeaderSpan], name: &[u8]) -> Result<Uuid, HttpError>
+pub(crate) fn uuid_field(
+    front: &[u8],
+    headers: &[HeaderSpan],
+    name: &[u8],
+) -> Result<Uuid, HttpError>
     requires { All (IsHeaderWithin (length front.now)) headers.now }
     ensures { result ≡ uuid_field name.now (map (header_bytes front.now) headers.now) }
 {
@@ -23,7 +27,11 @@ pub(crate) fn uuid_field(front: &[u8], headers: &[HeaderSpan], name: &[u8]) -> R
 }
 
 // The value of a field that stands there exactly once.
-pub(crate) fn only_value<'f>(front: &'f [u8], headers: &[HeaderSpan], name: &[u8]) -> Option<&'f [u8]>
+pub(crate) fn only_value<'f>(
+    front: &'f [u8],
+    headers: &[HeaderSpan],
+    name: &[u8],
+) -> Option<&'f [u8]>
     requires { All (IsHeaderWithin (length front.now)) headers.now }
     ensures { option_map (λ v. v.now) result ≡ only (values_of name.now (map (header_bytes front.now) headers.now)) }
 {
