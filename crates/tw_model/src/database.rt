@@ -1,0 +1,312 @@
+// A task database: its uuids and their tasks.
+ghost use Rattle.std.specs.Prelude.{◌≡◌, ◌<◌, [], T, IfOk, OnOk, OnErr, None, is_some, is_none, slice_index_or};
+ghost use Rattle.std.specs.Option.{option_copied};
+ghost use Rattle.std.specs.BTreeMap as tree;
+ghost use Rattle.std.specs.Map.Iter.{ShowsInOrder, deref_pair};
+ghost use Rattle.std.specs.FinMap as map;
+ghost use Rattle.tw_model.specs.Maps.{bytes_cmp, set_at, set_if_none, set_property_at};
+
+use crate::values::{as_str, is_same_value};
+use crate::{Op, SyncOp, TaskMap};
+use std::alloc::Global;
+use std::collections::btree_map::{BTreeMap, Iter};
+use std::marker::Model;
+use tw_world::Memory;
+use uuid::Uuid;
+
+/// A task database, seen as a map from uuid to task.
+/// It is the TaskChampion book's "Task Database".
+#[derive(Drop)]
+pub struct Tasks {
+    entries: BTreeMap<Uuid, TaskMap>,
+}
+
+impl Model for Tasks {
+    ghost use Rattle.std.specs.Prelude.{List, ℕ, T};
+    ghost use Rattle.std.specs.FinMap as map;
+    ghost use Rattle.std.specs.Coded.{coded_ℕ, coded_list};
+    ghost use Rattle.tw_model.specs.Maps.{bytes_cmp};
+
+    ghost Value = { map.FinMap bytes_cmp (map.FinMap bytes_cmp (List ℕ)) };
+
+    ghost coded = { map.code (coded_list coded_ℕ) (map.code (coded_list coded_ℕ) (coded_list coded_ℕ)) };
+
+    ghost view = { λ a. map.from_sorted a.entries.entries };
+
+    ghost invariant = { λ a. T (map.is_sorted bytes_cmp a.entries.entries) };
+}
+
+impl Tasks {
+    ghost use Rattle.tw_model.specs.Ops.{fits, apply};
+    ghost use Rattle.tw_model.specs.LocalOps.{fits_local, apply_local, take_back};
+
+    /// A database without tasks.
+    pub fn new(alloc: Global) -> Tasks
+        ensures { result ≡ map.empty }
+    {
+        Tasks {
+            entries: BTreeMap::new(alloc),
+        }
+    }
+
+    /// How many tasks there are.
+    pub fn len(&self) -> u64
+        ensures { result ≡ map.len self.now }
+    {
+        self.entries.len() as u64
+    }
+
+    /// The task of a uuid, in time that grows with the logarithm of the number of tasks.
+    pub fn get(&self, uuid: Uuid) -> Option<&TaskMap>
+        ensures { option_copied result ≡ map.get self.now uuid }
+    {
+        self.entries.get(&uuid)
+    }
+
+    /// The uuids and their tasks, in byte order of the uuid. It takes no memory.
+    pub fn iter(&self) -> Iter<'_, Uuid, TaskMap>
+        ensures rest { result ≡ map.entries self.now }
+    {
+        self.entries.iter()
+    }
+
+    /// The uuids, in byte order.
+    pub fn uuids(&self, alloc: Global) -> Result<Vec<Uuid>, Memory>
+        ensures { IfOk result (λ uuids. uuids.items ≡ map.keys self.now) }
+    {
+        uuids_of(alloc, &self.entries)
+    }
+
+    /// The uuid with number `n`, from 0, in byte order. It counts up to `n`: to go over all, `iter` is meant.
+    pub fn uuid_at(&self, n: u64) -> Uuid
+        requires { n < map.len self.now }
+        ensures { result ≡ slice_index_or (map.keys self.now) n [] }
+    {
+        nth_uuid(&self.entries, n)
+    }
+
+    /// The same tasks.
+    pub fn copy(&self, alloc: Global) -> Result<Tasks, Memory>
+        ensures { IfOk result (λ copy. copy ≡ self.now) }
+    {
+        Ok(Tasks {
+            entries: copy_tasks(alloc, &self.entries)?,
+        })
+    }
+
+    /// Whether an operation of this replica fits: its task is there or not, and what it says stood there does.
+    pub fn fits_local(&self, op: &Op) -> bool
+        ensures { result ≡ fits_local self.now op.now }
+    {
+        match op {
+            Op::Create { uuid } => self.get(*uuid).is_none(),
+            Op::Delete { uuid, before } => match self.get(*uuid) {
+                Some(task) => task.is_same(before),
+                None => false,
+            },
+            Op::Update {
+                uuid,
+                property,
+                before,
+                ..
+            } => match self.get(*uuid) {
+                Some(task) => is_same_value(task.get(property.as_str()), as_str(before)),
+                None => false,
+            },
+            Op::UndoPoint => true,
+        }
+    }
+
+    /// Applies an operation of this replica, and answers whether it fits. One that does not fit changes nothing.
+    pub fn apply(&mut self, alloc: Global, op: &Op) -> Result<bool, Memory>
+        ensures fits { IfOk result (λ fitted. fitted ≡ fits_local self.old op.now) }
+        ensures ok { OnOk result (self.new ≡ apply_local self.old op.now) }
+        ensures err { OnErr result (self.new ≡ self.old) }
+    {
+        if !self.fits_local(op) {
+            return Ok(false);
+        }
+        match op {
+            Op::Create { uuid } => insert_task(&mut self.entries, *uuid, TaskMap::new(alloc))?,
+            Op::Delete { uuid, .. } => remove_task(&mut self.entries, uuid),
+            Op::Update {
+                uuid,
+                property,
+                after,
+                ..
+            } => set_property(
+                &mut self.entries,
+                alloc,
+                uuid,
+                property.as_str(),
+                as_str(after),
+            )?,
+            Op::UndoPoint => true,
+        };
+        Ok(true)
+    }
+
+    /// Takes back an operation of this replica. Where it fitted and these tasks are what it left, it leaves the tasks before it.
+    pub fn invert(&mut self, alloc: Global, op: &Op) -> Result<(), Memory>
+        ensures ok { OnOk result (self.new ≡ take_back self.old op.now) }
+        ensures err { OnErr result (self.new ≡ self.old) }
+    {
+        match op {
+            Op::Create { uuid } => {
+                let _ = remove_task(&mut self.entries, uuid);
+                Ok(())
+            }
+            Op::Delete { uuid, before } => {
+                let task = before.copy(alloc)?;
+                let _ = insert_task(&mut self.entries, *uuid, task)?;
+                Ok(())
+            }
+            Op::Update {
+                uuid,
+                property,
+                before,
+                ..
+            } => {
+                let _ = set_property(
+                    &mut self.entries,
+                    alloc,
+                    uuid,
+                    property.as_str(),
+                    as_str(before),
+                )?;
+                Ok(())
+            }
+            Op::UndoPoint => Ok(()),
+        }
+    }
+
+    /// Whether an exchanged operation fits: a `Create` where there is no such task, the others where there is.
+    pub fn fits(&self, op: &SyncOp) -> bool
+        ensures { result ≡ fits self.now op.now }
+    {
+        let there = self.get(op.uuid()).is_some();
+        match op {
+            SyncOp::Create { .. } => !there,
+            SyncOp::Delete { .. } => there,
+            SyncOp::Update { .. } => there,
+        }
+    }
+
+    /// Applies an exchanged operation, and answers whether it fits. One that does not fit changes nothing.
+    pub fn apply_sync(&mut self, alloc: Global, op: &SyncOp) -> Result<bool, Memory>
+        ensures fits { IfOk result (λ fitted. fitted ≡ fits self.old op.now) }
+        ensures ok { OnOk result (self.new ≡ apply self.old op.now) }
+        ensures err { OnErr result (self.new ≡ self.old) }
+    {
+        match op {
+            SyncOp::Create { uuid } => {
+                insert_task(&mut self.entries, *uuid, TaskMap::new(alloc))
+            }
+            SyncOp::Delete { uuid } => Ok(remove_task(&mut self.entries, uuid)),
+            SyncOp::Update {
+                uuid,
+                property,
+                value,
+                ..
+            } => {
+                set_property(
+                    &mut self.entries,
+                    alloc,
+                    uuid,
+                    property.as_str(),
+                    as_str(value),
+                )
+            }
+        }
+    }
+}
+
+fn uuids_of(alloc: Global, entries: &BTreeMap<Uuid, TaskMap>) -> Result<Vec<Uuid>, Memory>
+    ensures { IfOk result (λ uuids. uuids.items ≡ tree.keys entries.now) }
+{
+    let mut uuids = Vec::with_capacity(alloc, entries.len())?;
+    for uuid in entries.keys() {
+        uuids.push(*uuid)?;
+    }
+    Ok(uuids)
+}
+
+fn nth_uuid(entries: &BTreeMap<Uuid, TaskMap>, n: u64) -> Uuid
+    requires { n < tree.btree_map_len entries.now }
+    ensures { result ≡ slice_index_or (tree.keys entries.now) n [] }
+{
+    let mut left = n;
+    for uuid in entries.keys() {
+        if left == 0 {
+            return *uuid;
+        }
+        left -= 1;
+    }
+    Uuid::nil()
+}
+
+fn copy_tasks(
+    alloc: Global,
+    entries: &BTreeMap<Uuid, TaskMap>,
+) -> Result<BTreeMap<Uuid, TaskMap>, Memory>
+    requires { T (map.is_sorted bytes_cmp entries.now.entries) }
+    ensures { IfOk result (λ copies. copies.entries ≡ entries.now.entries) }
+{
+    let mut copies = BTreeMap::new(alloc);
+    for (uuid, task) in entries {
+        copies.insert(*uuid, task.copy(alloc)?)?;
+    }
+    Ok(copies)
+}
+
+// Puts a task where its uuid has none, and answers whether it had none.
+fn insert_task(
+    entries: &mut BTreeMap<Uuid, TaskMap>,
+    uuid: Uuid,
+    task: TaskMap,
+) -> Result<bool, Memory>
+    requires { T (map.is_sorted bytes_cmp entries.old.entries) }
+    ensures sorted { T (map.is_sorted bytes_cmp entries.new.entries) }
+    ensures fits { IfOk result (λ fitted. fitted ≡ is_none (map.get (map.from_sorted {R = bytes_cmp} entries.old.entries) uuid)) }
+    ensures ok { OnOk result (map.from_sorted {R = bytes_cmp} entries.new.entries ≡ set_if_none (map.from_sorted entries.old.entries) uuid task) }
+    ensures err { OnErr result (entries.new.entries ≡ entries.old.entries) }
+{
+    if entries.contains_key(&uuid) {
+        return Ok(false);
+    }
+    let _ = entries.insert(uuid, task)?;
+    Ok(true)
+}
+
+// Takes the task of a uuid out, and answers whether there was one.
+fn remove_task(entries: &mut BTreeMap<Uuid, TaskMap>, uuid: &Uuid) -> bool
+    requires { T (map.is_sorted bytes_cmp entries.old.entries) }
+    ensures sorted { T (map.is_sorted bytes_cmp entries.new.entries) }
+    ensures fits { result ≡ is_some (map.get (map.from_sorted {R = bytes_cmp} entries.old.entries) uuid.now) }
+    ensures left { map.from_sorted {R = bytes_cmp} entries.new.entries ≡ set_at (map.from_sorted entries.old.entries) uuid.now None }
+{
+    entries.remove(uuid).is_some()
+}
+
+// Sets or removes a property of the task of a uuid, and answers whether there is one.
+fn set_property(
+    entries: &mut BTreeMap<Uuid, TaskMap>,
+    alloc: Global,
+    uuid: &Uuid,
+    property: &str,
+    value: Option<&str>,
+) -> Result<bool, Memory>
+    requires { T (map.is_sorted bytes_cmp entries.old.entries) }
+    ensures sorted { T (map.is_sorted bytes_cmp entries.new.entries) }
+    ensures fits { IfOk result (λ fitted. fitted ≡ is_some (map.get (map.from_sorted {R = bytes_cmp} entries.old.entries) uuid.now)) }
+    ensures ok { OnOk result (map.from_sorted {R = bytes_cmp} entries.new.entries ≡ set_property_at (map.from_sorted entries.old.entries) uuid.now property.now (option_copied value.entry)) }
+    ensures err { OnErr result (map.from_sorted {R = bytes_cmp} entries.new.entries ≡ map.from_sorted entries.old.entries) }
+{
+    match entries.get_mut(uuid) {
+        Some(task) => {
+            task.set(alloc, property, value)?;
+            Ok(true)
+        }
+        None => Ok(false),
+    }
+}
