@@ -1,16 +1,13 @@
 -- What UTC's clock shows at a second is that second.
-use Rattle.std.proofs.Common.{◌≡◌, ℕ, ◌<◌, ◌≤◌, ℤ, pos, negsuc, ◌≤ℤ◌, ◌<ℤ◌, Some, Ok, arith, refl, ap, ◌∙◌, unsigned_abs, int_div}
+use Rattle.std.proofs.Common.{◌≡◌, ℕ, ◌<◌, ℤ, pos, negsuc, ◌≤ℤ◌, Some, Ok, arith, refl, ap, ◌∙◌, unsigned_abs, int_div}
 use Rattle.std.specs.Int.{int_rem_euclid}
-use Rattle.std.specs.Option.{ok_or}
 use Rattle.jiff_core.proofs.DateTimeLemmas.{civil_nanos-parts}
 use Rattle.jiff_core.proofs.CalendarLemmas.{days_in_month_bounds}
 use Rattle.jiff_core.proofs.SignedLemmas.{signed_arith}
-use Rattle.jiff_core.specs.Time.{time_seconds}
 use Rattle.jiff.specs.Types.{Date, Time, DateTime, UTC}
 use Rattle.jiff.specs.Words.{picked_instant}
 use Rattle.jiff.proofs.ZoneFacts.{offset_at-UTC, picked_instant-UTC}
-use Rattle.tw_time.specs.declared.error.DateError.TheVariants.{Unknown, OutOfRange}
-use Rattle.tw_time.specs.Civil.{limit, nanos, Shows, shown_seconds, shown_day, shown_second, date_of, time_of, second_at}
+use Rattle.tw_time.specs.Civil.{limit, nanos, Shows, shown_seconds, date_of, second_at}
 use Rattle.tw_time.specs.Forms.{IsPrintable}
 use Rattle.tw_time.specs.Placed.{at_civil}
 use Rattle.tw_time.specs.Basic.{parts_of}

@@ -1,5 +1,4 @@
-use Rattle.std.proofs.Common.{◌≡◌, List, ℕ, ap, sym, ◌∙◌, ◌∷◌, [], codes, pos}
-use Rattle.tw_time.specs.Forms.{printed}
+use Rattle.std.proofs.Common.{ap, sym, ◌∙◌, ◌∷◌, []}
 use Rattle.tw_time.specs.Basic.{basic_moment}
 use Rattle.tw_time.proofs.BasicFacts.{basic_is}
 use Rattle.tw_time.proofs.RoundTrip.{basic_moment-printed}

@@ -1,4 +1,4 @@
-use Rattle.std.proofs.Common.{◌≡◌, ap, sym, ◌∙◌, unsigned_abs, subst, FitsSigned, w16, arith, Some, Ok, pos}
+use Rattle.std.proofs.Common.{◌≡◌, ap, sym, ◌∙◌, unsigned_abs, subst, FitsSigned, w16, arith, Some}
 use Rattle.std.proofs.lemmas.Int.{to_z-of_z}
 use Rattle.jiff.proofs.SpanFacts.{signed_arith}
 use Rattle.jiff.specs.Types.{UTC}

@@ -1,5 +1,4 @@
-use Rattle.std.proofs.Common.{◌≡◌, List, ℕ, ap, sym, ◌∙◌, ◌∷◌, [], codes, pos}
-use Rattle.tw_time.specs.Forms.{printed}
+use Rattle.std.proofs.Common.{ap, sym, ◌∙◌, ◌∷◌, [], pos}
 use Rattle.tw_time.specs.Extended.{extended_second}
 use Rattle.tw_time.proofs.BasicFacts.{extended_is}
 use Rattle.tw_time.proofs.RoundTrip.{extended_second-printed}
