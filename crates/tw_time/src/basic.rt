@@ -1,4 +1,4 @@
-ghost use Rattle.std.specs.Prelude.{◌≡◌, ◌<◌, IfSome, Some};
+ghost use Rattle.std.specs.Prelude.{◌≡◌, ◌<◌, IsAscii, IfSome, Some};
 ghost use Rattle.tw_time.specs.Civil.{limit};
 ghost use Rattle.tw_time.specs.Basic.{basic, basic_moment};
 
@@ -10,6 +10,7 @@ use crate::zone::Zone;
 pub fn print_basic(at: u64) -> [u8; 16]
     requires { at < limit }
     ensures text { result ≡ basic at }
+    ensures ascii { IsAscii result }
     ensures reads_back { basic_moment result ≡ Some at }
 {
     let parts = utc_parts(at);

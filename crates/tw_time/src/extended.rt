@@ -1,4 +1,4 @@
-ghost use Rattle.std.specs.Prelude.{◌≡◌, ◌<◌, ◌≤◌, pos, negsuc, ◌≤ℤ◌, IfSome, Some};
+ghost use Rattle.std.specs.Prelude.{◌≡◌, ◌<◌, ◌≤◌, pos, negsuc, ◌≤ℤ◌, IsAscii, IfSome, Some};
 ghost use Rattle.jiff_core.specs.Time.{time_seconds};
 ghost use Rattle.tw_time.specs.Civil.{limit};
 ghost use Rattle.tw_time.specs.Extended.{extended, extended_second, second_of_parts, civil_second, clock_second};
@@ -13,6 +13,7 @@ use jiff::civil::{Date, Time};
 pub fn print_extended(at: u64) -> [u8; 19]
     requires { at < limit }
     ensures text { result ≡ extended at }
+    ensures ascii { IsAscii result }
     ensures reads_back { extended_second result ≡ Some (pos at) }
 {
     let parts = utc_parts(at);
