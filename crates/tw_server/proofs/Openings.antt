@@ -1,0 +1,143 @@
+-- What an opening reads from body to body.
+use Rattle.std.proofs.Common.{◌≡◌, ◌∙◌, inr, ℕ, ◌+◌, ◌<◌, ◌≤◌, Bool, true, false, not, ◌&&◌, ◌==◌, nat_le, if◌then◌else◌, Some, None, List, [], ◌∷◌, ◌++◌, length, get_or, take, drop, map, refl, sym, ap, subst, arith, All}
+use Rattle.std.proofs.lemmas.Bool.{false≢true, and_parts}
+use Rattle.std.proofs.lemmas.Bool.Decides.{nat_tests}
+use Rattle.std.proofs.lemmas.List.{map-append, take_all, take_more, drop-drop, take-append-drop, length-take, length-drop}
+use Rattle.std.proofs.lemmas.List.Elements.{All-take, All-drop, All-nil}
+use Rattle.uuid.specs.Parts.{zero_bytes}
+use Rattle.tw_world.specs.Disk.{DiskModel, Tells, LeavesOnly, Untouched}
+use Rattle.tw_world.proofs.Moments.{CountsNow, joined, weaker}
+use Rattle.tw_journal.specs.Open.{Records}
+use Rattle.tw_server.specs.declared.server.ServerError.{ServerError}
+use Rattle.tw_server.specs.declared.server.ServerError.TheVariants as errors
+use Rattle.tw_server.proofs.Disks.{open_stays}
+use Rattle.tw_journal.specs.Journal.{IsOpenOn, ReadRefused}
+use Rattle.tw_journal.specs.declared.journal.Journal.{Journal}
+use Rattle.tw_journal.specs.declared.journal.JournalError.{JournalError}
+use Rattle.tw_journal.specs.declared.journal.JournalError.TheVariants as journal
+use Rattle.tw_protocol.specs.Chain.{Version, IsUuid, same_id, latest, has_id}
+use Rattle.tw_protocol.proofs.Chains.{same_id_exact}
+use Rattle.tw_server.specs.declared.entry.Entry.{Entry}
+use Rattle.tw_server.specs.declared.server.Server.{Server}
+use Rattle.tw_server.specs.Faults.{error_of}
+use Rattle.tw_server.specs.Log.{Accepted, HasUuids, IsSound, chain_of, body_of, bodies_of, entry_of, accepted_in, is_body, is_next_entry, follows}
+use Rattle.std.specs.List.{list_any}
+use Rattle.tw_server.specs.Server.{magic, is_held, IsReadTo, IsBadBody, IsOpenedOn, TakeRefused, ServerOpenRefused}
+use Rattle.tw_server.proofs.Logs.{sound-push, list_any-held}
+
+-- a read is never refused as damaged where the journal is open
+pub read_not_bad : {D : Type 0} (m : DiskModel D) (j : Journal) (before after : D) (bodies : List (List ℕ)) (n : ℕ) (e : JournalError) → ReadRefused m before after j e → IsOpenOn m magic j before bodies → IsBadBody bodies n (error_of e)
+read_not_bad m j before after bodies n journal.Disk refused on = tt
+read_not_bad m j before after bodies n journal.Closed refused on = tt
+read_not_bad m j before after bodies n (journal.Damaged offset) refused on = absurd (refused on.rest.tells magic bodies on)
+read_not_bad m j before after bodies n (journal.TooLong bytes) refused on = tt
+read_not_bad m j before after bodies n journal.Memory refused on = tt
+
+pub none_false : {X : Type 0} (t : Bool) (x : X) → None ≡ (if t then Some x else None) → t ≡ false
+none_false true x e = let no : ⊥ = cc in absurd no
+none_false false x e = refl
+
+pub some_true : {X : Type 0} (t : Bool) (x y : X) → Some y ≡ (if t then Some x else None) → (t ≡ true) × (y ≡ x)
+some_true true x y e = (refl, cc)
+some_true false x y e = let no : ⊥ = cc in absurd no
+
+-- ---- a body's fields
+
+rejoin : (k n : ℕ) (xs : List ℕ) → take k (drop n xs) ++ drop (n + k) xs ≡ drop n xs
+rejoin k n xs = ap (λ ys. take k (drop n xs) ++ ys) (sym (drop-drop k n xs)) ∙ take-append-drop k (drop n xs)
+
+same_number : (k : ℕ) → (k == 1) ≡ true → k ≡ 1
+same_number k e = grind (arith, nat_tests)
+
+pub body_back : (body : List ℕ) → is_body body ≡ true → body_of (accepted_in body) ≡ body
+body_back [] e = absurd (false≢true e)
+body_back (kind ∷ fields) e =
+    let one : kind ≡ 1 = same_number kind (and_parts (nat_le 48 (length fields)) (kind == 1) e).1 in
+    let rest : take 16 fields ++ (take 16 (drop 16 fields) ++ (take 16 (drop 32 fields) ++ drop 48 fields)) ≡ fields =
+    ap (λ xs. take 16 fields ++ (take 16 (drop 16 fields) ++ xs)) (rejoin 16 32 fields) ∙ ap (λ xs. take 16 fields ++ xs) (rejoin 16 16 fields) ∙ take-append-drop 16 fields in
+    ap (λ xs. 1 ∷ xs) rest ∙ ap (λ k. k ∷ fields) (sym one)
+
+field_uuid : (n : ℕ) (xs : List ℕ) → n + 16 ≤ length xs → All (λ b. b < 256) xs → IsUuid (take 16 (drop n xs))
+field_uuid n xs long small = record {
+  long = let a = length-take 16 (drop n xs) in let b = length-drop n xs in omega (arith, a, b, long);
+  bytes = All-take (λ b. b < 256) 16 (drop n xs) (All-drop (λ b. b < 256) n xs small);
+}
+
+pub long_body : (body : List ℕ) → is_body body ≡ true → 49 ≤ length body
+long_body [] e = absurd (false≢true e)
+long_body (kind ∷ fields) e =
+    let t = (and_parts (nat_le 48 (length fields)) (kind == 1) e).0 in
+    let many : 48 ≤ length fields = grind (arith, nat_tests) in
+    omega (arith, many)
+
+pub body_uuids : (body : List ℕ) → 49 ≤ length body → All (λ b. b < 256) body → HasUuids (accepted_in body)
+body_uuids body long small = record {
+  client = (field_uuid 1 body (omega (arith, long)) small).long;
+  id = field_uuid 17 body (omega (arith, long)) small;
+  parent = field_uuid 33 body (omega (arith, long)) small;
+}
+
+not_true : (b : Bool) → not b ≡ true → b ≡ false
+not_true true e = let no : ⊥ = cc in absurd no
+not_true false e = refl
+
+-- the next body is read
+pub read_on : (server next : Server) (bodies : List (List ℕ)) (n : ℕ) (body : List ℕ) (read : IsReadTo server bodies n) → n < length bodies → body ≡ get_or bodies n [] → All (λ b. b < 256) body → follows read.log body ≡ true
+    → next.entries.items ≡ server.entries.items ++ entry_of (accepted_in body) ∷ [] → IsReadTo next bodies (n + 1)
+read_on server next bodies n body read inside is small ok entries =
+    let log = read.log in
+    let a = accepted_in body in
+    let parts = and_parts (is_body body) (is_next_entry log (entry_of a)) ok in
+    let first = and_parts (not (same_id a.version.id zero_bytes) && not (has_id a.version.id (chain_of a.client log))) (same_id (latest (chain_of a.client log)) a.version.parent) parts.1 in
+    let second = and_parts (not (same_id a.version.id zero_bytes)) (not (has_id a.version.id (chain_of a.client log))) first.0 in
+    record {
+      log = log ++ a ∷ [];
+      entries = entries ∙ ap (λ es. es ++ entry_of a ∷ []) read.entries ∙ sym (map-append entry_of log (a ∷ []));
+      same = map-append body_of log (a ∷ []) ∙ ap (λ bs. bs ++ body_of a ∷ []) read.same ∙ ap (λ b. take n bodies ++ b ∷ []) (body_back body parts.0 ∙ is) ∙ sym (take_more bodies n [] inside);
+      sound = sound-push log a.client a.version read.sound (body_uuids body (long_body body parts.0) small) (sym (same_id_exact (latest (chain_of a.client log)) a.version.parent first.1)) (not_true (has_id a.version.id (chain_of a.client log)) second.1) (not_true (same_id a.version.id zero_bytes) second.0);
+    }
+
+-- the three tests of a version
+pub next_by : (log : List Accepted) (e : Entry) (t u v : Bool) → same_id e.id zero_bytes ≡ t → has_id e.id (chain_of e.client log) ≡ u → same_id (latest (chain_of e.client log)) e.parent ≡ v → (not t && not u && v) ≡ is_next_entry log e
+next_by log e t u v a b d =
+    let nil = same_id e.id zero_bytes in
+    let held = has_id e.id (chain_of e.client log) in
+    ap (λ x. not x && not u && v) (sym a) ∙ ap (λ x. not nil && not x && v) (sym b) ∙ ap (λ x. not nil && not held && x) (sym d)
+
+pub held_in : (client id : List ℕ) (log : List Accepted) (entries : List Entry) (b : Bool) → entries ≡ map entry_of log → b ≡ list_any (is_held client id) entries → has_id id (chain_of client log) ≡ b
+held_in client id log entries b same e = sym (list_any-held client id log) ∙ ap (list_any (is_held client id)) (sym same) ∙ sym e
+
+pub nothing_sound : IsSound []
+nothing_sound = record {
+  chains = λ client. record { row = tt; differ = tt; uuids = All-nil (λ (v : Version). IsUuid v.id) };
+  uuids = All-nil HasUuids;
+}
+
+-- what a crash may leave stays so over reads
+pub after_reads : {D : Type 0} (m : DiskModel D) (old mid new : D) (P : List ℕ → Type 0) → CountsNow m → LeavesOnly m old mid P → Tells m mid → Untouched m mid new → LeavesOnly m old new P
+after_reads m old mid new P counts_now first tells second =
+    joined m old mid new P first (weaker m mid new (m.leaves mid) P (second.run tells) (λ c left. first.each c (counts_now mid (m.moment old) c first.later left)))
+
+-- the journal that is still open after reads
+pub open_now : {D : Type 0} (m : DiskModel D) (opened held : Journal) (mid now : D) (bodies : List (List ℕ)) → held ≡ opened → Untouched m mid now → IsOpenOn m magic opened mid bodies → IsOpenOn m magic held now bodies
+open_now m opened held mid now bodies same reads on = subst (λ j. IsOpenOn m magic j now bodies) (sym same) (open_stays m opened mid now bodies reads on)
+
+-- a body that is not taken refuses the opening
+pub open_refused : {D : Type 0} (m : DiskModel D) (old mid now new : D) (n : ℕ) (e : ServerError) → m.faults old ≤ m.faults mid → m.faults mid ≤ m.faults now → TakeRefused m now new e
+    → (Tells m old → (bodies : List (List ℕ)) × Records magic (m.seen old) bodies × IsBadBody bodies n e) → ServerOpenRefused m old new e
+open_refused m old mid now new n (errors.Journal journal.Disk) first second refused bad = omega (arith, first, second, refused)
+open_refused m old mid now new n (errors.Journal journal.Closed) first second refused bad = absurd refused
+open_refused m old mid now new n (errors.Journal (journal.Damaged offset)) first second refused bad = λ tells. let b = bad tells in inr (record { bodies = b.0; records = b.1; number = n; bad = b.2 })
+open_refused m old mid now new n (errors.Journal (journal.TooLong bytes)) first second refused bad = absurd refused
+open_refused m old mid now new n (errors.Journal journal.Memory) first second refused bad = absurd refused
+open_refused m old mid now new n errors.Memory first second refused bad = tt
+
+-- all bodies are read
+pub opened_on : {D : Type 0} (m : DiskModel D) (old now : D) (server : Server) (bodies : List (List ℕ)) (n : ℕ) → Records magic (m.seen old) bodies → IsOpenOn m magic server.journal now bodies → IsReadTo server bodies n → length bodies ≤ n → IsOpenedOn m old now server
+opened_on m old now server bodies n records on read all =
+    let whole : bodies_of read.log ≡ bodies = read.same ∙ take_all n bodies all in
+    record {
+      log = read.log;
+      records = subst (λ bs. Records magic (m.seen old) bs) (sym whole) records;
+      now = record { journal = subst (λ bs. IsOpenOn m magic server.journal now bs) (sym whole) on; entries = read.entries; sound = read.sound };
+    }

@@ -1,0 +1,59 @@
+use Rattle.std.proofs.Common.{◌∙◌, ◌≤◌, [], length, refl, sym, ap, arith}
+use Rattle.tw_world.proofs.Moments.{untouched, untouched_join}
+use Rattle.tw_journal.specs.Journal.{is_closed, journal_end}
+use Rattle.tw_journal.specs.Open.{IsImageThen}
+use Rattle.tw_server.specs.Server.{magic, ServerOpenRefused}
+use Rattle.tw_server.proofs.Refusals.{from_fault}
+use Rattle.tw_server.proofs.Openings.{nothing_sound, after_reads, open_now, open_refused, opened_on}
+use Rattle.tw_server.proofs.server.Server.open.Goals as goal
+
+pub loop-n-init : goal.loop-n-init
+loop-n-init g c = record {
+  same = refl;
+  untouched = untouched g.D.Disk.model g.met.D.Disk.only_now c.open.new.disk;
+  read = λ bodies on. record { log = []; entries = c.new.ensures.items; same = refl; sound = nothing_sound };
+  open_now = c.in_ok-journal.ensures.length.1;
+  len = c.in_ok-journal.ensures.length.0;
+  count = c.count-count.ensures;
+}
+
+pub loop-n-preserved : goal.loop-n-preserved
+loop-n-preserved g c =
+    let m = g.D.Disk.model in
+    let so_far = c.loop-n.invariant in
+    record {
+      same = c.take_body.ensures.journal ∙ so_far.same;
+      untouched = untouched_join m c.open.new.disk c.loop-n.disk c.take_body.new.disk so_far.untouched c.take_body.ensures.untouched;
+      read = λ bodies on. c.in_ok-take_body.ensures.taken bodies (open_now m c.in_ok-journal.journal c.loop-n.server.journal c.open.new.disk c.loop-n.disk bodies so_far.same so_far.untouched on) (so_far.read bodies on);
+      open_now = ap (λ j. is_closed j) c.take_body.ensures.journal ∙ so_far.open_now;
+      len = c.take_body.ensures.untouched.len ∙ so_far.len ∙ ap (λ j. journal_end j) (sym c.take_body.ensures.journal);
+      count = so_far.count;
+    }
+
+pub returns-in_err-take_body-clause-any_moment : goal.returns-in_err-take_body-clause-any_moment
+returns-in_err-take_body-clause-any_moment g c tells =
+    let m = g.D.Disk.model in
+    after_reads m c.args.disk.now c.open.new.disk c.take_body.new.disk (IsImageThen m c.args.disk.now magic) g.met.D.Disk.counts_now (c.open.ensures.any_moment tells) (c.open.ensures.kept.tells ∙ tells)
+    (untouched_join m c.open.new.disk c.loop-n.disk c.take_body.new.disk c.loop-n.invariant.untouched c.take_body.ensures.untouched)
+
+pub returns-in_err-take_body-clause-refused : goal.returns-in_err-take_body-clause-refused
+returns-in_err-take_body-clause-refused g c =
+    let m = g.D.Disk.model in
+    let so_far = c.loop-n.invariant in
+    from_fault (ServerOpenRefused m c.args.disk.now c.take_body.new.disk) c.from_residual-in_err-take_body.result c.in_err-take_body.field-0.0 c.from_residual-in_err-take_body.ensures.1
+    (open_refused m c.args.disk.now c.open.new.disk c.loop-n.disk c.take_body.new.disk c.loop-n.n c.in_err-take_body.field-0.0 c.open.ensures.kept.faults so_far.untouched.kept.faults c.in_err-take_body.ensures.refused
+    (λ tells. let o = c.in_ok-journal.ensures.opened tells in
+    (o.bodies, o.records, c.in_err-take_body.ensures.damaged o.bodies (open_now m c.in_ok-journal.journal c.loop-n.server.journal c.open.new.disk c.loop-n.disk o.bodies so_far.same so_far.untouched o.now) (so_far.read o.bodies o.now))))
+
+pub returns-clause-opened : goal.returns-clause-opened
+returns-clause-opened g c tells =
+    let m = g.D.Disk.model in
+    let so_far = c.loop-n.invariant in
+    let o = c.in_ok-journal.ensures.opened tells in
+    let all : length o.bodies ≤ c.loop-n.n = let done = c.loop-n-test.false in let counted = so_far.count in let long = o.now.count in omega (arith, done, counted, long) in
+    opened_on m c.args.disk.now c.loop-n.disk c.loop-n.server o.bodies c.loop-n.n o.records (open_now m c.in_ok-journal.journal c.loop-n.server.journal c.open.new.disk c.loop-n.disk o.bodies so_far.same so_far.untouched o.now) (so_far.read o.bodies o.now) all
+
+pub returns-clause-any_moment : goal.returns-clause-any_moment
+returns-clause-any_moment g c tells =
+    let m = g.D.Disk.model in
+    after_reads m c.args.disk.now c.open.new.disk c.loop-n.disk (IsImageThen m c.args.disk.now magic) g.met.D.Disk.counts_now (c.open.ensures.any_moment tells) (c.open.ensures.kept.tells ∙ tells) c.loop-n.invariant.untouched

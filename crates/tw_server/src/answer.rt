@@ -1,0 +1,154 @@
+// The answer to a request.
+ghost use Rattle.std.specs.Prelude.{◌≡◌, ◌<◌, false, length, List, ℕ, IfOk, IfErr, OnErr};
+ghost use Rattle.tw_world.specs.Disk.{LeavesOnly, Kept, Untouched};
+ghost use Rattle.tw_http.specs.declared.message.Request.TheVariants as asks;
+ghost use Rattle.tw_server.specs.Log.{Accepted, added, told};
+ghost use Rattle.tw_server.specs.Server.{drawn_id, IsServerOn, IsAnswer, LogOrMore, AnswerRefused, is_closed, server_end};
+
+use crate::entry::{BEFORE_SEGMENT, Entry, body_of};
+use crate::server::{Server, ServerError};
+use std::alloc::Global;
+use tw_http::{Bytes, Request, Response};
+use tw_journal::JournalError;
+use tw_world::{Disk, IdWords};
+use uuid::Uuid;
+
+impl Server {
+    ghost use Rattle.tw_server.specs.Log.{IsSegmentOf};
+
+    /// Answers a request of the chain of its client, as the protocol's table says, and makes an accepted
+    /// version durable first. Only an accepted add-version draws an id.
+    ///
+    /// A crash at any moment leaves the versions from before the call, or with the new one.
+    /// A refusal leaves the versions and the ids; after a fault of the disk in an append the server is closed.
+    pub fn answer<D: Disk>(
+        &mut self,
+        alloc: Global,
+        disk: &mut D,
+        request: &Request,
+        ids: &mut IdWords,
+    ) -> Result<Response, ServerError>
+        requires { is_closed self.old ≡ false → D.model.len disk.old ≡ server_end self.old }
+
+        ensures answered { IfOk result (λ response. (log : List Accepted) → IsServerOn D.model self.old disk.old log → IsAnswer D.model self.new disk.new log request.now ids.old ids.new response) }
+        ensures any_moment { (log : List Accepted) → IsServerOn D.model self.old disk.old log → LeavesOnly D.model disk.old disk.new (LogOrMore log (added log request.now (drawn_id ids.old.start))) }
+        ensures length { is_closed self.new ≡ false → D.model.len disk.new ≡ server_end self.new }
+        ensures kept { Kept D.model disk.old disk.new }
+
+        ensures refused { IfErr result (AnswerRefused D.model self.old self.new disk.old disk.new) }
+        ensures no_id { OnErr result (ids.new ≡ ids.old) }
+    {
+        if self.journal.is_closed() {
+            return Err(ServerError::Journal(JournalError::Closed));
+        }
+        match request {
+            Request::Add {
+                client,
+                parent,
+                segment,
+            } => self.add(alloc, disk, *client, *parent, segment.as_slice(), ids),
+            Request::Child { client, parent } => self.child(alloc, disk, *client, *parent),
+        }
+    }
+
+    // Adds a version where the parent is the latest one.
+    fn add<D: Disk>(
+        &mut self,
+        alloc: Global,
+        disk: &mut D,
+        client: Uuid,
+        parent: Uuid,
+        segment: &[u8],
+        ids: &mut IdWords,
+    ) -> Result<Response, ServerError>
+        requires open { is_closed self.old ≡ false }
+        requires length { D.model.len disk.old ≡ server_end self.old }
+
+        ensures answered { IfOk result (λ response. (log : List Accepted) → IsServerOn D.model self.old disk.old log → IsAnswer D.model self.new disk.new log (asks.Add client parent segment.now) ids.old ids.new response) }
+        ensures any_moment { (log : List Accepted) → IsServerOn D.model self.old disk.old log → LeavesOnly D.model disk.old disk.new (LogOrMore log (added log (asks.Add client parent segment.now) (drawn_id ids.old.start))) }
+        ensures length { is_closed self.new ≡ false → D.model.len disk.new ≡ server_end self.new }
+        ensures kept { Kept D.model disk.old disk.new }
+
+        ensures refused { IfErr result (AnswerRefused D.model self.old self.new disk.old disk.new) }
+        ensures no_id { OnErr result (ids.new ≡ ids.old) }
+    {
+        let latest = self.latest(client);
+        if latest != parent {
+            return Ok(Response::Conflict { latest });
+        }
+        let mut drawn = IdWords {
+            start: ids.start,
+            step: ids.step,
+        };
+        let id = Uuid::from_bytes(drawn.next());
+        if self.has_id(client, id) {
+            *ids = drawn;
+            return Ok(Response::Taken);
+        }
+        let entry = Entry { client, id, parent };
+        let body = body_of(alloc, &entry, segment)?;
+        self.entries.reserve(1)?;
+        self.journal.append(disk, body.as_slice())?;
+        self.entries.push_reserved(entry);
+        *ids = drawn;
+        Ok(Response::Added { id })
+    }
+
+    // Gives the version whose parent this is.
+    fn child<D: Disk>(
+        &self,
+        alloc: Global,
+        disk: &mut D,
+        client: Uuid,
+        parent: Uuid,
+    ) -> Result<Response, ServerError>
+        requires open { is_closed self.now ≡ false }
+        requires length { D.model.len disk.old ≡ server_end self.now }
+
+        ensures says { IfOk result (λ response. (log : List Accepted) (id : List ℕ) → IsServerOn D.model self.now disk.old log → response ≡ told log (asks.Child client parent) id) }
+        ensures untouched { Untouched D.model disk.old disk.new }
+        ensures refused { IfErr result (AnswerRefused D.model self.now self.now disk.old disk.new) }
+    {
+        match self.child_place(client, parent) {
+            Some(n) => {
+                let id = self.entries[n].id;
+                let segment = self.segment(alloc, disk, n as u64)?;
+                Ok(Response::Child {
+                    id,
+                    parent,
+                    segment,
+                })
+            }
+            None => {
+                if self.latest(client) == parent {
+                    Ok(Response::UpToDate)
+                } else {
+                    Ok(Response::Gone)
+                }
+            }
+        }
+    }
+
+    // The segment of the version with this number.
+    fn segment<D: Disk>(&self, alloc: Global, disk: &mut D, n: u64) -> Result<Bytes, ServerError>
+        requires known { n < length self.now.entries.items }
+        requires open { is_closed self.now ≡ false }
+        requires length { D.model.len disk.old ≡ server_end self.now }
+
+        ensures segment { IfOk result (λ segment. (log : List Accepted) → IsServerOn D.model self.now disk.old log → IsSegmentOf log n segment) }
+        ensures untouched { Untouched D.model disk.old disk.new }
+        ensures refused { IfErr result (AnswerRefused D.model self.now self.now disk.old disk.new) }
+    {
+        if n >= self.journal.count() {
+            return Err(ServerError::Journal(JournalError::Damaged { offset: 0 }));
+        }
+        let body = self.journal.body(alloc, disk, n)?;
+        let bytes = body.as_slice();
+        if bytes.len() < BEFORE_SEGMENT {
+            let offset = self.journal.offset(disk, n)?;
+            return Err(ServerError::Journal(JournalError::Damaged { offset }));
+        }
+        let segment = Bytes::from_slice(alloc, &bytes[BEFORE_SEGMENT..])?;
+        Ok(segment)
+    }
+}

@@ -1,0 +1,93 @@
+// Opens a server.
+ghost use Rattle.std.specs.Prelude.{◌≡◌, ◌<◌, ◌+◌, false, if◌then◌else◌, All, List, ℕ, IfOk, IfErr, OnOk, Some, None};
+ghost use Rattle.tw_world.specs.Disk.{Tells, LeavesOnly, Kept, Untouched};
+ghost use Rattle.tw_journal.specs.Journal.{IsOpenOn, journal_count};
+ghost use Rattle.tw_journal.specs.Open.{IsImageThen};
+ghost use Rattle.tw_server.specs.Log.{Accepted, follows, is_next_entry, entry_of, accepted_in};
+ghost use Rattle.tw_server.specs.Server.{magic, Knows, IsReadTo, IsOpenedOn, TakeRefused, IsBadBody, ServerOpenRefused, is_closed, server_end};
+
+use crate::entry::{Entry, read_entry};
+use crate::server::{Server, ServerError};
+use std::alloc::Global;
+use tw_journal::{Journal, JournalError};
+use tw_world::Disk;
+use uuid::Uuid;
+
+/// The body of the first record of a server's file.
+const MAGIC: [u8; 8] = *b"TWSERV01";
+
+impl Server {
+    /// Opens the server of a disk, and makes its file where the disk has no record: one record whose body is
+    /// `TWSERV01`, and one for each accepted version.
+    ///
+    /// A crash at any moment of the call leaves an image that the disk could leave before, or the records that were
+    /// read. `Damaged` names the place of the first record that is none, or that is no version of its client's chain.
+    pub fn open<D: Disk>(alloc: Global, disk: &mut D) -> Result<Server, ServerError>
+        ensures opened { IfOk result (λ server. Tells D.model disk.old → IsOpenedOn D.model disk.old disk.new server) }
+        ensures any_moment { Tells D.model disk.old → LeavesOnly D.model disk.old disk.new (IsImageThen D.model disk.old magic) }
+        ensures length { IfOk result (λ server. (D.model.len disk.new ≡ server_end server) × (is_closed server ≡ false)) }
+        ensures kept { Kept D.model disk.old disk.new }
+
+        ensures refused { IfErr result (ServerOpenRefused D.model disk.old disk.new) }
+    {
+        let journal = Journal::open(alloc, disk, &MAGIC)?;
+        let count = journal.count();
+        let mut server = Server {
+            journal,
+            entries: Vec::new(alloc),
+        };
+        for n in 0..count {
+            server.take_body(alloc, disk, n)?;
+        }
+        Ok(server)
+    }
+
+    // Takes the version of the record with this number.
+    fn take_body<D: Disk>(&mut self, alloc: Global, disk: &mut D, n: u64) -> Result<(), ServerError>
+        requires inside { n < journal_count self.old.journal }
+        requires open { is_closed self.old ≡ false }
+        requires length { D.model.len disk.old ≡ server_end self.old }
+
+        ensures taken { OnOk result ((bodies : List (List ℕ)) → IsOpenOn D.model magic self.old.journal disk.old bodies → IsReadTo self.old bodies n → IsReadTo self.new bodies (n + 1)) }
+        ensures journal { self.new.journal ≡ self.old.journal }
+        ensures untouched { Untouched D.model disk.old disk.new }
+
+        ensures refused { IfErr result (TakeRefused D.model disk.old disk.new) }
+        ensures damaged { IfErr result (λ e. (bodies : List (List ℕ)) → IsOpenOn D.model magic self.old.journal disk.old bodies → IsReadTo self.old bodies n → IsBadBody bodies n e) }
+    {
+        let body = self.journal.body(alloc, disk, n)?;
+        let Some(entry) = self.next_entry(body.as_slice()) else {
+            let offset = self.journal.offset(disk, n)?;
+            return Err(ServerError::Journal(JournalError::Damaged { offset }));
+        };
+        self.entries.reserve(1)?;
+        self.entries.push_reserved(entry);
+        Ok(())
+    }
+
+    // The entry of a body that may stand behind the versions that are known.
+    fn next_entry(&self, body: &[u8]) -> Option<Entry>
+        ensures next { (log : List Accepted) → Knows self.now log → result ≡ (if follows log body.now then Some (entry_of (accepted_in body.now)) else None) }
+        ensures bytes { All (λ b. b < 256) body.now }
+    {
+        let entry = read_entry(body)?;
+        if self.may_follow(&entry) {
+            Some(entry)
+        } else {
+            None
+        }
+    }
+
+    // Whether a version may stand behind those that are known.
+    fn may_follow(&self, entry: &Entry) -> bool
+        ensures { (log : List Accepted) → Knows self.now log → result ≡ is_next_entry log entry.now }
+    {
+        if entry.id == Uuid::nil() {
+            return false;
+        }
+        if self.has_id(entry.client, entry.id) {
+            return false;
+        }
+        self.latest(entry.client) == entry.parent
+    }
+}
