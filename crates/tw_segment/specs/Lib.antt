@@ -1,0 +1,3 @@
+pub mod Timestamp
+pub mod Segment
+pub mod Refusals
