@@ -59,14 +59,14 @@ some_parts p q e = ap (λ (o : Option (List Op × List Op)). of o) e
     of None = p
     of (Some r) = r
 
-point_is : (op : Op) → is_undo_point op ≡ true → op ≡ UndoPoint
+pub point_is : (op : Op) → is_undo_point op ≡ true → op ≡ UndoPoint
 point_is UndoPoint e = refl
 point_is (Create u) e = absurd cc
 point_is (Delete u before) e = absurd cc
 point_is (Update u p before after at) e = absurd cc
 
 -- a split puts the list together again
-split_is : (ops : List Op) (parts : List Op × List Op) → split_group ops ≡ Some parts → ops ≡ parts.0 ++ UndoPoint ∷ parts.1
+pub split_is : (ops : List Op) (parts : List Op × List Op) → split_group ops ≡ Some parts → ops ≡ parts.0 ++ UndoPoint ∷ parts.1
 split_is [] parts e = absurd cc
 split_is (op ∷ ops) parts e = by (split_group ops) (split_is ops) e
   where
