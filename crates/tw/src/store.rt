@@ -1,0 +1,55 @@
+// Where the tasks lie.
+
+use crate::file_disk::FileDisk;
+use crate::start::{StartError, variable};
+use std::alloc::Global;
+use std::fs;
+use std::fs::{File, OpenOptions};
+use std::io;
+use std::path::Path;
+use tw_cli::data_folder;
+
+/// The folder of the tasks.
+pub fn folder(rt: &HostRuntime, alloc: Global) -> Result<String, StartError> {
+    let taskdata = variable(rt, "TASKDATA")?;
+    let home = variable(rt, "HOME")?;
+    match data_folder(alloc, &Vec::new(alloc), as_str(&taskdata), as_str(&home)) {
+        Ok(folder) => Ok(folder),
+        Err(_) => Err(StartError::Memory),
+    }
+}
+
+fn as_str(text: &Option<String>) -> Option<&str> {
+    match text {
+        Some(text) => Some(text.as_str()),
+        None => None,
+    }
+}
+
+/// The journal's file in a folder. What is not there is made, and stands when the machine stops.
+pub fn open_journal(rt: &HostRuntime, alloc: Global, folder: &str) -> io::Result<FileDisk> {
+    let path = format!(in alloc; "{}/replica.journal", folder)?;
+    match OpenOptions::new().read(true).write(true).open(rt, &path) {
+        Ok(file) => FileDisk::new(file),
+        Err(error) if error.kind() == io::ErrorKind::NotFound => {
+            FileDisk::new(make_journal(rt, folder, path.as_str())?)
+        }
+        Err(error) => Err(error),
+    }
+}
+
+fn make_journal(rt: &HostRuntime, folder: &str, path: &str) -> io::Result<File> {
+    fs::create_dir_all(rt, folder)?;
+    let file = OpenOptions::new().read(true).write(true).create(true).open(rt, path)?;
+    file.sync_all()?;
+    sync_folder(rt, folder)?;
+    if let Some(parent) = Path::new(folder).parent() {
+        sync_folder(rt, parent.as_str())?;
+    }
+    Ok(file)
+}
+
+fn sync_folder(rt: &HostRuntime, folder: &str) -> io::Result<()> {
+    let folder = if folder.is_empty() { "." } else { folder };
+    File::open(rt, folder)?.sync_all()
+}

@@ -1,0 +1,59 @@
+// The standard streams as sinks.
+
+use crate::start::StartError;
+use std::io::Write;
+use tw_world::{Sink, StreamError};
+
+/// A writer, with how often it has failed. It tells nothing of what it got.
+#[derive(Drop)]
+pub struct Stream<W: Write> {
+    writer: W,
+    faults: u64,
+}
+
+// Writes all the bytes, and answers whether that was possible.
+fn write_whole<W: Write>(writer: &mut W, bytes: &[u8]) -> bool {
+    let mut done = 0;
+    while done < bytes.len() {
+        match writer.write(&bytes[done..]) {
+            Ok(0) | Err(_) => return false,
+            Ok(count) => done += count,
+        }
+    }
+    writer.flush().is_ok()
+}
+
+impl<W: Write> Stream<W> {
+    /// A sink over a writer.
+    pub fn new(writer: W) -> Stream<W> {
+        Stream { writer, faults: 0 }
+    }
+}
+
+impl<W: Write> Sink for Stream<W> {
+    ghost use Rattle.tw.specs.Stream.{stream_model};
+
+    ghost model = { stream_model };
+
+    fn write_all(&mut self, bytes: &[u8]) -> Result<(), StreamError> {
+        if write_whole(&mut self.writer, bytes) {
+            return Ok(());
+        }
+        self.faults = self.faults.saturating_add(1);
+        Err(StreamError::Failed)
+    }
+}
+
+/// Prints a text to the standard output, and gives the status to end with.
+pub fn print(rt: &HostRuntime, text: &str) -> u8 {
+    match Stream::new(rt.stdout()).write_all(text.as_bytes()) {
+        Ok(()) => 0,
+        Err(StreamError::Failed) => 6,
+    }
+}
+
+/// Writes to the standard error why the program ends, and gives the status to end with.
+pub fn tell(rt: &HostRuntime, error: StartError) -> u8 {
+    let _ = Stream::new(rt.stderr()).write_all(error.line().as_bytes());
+    error.status()
+}

@@ -1,0 +1,26 @@
+// `tw task`.
+
+use crate::start::{StartError, moment, seed};
+use crate::store::{folder, open_journal};
+use crate::stream::Stream;
+use std::alloc::Global;
+use tw_cli::task_run;
+use tw_world::{FailingDisk, IdWords};
+
+/// Does what the words behind `task` ask for, and gives the program's status. Where the journal's
+/// file can't be opened, it works on a disk whose every call fails.
+pub fn run_task(rt: &HostRuntime, alloc: Global, words: &Vec<String>) -> Result<u8, StartError> {
+    let folder = folder(rt, alloc)?;
+    let now = moment(rt)?;
+    let mut ids = IdWords::from_seed(seed(rt)?);
+    let mut out = Stream::new(rt.stdout());
+    let mut err = Stream::new(rt.stderr());
+    let outcome = match open_journal(rt, alloc, folder.as_str()) {
+        Ok(mut disk) => task_run(alloc, words, now, &mut ids, &mut disk, &mut out, &mut err),
+        Err(_) => {
+            let mut disk = FailingDisk::new();
+            task_run(alloc, words, now, &mut ids, &mut disk, &mut out, &mut err)
+        }
+    };
+    Ok(outcome.status)
+}
