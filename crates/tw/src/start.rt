@@ -81,13 +81,10 @@ pub fn moment(rt: &HostRuntime) -> Result<Moment, StartError> {
     let Ok(since) = now.duration_since(UNIX_EPOCH) else {
         return Err(StartError::Failed);
     };
-    if since.as_secs() >= 253_370_764_800 {
-        return Err(StartError::Failed);
+    match Moment::new(since.as_secs(), since.subsec_nanos()) {
+        Some(moment) => Ok(moment),
+        None => Err(StartError::Failed),
     }
-    Ok(Moment {
-        seconds: since.as_secs(),
-        nanos: since.subsec_nanos(),
-    })
 }
 
 /// Bytes of the random source.

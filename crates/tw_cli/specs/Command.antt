@@ -7,7 +7,7 @@ use Rattle.tw_model.specs.Ops.{TaskValue}
 use Rattle.tw_model.specs.Edits.{edits_of}
 use Rattle.tw_model.specs.declared.Op.{Op}
 use Rattle.tw_model.specs.declared.Op.TheVariants.{Create, UndoPoint}
-use Rattle.tw_replica.specs.Body.{body_of, is_moment}
+use Rattle.tw_replica.specs.Body.{body_of}
 use Rattle.tw_replica.specs.Body.Step.{Commit, Undo as TakeBack}
 use Rattle.tw_replica.specs.State.{State, committed, undone, split_group}
 use Rattle.tw_cli.specs.Text.{created_text, undone_text, count_text}
@@ -71,8 +71,8 @@ abbrev pub next_asked : Result Command BadWord → State → Option State
 next_asked (Ok command) = next_of command
 next_asked (Err bad) = λ state. None
 
--- the uuid has its bytes, and the moment is in the range of moments
+-- a uuid has its bytes
 abbrev pub IsWhole : Command → Type 0
-IsWhole (Add u text now) = (length u ≡ 16) × (is_moment now.seconds now.nanos ≡ true)
+IsWhole (Add u text now) = length u ≡ 16
 IsWhole Undo = Unit {0}
 IsWhole Count = Unit {0}

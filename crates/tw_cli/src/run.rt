@@ -1,9 +1,8 @@
 // One command line over a disk and streams.
-ghost use Rattle.std.specs.Prelude.{◌≡◌, ◌⊎◌, true, map, string_bytes, Ok, IfOk, OnOk, OnErr};
+ghost use Rattle.std.specs.Prelude.{◌≡◌, ◌⊎◌, map, string_bytes, Ok, IfOk, OnOk, OnErr};
 ghost use Rattle.tw_world.specs.Ids.{id_bytes};
 ghost use Rattle.tw_world.specs.Disk.{Kept, Rose};
 ghost use Rattle.tw_world.specs.Sink.{Got, GotPart};
-ghost use Rattle.tw_replica.specs.Body.{is_moment};
 ghost use Rattle.tw_cli.specs.Words.{line_of};
 ghost use Rattle.tw_cli.specs.Command.{IsWhole, drawn_for, command_of, next_of, next_asked};
 ghost use Rattle.tw_cli.specs.Fault.{Told, status_of};
@@ -20,7 +19,6 @@ use uuid::Uuid;
 
 // The command that a line asks for. One that adds a task draws its uuid.
 fn drawn(line: Line, now: Moment, ids: &mut IdWords) -> Command
-    requires { is_moment now.seconds now.nanos ≡ true }
     ensures command { result ≡ drawn_for (id_bytes ids.old.start) now line }
     ensures whole { IsWhole result }
     ensures ids { HasDrawn (Ok line) ids.old ids.new }
@@ -43,7 +41,6 @@ fn asked(
     now: Moment,
     ids: &mut IdWords,
 ) -> Result<Result<Command, BadWord>, Memory>
-    requires { is_moment now.seconds now.nanos ≡ true }
     ensures asked { IfOk result (λ asked. asked ≡ command_of (id_bytes ids.old.start) now (line_of (map string_bytes words.now.items))) }
     ensures whole { IfOk result (λ asked. IfOk asked IsWhole) }
     ensures ids { OnOk result (HasDrawn (line_of (map string_bytes words.now.items)) ids.old ids.new) }
@@ -95,7 +92,6 @@ fn run_words<D: Disk, O: Sink>(
     disk: &mut D,
     out: &mut O,
 ) -> Cause
-    requires { is_moment now.seconds now.nanos ≡ true }
     ensures gives { Gives D.model O.model (command_of (id_bytes ids.old.start) now (line_of (map string_bytes words.now.items))) disk.old disk.new out.old out.new result }
     ensures complete { CanEnd D.model O.model (command_of (id_bytes ids.old.start) now (line_of (map string_bytes words.now.items))) disk.old disk.new out.old out.new → (result ≡ Cause.Done) ⊎ (result ≡ Cause.Memory) }
     ensures any_moment { LeavesEither D.model (reached result (next_asked (command_of (id_bytes ids.old.start) now (line_of (map string_bytes words.now.items))))) disk.old disk.new }
@@ -121,7 +117,6 @@ pub fn task_run<D: Disk, O: Sink, E: Sink>(
     out: &mut O,
     err: &mut E,
 ) -> Outcome
-    requires { is_moment now.seconds now.nanos ≡ true }
     ensures gives { Gives D.model O.model (command_of (id_bytes ids.old.start) now (line_of (map string_bytes words.now.items))) disk.old disk.new out.old out.new result.cause }
     ensures complete { CanEnd D.model O.model (command_of (id_bytes ids.old.start) now (line_of (map string_bytes words.now.items))) disk.old disk.new out.old out.new → (result.cause ≡ Cause.Done) ⊎ (result.cause ≡ Cause.Memory) }
     ensures any_moment { LeavesEither D.model (reached result.cause (next_asked (command_of (id_bytes ids.old.start) now (line_of (map string_bytes words.now.items))))) disk.old disk.new }

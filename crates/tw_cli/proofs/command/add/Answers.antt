@@ -33,7 +33,7 @@ pub returns-then-holds-clause-any_moment : goal.returns-then-holds-clause-any_mo
 returns-then-holds-clause-any_moment g c = leaves_open g.D.Disk.model (reached (IdTaken c.args.uuid) (next_of (Add c.args.uuid c.args.text.now c.args.now))) c.args.disk.now c.open.new.disk c.in-Ok-open.ensures.any_moment
 
 pub commit-requires-clause-step : goal.commit-requires-clause-step
-commit-requires-clause-step g c = subst (λ ops. IsStep (Commit false ops)) (sym c.in-Ok.ensures) (add_is_step c.args.uuid c.args.text.now c.args.now c.requires.0 (is_utf8-from_IsUtf8 _ c.utf8.text) (is_utf8-from_IsUtf8 _ c.in_default.ensures) c.requires.1)
+commit-requires-clause-step g c = subst (λ ops. IsStep (Commit false ops)) (sym c.in-Ok.ensures) (add_is_step c.args.uuid c.args.text.now c.args.now c.requires (is_utf8-from_IsUtf8 _ c.utf8.text) (is_utf8-from_IsUtf8 _ c.in_default.ensures))
 
 pub as_cause-requires-in-Err-commit : goal.as_cause-requires-in-Err-commit
 as_cause-requires-in-Err-commit g c =
