@@ -11,34 +11,24 @@ mod stream;
 mod task;
 
 use help::{HELP, VERSION};
-use start::{StartError, words};
+use start::{StartError, take_first, words};
 use std::alloc::Global;
 use std::process::ExitCode;
 use stream::{print, tell};
 use task::run_task;
 
-// The words behind the first, where that one is `first`.
-fn is_first(words: &Vec<String>, first: &str) -> bool {
-    match words.first() {
-        Some(word) => word.as_str() == first,
-        None => false,
-    }
-}
-
 // Does what the words ask for, and gives the program's status.
 fn run(rt: &HostRuntime, alloc: Global) -> Result<u8, StartError> {
     let mut words = words(rt, alloc)?;
-    if is_first(&words, "--help") {
-        return Ok(print(rt, HELP));
-    }
-    if is_first(&words, "--version") {
-        return Ok(print(rt, VERSION));
-    }
-    if !is_first(&words, "task") {
+    let Some(first) = take_first(&mut words) else {
         return Err(StartError::CommandLine);
+    };
+    match first.as_str() {
+        "--help" => Ok(print(rt, HELP)),
+        "--version" => Ok(print(rt, VERSION)),
+        "task" => run_task(rt, alloc, &words),
+        _ => Err(StartError::CommandLine),
     }
-    words.remove(0);
-    run_task(rt, alloc, &words)
 }
 
 fn main(rt: HostRuntime) -> ExitCode {

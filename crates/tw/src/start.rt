@@ -51,10 +51,16 @@ pub fn words(rt: &HostRuntime, alloc: Global) -> Result<Vec<String>, StartError>
         Ok(args) => args.collect(alloc)?,
         Err(error) => return Err(args_error(&error)),
     };
-    if !words.is_empty() {
-        words.remove(0);
-    }
+    let _ = take_first(&mut words);
     Ok(words)
+}
+
+/// Takes the first word out, if there is one.
+pub fn take_first(words: &mut Vec<String>) -> Option<String> {
+    if words.is_empty() {
+        return None;
+    }
+    Some(words.remove(0))
 }
 
 fn args_error(error: &io::Error) -> StartError {

@@ -57,3 +57,45 @@ pub fn tell(rt: &HostRuntime, error: StartError) -> u8 {
     let _ = Stream::new(rt.stderr()).write_all(error.line().as_bytes());
     error.status()
 }
+
+#[cfg(test)]
+mod tests {
+    use super::*;
+    use std::io;
+    use std::test::Fail;
+
+    // Takes three bytes a call, and fails where it has no room left.
+    #[derive(Drop)]
+    struct Narrow {
+        got: Vec<u8>,
+        room: usize,
+    }
+
+    impl Write for Narrow {
+        fn write(&mut self, bytes: &[u8]) -> io::Result<usize> {
+            let count = bytes.len().min(3).min(self.room);
+            self.got.extend_from_slice(&bytes[..count])?;
+            self.room -= count;
+            Ok(count)
+        }
+
+        fn flush(&mut self) -> io::Result<()> {
+            Ok(())
+        }
+    }
+
+    #[test]
+    fn a_stream_gets_all_bytes_or_counts_a_fault(rt: HostRuntime) -> Result<(), Fail> {
+        let alloc = rt.alloc();
+        let mut stream = Stream::new(Narrow {
+            got: Vec::new(alloc),
+            room: 12,
+        });
+        assert_eq!(rt; stream.write_all(b"Created"), Ok(()));
+        assert_eq!(rt; stream.faults, 0);
+        assert_eq!(rt; stream.write_all(b" task 1.\n"), Err(StreamError::Failed));
+        assert_eq!(rt; stream.faults, 1);
+        assert_eq!(rt; stream.writer.got.as_slice(), b"Created task".as_slice());
+        Ok(())
+    }
+}

@@ -65,7 +65,7 @@ module _ {D : Type 0} (m : DiskModel D) where
 
   -- a step behind an opening carries the command out
   pub carried_out : (command : Command) (d0 mid d1 : D) (r0 r1 : Replica) → (Tells m d0 → IsOpenedReplica m d0 mid r0) → Allows command (held_state r0) → next_of command (held_state r0) ≡ Some (held_state r1)
-    → ((bodies : List (List ℕ)) → IsReplicaOn m r0 mid bodies → IsReplicaOn m r1 d1 (bodies ++ bodies_of command)) → CarriedOut m command d0 d1
+      → ((bodies : List (List ℕ)) → IsReplicaOn m r0 mid bodies → IsReplicaOn m r1 d1 (bodies ++ bodies_of command)) → CarriedOut m command d0 d1
   carried_out command d0 mid d1 r0 r1 opened allows step stands = record {
     old = held_state r0;
     new = held_state r1;
@@ -80,8 +80,8 @@ module _ {D : Type 0} (m : DiskModel D) where
 
   -- and its text is one of the states before and after
   pub shows : (command : Command) (d0 mid d1 : D) (r0 r1 : Replica) (shown : List ℕ) → (Tells m d0 → IsOpenedReplica m d0 mid r0) → Allows command (held_state r0) → next_of command (held_state r0) ≡ Some (held_state r1)
-    → ((bodies : List (List ℕ)) → IsReplicaOn m r0 mid bodies → IsReplicaOn m r1 d1 (bodies ++ bodies_of command)) → shown ≡ text_of command (held_state r0) (held_state r1)
-    → (run : CarriedOut m command d0 d1) × (shown ≡ text_of command run.old run.new)
+      → ((bodies : List (List ℕ)) → IsReplicaOn m r0 mid bodies → IsReplicaOn m r1 d1 (bodies ++ bodies_of command)) → shown ≡ text_of command (held_state r0) (held_state r1)
+      → (run : CarriedOut m command d0 d1) × (shown ≡ text_of command run.old run.new)
   unfolding carried_out
   shows command d0 mid d1 r0 r1 shown opened allows step stands is = (carried_out command d0 mid d1 r0 r1 opened allows step stands, is)
 
@@ -93,7 +93,7 @@ module _ {D : Type 0} (m : DiskModel D) where
 
   -- why a step behind an opening is refused is why the command is not carried out
   pub step_refused : (command : Command) (d0 mid d1 : D) (r0 r1 : Replica) (size : ℕ) (e : JournalError) → size + 5 ≡ record_size command → (Tells m d0 → IsOpenedReplica m d0 mid r0) → Kept m d0 mid → is_replica_closed r0 ≡ false
-    → (2 ^ 30 < size + 5 → Allows command (held_state r0)) → StepRefused m r0 r1 mid d1 size e → Refused m command d0 d1 (cause_of (errors.Journal e))
+      → (2 ^ 30 < size + 5 → Allows command (held_state r0)) → StepRefused m r0 r1 mid d1 size e → Refused m command d0 d1 (cause_of (errors.Journal e))
   step_refused command d0 mid d1 r0 r1 size journal.Disk is opened kept live allows refused = rose_later (m.faults d0) (m.faults mid) (m.faults d1) kept.faults refused.0.0
   step_refused command d0 mid d1 r0 r1 size journal.Closed is opened kept live allows refused = absurd (no_longer (is_replica_closed r0) refused.0.0 live)
   step_refused command d0 mid d1 r0 r1 size (journal.TooLong bytes) is opened kept live allows refused = record {
@@ -111,7 +111,7 @@ module _ {D : Type 0} (m : DiskModel D) where
 
   -- a step that is refused where the command can be carried out wants memory
   pub step_ends : (command : Command) (d0 mid d1 : D) (r0 r1 : Replica) (size : ℕ) (e : JournalError) → size + 5 ≡ record_size command → Kept m d0 mid → is_replica_closed r0 ≡ false
-    → StepRefused m r0 r1 mid d1 size e → CanBeCarriedOut m command d0 d1 → cause_of (errors.Journal e) ≡ Memory
+      → StepRefused m r0 r1 mid d1 size e → CanBeCarriedOut m command d0 d1 → cause_of (errors.Journal e) ≡ Memory
   step_ends command d0 mid d1 r0 r1 size journal.Disk is kept live refused can = absurd (can.disk_well (rose_later (m.faults d0) (m.faults mid) (m.faults d1) kept.faults refused.0.0))
   step_ends command d0 mid d1 r0 r1 size journal.Closed is kept live refused can = absurd (no_longer (is_replica_closed r0) refused.0.0 live)
   step_ends command d0 mid d1 r0 r1 size (journal.TooLong bytes) is kept live refused can = absurd (too_long_fits bytes (size + 5) (refused.0.0, refused.0.1) (subst (λ n. n ≤ 2 ^ 30) (sym is) can.fits))
@@ -148,7 +148,7 @@ module _ {D : Type 0} (m : DiskModel D) where
 
   -- a crash while a step is taken behind an opening
   pub leaves_step : (next : State → Option State) (d0 mid d1 : D) (r0 : Replica) → (Tells m d0 → LeavesOnly m d0 mid (IsImageThen m d0 magic)) → (Tells m d0 → IsOpenedReplica m d0 mid r0)
-    → ((bodies : List (List ℕ)) → IsReplicaOn m r0 mid bodies → LeavesOnly m mid d1 (OpensToEither (held_state r0) (next (held_state r0)))) → LeavesEither m next d0 d1
+      → ((bodies : List (List ℕ)) → IsReplicaOn m r0 mid bodies → LeavesOnly m mid d1 (OpensToEither (held_state r0) (next (held_state r0)))) → LeavesEither m next d0 d1
   leaves_step next d0 mid d1 r0 any_moment opened leads = λ tells state opens.
       let o = opened tells in
       let is : held_state r0 ≡ state = sym (held_is d0 mid r0 state o opens) in

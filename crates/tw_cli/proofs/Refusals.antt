@@ -47,7 +47,7 @@ group_size old new n e = omega (arith, e)
 module _ {D : Type 0} (m : DiskModel D) where
   -- what a refused step leaves: where it wrote, the state before or the next one, and else the state before
   step_leaves : (next : State → Option State) (d0 mid d1 : D) (r0 r1 : Replica) (size : ℕ) (e : JournalError) → (Tells m d0 → LeavesOnly m d0 mid (IsImageThen m d0 magic)) → (Tells m d0 → IsOpenedReplica m d0 mid r0)
-    → ((bodies : List (List ℕ)) → IsReplicaOn m r0 mid bodies → LeavesOnly m mid d1 (OpensToEither (held_state r0) (next (held_state r0)))) → StepRefused m r0 r1 mid d1 size e → LeavesEither m (reached (cause_of (errors.Journal e)) next) d0 d1
+      → ((bodies : List (List ℕ)) → IsReplicaOn m r0 mid bodies → LeavesOnly m mid d1 (OpensToEither (held_state r0) (next (held_state r0)))) → StepRefused m r0 r1 mid d1 size e → LeavesEither m (reached (cause_of (errors.Journal e)) next) d0 d1
   step_leaves next d0 mid d1 r0 r1 size journal.Disk any_moment opened leads refused = leaves_step m next d0 mid d1 r0 any_moment opened leads
   step_leaves next d0 mid d1 r0 r1 size journal.Closed any_moment opened leads refused = leaves_step m next d0 mid d1 r0 any_moment opened leads
   step_leaves next d0 mid d1 r0 r1 size (journal.TooLong bytes) any_moment opened leads refused = subst (LeavesEither m (reached (cause_of (errors.Journal (journal.TooLong bytes))) next) d0) (sym refused.0.4) (leaves_open m (reached (cause_of (errors.Journal (journal.TooLong bytes))) next) d0 mid any_moment)
@@ -69,7 +69,7 @@ module _ {D : Type 0} (m : DiskModel D) where
   undo_ends d0 mid d1 r0 r1 errors.Memory opened kept live refused can = refl
 
   pub undo_leaves : (next : State → Option State) (d0 mid d1 : D) (r0 r1 : Replica) (e : ReplicaError) → (Tells m d0 → LeavesOnly m d0 mid (IsImageThen m d0 magic)) → (Tells m d0 → IsOpenedReplica m d0 mid r0)
-    → ((bodies : List (List ℕ)) → IsReplicaOn m r0 mid bodies → LeavesOnly m mid d1 (OpensToEither (held_state r0) (next (held_state r0)))) → UndoRefused m r0 r1 mid d1 e → LeavesEither m (reached (cause_of e) next) d0 d1
+      → ((bodies : List (List ℕ)) → IsReplicaOn m r0 mid bodies → LeavesOnly m mid d1 (OpensToEither (held_state r0) (next (held_state r0)))) → UndoRefused m r0 r1 mid d1 e → LeavesEither m (reached (cause_of e) next) d0 d1
   undo_leaves next d0 mid d1 r0 r1 (errors.Journal e) any_moment opened leads refused = step_leaves next d0 mid d1 r0 r1 1 e any_moment opened leads refused
   undo_leaves next d0 mid d1 r0 r1 (errors.Invalid index) any_moment opened leads refused = absurd refused
   undo_leaves next d0 mid d1 r0 r1 errors.NothingToUndo any_moment opened leads refused = subst (LeavesEither m (reached (cause_of errors.NothingToUndo) next) d0) (sym refused.2.disk) (leaves_open m (reached (cause_of errors.NothingToUndo) next) d0 mid any_moment)
@@ -101,7 +101,7 @@ module _ {D : Type 0} (m : DiskModel D) where
     commit_refused errors.Memory opened kept live refused = tt
 
     pub commit_leaves : (next : State → Option State) (e : ReplicaError) → (Tells m d0 → LeavesOnly m d0 mid (IsImageThen m d0 magic)) → (Tells m d0 → IsOpenedReplica m d0 mid r0)
-      → ((bodies : List (List ℕ)) → IsReplicaOn m r0 mid bodies → LeavesOnly m mid d1 (OpensToEither (held_state r0) (next (held_state r0)))) → CommitRefused m r0 r1 mid d1 (add_ops u text now) (length (body_of (Commit false (add_ops u text now)))) e → LeavesEither m (reached (cause_of e) next) d0 d1
+        → ((bodies : List (List ℕ)) → IsReplicaOn m r0 mid bodies → LeavesOnly m mid d1 (OpensToEither (held_state r0) (next (held_state r0)))) → CommitRefused m r0 r1 mid d1 (add_ops u text now) (length (body_of (Commit false (add_ops u text now)))) e → LeavesEither m (reached (cause_of e) next) d0 d1
     commit_leaves next (errors.Journal e) any_moment opened leads refused = step_leaves next d0 mid d1 r0 r1 (length (body_of (Commit false (add_ops u text now)))) e any_moment opened leads refused
     commit_leaves next (errors.Invalid index) any_moment opened leads refused = absurd (no_index (misfit 0 (held_state r0).tasks (add_ops u text now)) index fits refused.0)
     commit_leaves next errors.NothingToUndo any_moment opened leads refused = absurd refused

@@ -37,7 +37,8 @@ fn as_cause(error: ReplicaError) -> Cause
     ensures { result ≡ cause_of error }
 {
     match error {
-        ReplicaError::Journal(JournalError::Disk) | ReplicaError::Journal(JournalError::Closed) => Cause::DiskFault,
+        ReplicaError::Journal(JournalError::Disk) | ReplicaError::Journal(JournalError::Closed) =>
+            Cause::DiskFault,
         ReplicaError::Journal(JournalError::Damaged { offset }) => Cause::Damaged { offset },
         ReplicaError::Journal(JournalError::TooLong { bytes }) => Cause::RecordTooLong { bytes },
         ReplicaError::Journal(JournalError::Memory) | ReplicaError::Memory => Cause::Memory,

@@ -38,7 +38,11 @@ fn fault_line(cause: Cause) -> Short
         Cause::BadWords { word, .. } => numbered("task: bad word ", word, "\n"),
         Cause::IdTaken { uuid } => taken_line(uuid),
         Cause::DiskFault => whole("task: the journal failed\n"),
-        Cause::RecordTooLong { bytes } => numbered("task: record of ", bytes, " bytes is too long\n"),
+        Cause::RecordTooLong { bytes } => numbered(
+            "task: record of ",
+            bytes,
+            " bytes is too long\n",
+        ),
         Cause::Memory => whole("task: out of memory\n"),
         Cause::OutFault => whole("task: output failed\n"),
         Cause::Damaged { offset } => numbered("task: the journal is damaged at ", offset, "\n"),

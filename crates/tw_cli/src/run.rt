@@ -132,3 +132,6 @@ pub fn task_run<D: Disk, O: Sink, E: Sink>(
         cause,
     }
 }
+
+#[cfg(test)]
+mod tests;

@@ -1,0 +1,195 @@
+#!/usr/bin/env python3
+"""Times `tw task` beside Taskwarrior's `task` on the same tasks, and compares their peak memory.
+
+    bench/run.py [--tw PATH] [--task PATH] [--sizes 1000,10000,50000] [--runs 9] [--per-record 1]
+
+For each number of tasks it builds a store for each program: a journal, in the format that
+docs/FORMATS.md gives, with `--per-record` tasks in each record, and Taskwarrior's `pending.data`.
+The runs of the two programs alternate. Each line gives the median of the wall time in milliseconds,
+the greatest peak of resident memory in megabytes, and how many times less `tw` takes of each.
+Without `task` on the machine (Debian's package taskwarrior), it measures `tw` alone.
+"""
+
+import argparse
+import os
+import random
+import shutil
+import statistics
+import struct
+import subprocess
+import sys
+import tempfile
+import time
+
+FIRST_SECOND = 1_700_000_000
+COMMANDS = ["add", "count", "export", "undo"]
+
+
+def tasks(number):
+    """The uuid, the second and the description of each task. Equal for equal numbers."""
+    draw = random.Random(number)
+    for i in range(number):
+        word = bytearray(draw.randbytes(16))
+        word[6] = word[6] & 0x0F | 0x40
+        word[8] = word[8] & 0x3F | 0x80
+        yield bytes(word), FIRST_SECOND + i, f"Task {i} of {number}"
+
+
+def text(value):
+    data = value.encode()
+    return struct.pack(">I", len(data)) + data
+
+
+def update(uuid, name, value, second):
+    return b"\x03" + uuid + text(name) + b"\x00\x01" + text(value) + struct.pack(">QI", second, 0)
+
+
+def operations(uuid, second, description):
+    return [
+        b"\x01" + uuid,
+        update(uuid, "description", description, second),
+        update(uuid, "entry", str(second), second),
+        update(uuid, "modified", str(second), second),
+        update(uuid, "status", "pending", second),
+    ]
+
+
+def record(body):
+    return b"\x01" + struct.pack(">I", len(body)) + body
+
+
+def write_journal(folder, number, per_record):
+    """The store of `tw`: the magic, and commits of `per_record` tasks each."""
+    os.makedirs(folder)
+    group = []
+    with open(os.path.join(folder, "replica.journal"), "wb") as file:
+        file.write(record(b"TWREPL01"))
+        for uuid, second, description in tasks(number):
+            group += operations(uuid, second, description)
+            if len(group) == 5 * per_record:
+                write_commit(file, group)
+                group = []
+        if group:
+            write_commit(file, group)
+
+
+def write_commit(file, group):
+    head = b"\x01\x00" + struct.pack(">I", len(group) + 1)
+    file.write(record(head + b"\x04" + b"".join(group)))
+
+
+def hyphenated(uuid):
+    digits = uuid.hex()
+    return "-".join([digits[:8], digits[8:12], digits[12:16], digits[16:20], digits[20:]])
+
+
+def write_pending(folder, number):
+    """The store of Taskwarrior 2: one line a task."""
+    os.makedirs(folder)
+    with open(os.path.join(folder, "pending.data"), "w", encoding="utf-8") as file:
+        for uuid, second, description in tasks(number):
+            file.write(
+                f'[description:"{description}" entry:"{second}" modified:"{second}"'
+                f' status:"pending" uuid:"{hyphenated(uuid)}"]\n'
+            )
+    for name in ["completed.data", "undo.data", "backlog.data"]:
+        open(os.path.join(folder, name), "w", encoding="utf-8").close()
+
+
+class Program:
+    """A program over a store of its own."""
+
+    def __init__(self, argv, environment):
+        self.argv = argv
+        self.environment = environment
+
+    def run(self, words):
+        """The wall time in milliseconds, and the peak memory in megabytes."""
+        begin = time.perf_counter()
+        child = subprocess.Popen(
+            self.argv + words,
+            env=self.environment,
+            stdin=subprocess.DEVNULL,
+            stdout=subprocess.DEVNULL,
+            stderr=subprocess.PIPE,
+        )
+        told = child.stderr.read()
+        _, status, usage = os.wait4(child.pid, 0)
+        end = time.perf_counter()
+        child.returncode = os.waitstatus_to_exitcode(status)
+        if child.returncode != 0:
+            sys.exit(f"{' '.join(self.argv + words)} ended with {child.returncode}: {told.decode()}")
+        return (end - begin) * 1000, usage.ru_maxrss / 1024
+
+    def measure(self, command):
+        """One run of a command. An undo takes back an add that is not measured."""
+        if command == "undo":
+            self.run(["add", "to", "be", "undone"])
+        words = {"add": ["add", "Buy", "milk"]}.get(command, [command])
+        return self.run(words)
+
+
+def programs(arguments, folder, number):
+    base = {"PATH": os.environ.get("PATH", ""), "HOME": folder, "LANG": "C.UTF-8", "TZ": ""}
+    tw_store = os.path.join(folder, "tw")
+    write_journal(tw_store, number, arguments.per_record)
+    found = [Program([arguments.tw, "task"], dict(base, TASKDATA=tw_store))]
+    if arguments.task:
+        task_store = os.path.join(folder, "task")
+        write_pending(task_store, number)
+        settings = os.path.join(folder, "taskrc")
+        with open(settings, "w", encoding="utf-8") as file:
+            file.write("confirmation=no\n")
+        found.append(Program([arguments.task], dict(base, TASKDATA=task_store, TASKRC=settings)))
+    return found
+
+
+def compare(arguments, number):
+    with tempfile.TemporaryDirectory(prefix="tw-bench-") as folder:
+        pair = programs(arguments, folder, number)
+        for command in arguments.commands:
+            runs = [[] for _ in pair]
+            for _ in range(arguments.runs):
+                for place, program in enumerate(pair):
+                    runs[place].append(program.measure(command))
+            show(number, command, runs)
+
+
+def show(number, command, runs):
+    cells = [f"{number:>6} {command:<7}"]
+    figures = []
+    for measured in runs:
+        wall = statistics.median(run[0] for run in measured)
+        peak = max(run[1] for run in measured)
+        figures.append((wall, peak))
+        cells.append(f"{wall:>9.1f} ms {peak:>7.1f} MB")
+    if len(figures) == 2:
+        (tw_wall, tw_peak), (task_wall, task_peak) = figures
+        cells.append(f"{task_wall / tw_wall:>6.1f} x {task_peak / tw_peak:>6.1f} x")
+    print(" | ".join(cells), flush=True)
+
+
+def main():
+    here = os.path.dirname(os.path.abspath(__file__))
+    built = os.path.join(here, "..", "crates", "tw", "out", "tw")
+    parser = argparse.ArgumentParser(description="Times tw beside Taskwarrior.")
+    parser.add_argument("--tw", default=built, help="the program tw")
+    parser.add_argument("--task", default=shutil.which("task"), help="Taskwarrior's program")
+    parser.add_argument("--sizes", default="1000,10000,50000", help="numbers of tasks")
+    parser.add_argument("--runs", type=int, default=9, help="runs of each command")
+    parser.add_argument("--per-record", type=int, default=1, help="tasks in a record")
+    parser.add_argument("--commands", default=",".join(COMMANDS), help="commands to run")
+    arguments = parser.parse_args()
+    arguments.commands = arguments.commands.split(",")
+    if not os.access(arguments.tw, os.X_OK):
+        sys.exit(f"there is no program {arguments.tw}: build it by tools/build")
+    heads = [" tasks command", "            tw        "]
+    if arguments.task:
+        heads += ["           task       ", "  time   memory"]
+    print(" | ".join(heads))
+    for number in arguments.sizes.split(","):
+        compare(arguments, int(number))
+
+
+if __name__ == "__main__":
+    main()

@@ -1,0 +1,175 @@
+// Runs over a disk and streams in memory.
+
+use super::*;
+use crate::folder::data_folder;
+use crate::words::WordKind;
+use std::test::Fail;
+use tw_world::{MemoryDisk, MemorySink};
+
+// The journal after a task was added to an empty store: its magic, and one commit of six operations.
+const ADDED: [u8; 263] = [
+    1, 0, 0, 0, 8, 84, 87, 82, 69, 80, 76, 48, 49, 1, 0, 0, 0, 245, 1, 0, 0, 0, 0, 6, 4, 1, 0, 0,
+    0, 0, 0, 0, 64, 0, 128, 0, 0, 0, 0, 0, 0, 1, 3, 0, 0, 0, 0, 0, 0, 64, 0, 128, 0, 0, 0, 0, 0, 0,
+    1, 0, 0, 0, 11, 100, 101, 115, 99, 114, 105, 112, 116, 105, 111, 110, 0, 1, 0, 0, 0, 8, 66,
+    117, 121, 32, 109, 105, 108, 107, 0, 0, 0, 0, 101, 83, 241, 0, 0, 0, 0, 0, 3, 0, 0, 0, 0, 0, 0,
+    64, 0, 128, 0, 0, 0, 0, 0, 0, 1, 0, 0, 0, 5, 101, 110, 116, 114, 121, 0, 1, 0, 0, 0, 10, 49,
+    55, 48, 48, 48, 48, 48, 48, 48, 48, 0, 0, 0, 0, 101, 83, 241, 0, 0, 0, 0, 0, 3, 0, 0, 0, 0, 0,
+    0, 64, 0, 128, 0, 0, 0, 0, 0, 0, 1, 0, 0, 0, 8, 109, 111, 100, 105, 102, 105, 101, 100, 0, 1,
+    0, 0, 0, 10, 49, 55, 48, 48, 48, 48, 48, 48, 48, 48, 0, 0, 0, 0, 101, 83, 241, 0, 0, 0, 0, 0,
+    3, 0, 0, 0, 0, 0, 0, 64, 0, 128, 0, 0, 0, 0, 0, 0, 1, 0, 0, 0, 6, 115, 116, 97, 116, 117, 115,
+    0, 1, 0, 0, 0, 7, 112, 101, 110, 100, 105, 110, 103, 0, 0, 0, 0, 101, 83, 241, 0, 0, 0, 0, 0,
+];
+
+// How a run ended, with what it printed and told.
+#[derive(Drop)]
+struct Ended {
+    outcome: Outcome,
+    out: MemorySink,
+    err: MemorySink,
+}
+
+// The words of a line that are parted by bars.
+fn words_of(alloc: Global, line: &str) -> Result<Vec<String>, Fail> {
+    let mut words = Vec::new(alloc);
+    for word in line.split('|') {
+        words.push(String::from_str(alloc, word)?)?;
+    }
+    Ok(words)
+}
+
+// Runs a line at the moment 2023-11-14T22:13:20Z. The identifiers begin at 1, with the step 1.
+fn run(alloc: Global, line: &str, disk: &mut MemoryDisk, out_fails: &[u64]) -> Result<Ended, Fail> {
+    let words = words_of(alloc, line)?;
+    let Some(now) = Moment::new(1_700_000_000, 0) else {
+        return Err(Fail::new("no moment"));
+    };
+    let mut ids = IdWords { start: 1, step: 1 };
+    let mut out = MemorySink::new(Vec::new(alloc), out_fails.to_vec(alloc)?);
+    let mut err = MemorySink::new(Vec::new(alloc), Vec::new(alloc));
+    let outcome = task_run(alloc, &words, now, &mut ids, disk, &mut out, &mut err);
+    Ok(Ended { outcome, out, err })
+}
+
+fn empty_disk(alloc: Global, fails: &[u64]) -> Result<MemoryDisk, Fail> {
+    Ok(MemoryDisk::new(alloc, Vec::new(alloc), fails.to_vec(alloc)?)?)
+}
+
+#[test]
+fn a_task_is_added(rt: HostRuntime) -> Result<(), Fail> {
+    let alloc = rt.alloc();
+    let mut disk = empty_disk(alloc, &[])?;
+    let ended = run(alloc, "add|Buy|milk", &mut disk, &[])?;
+    assert_eq!(rt;
+        ended.outcome,
+        Outcome {
+            status: 0,
+            cause: Cause::Done
+        }
+    );
+    assert_eq!(rt; ended.out.bytes(), b"Created task 1.\n".as_slice());
+    assert_eq!(rt; ended.err.bytes(), b"".as_slice());
+    assert_eq!(rt; disk.bytes(), ADDED.as_slice());
+    Ok(())
+}
+
+#[test]
+fn words_outside_the_grammar_are_told(rt: HostRuntime) -> Result<(), Fail> {
+    let alloc = rt.alloc();
+    let rows = [
+        ("", 0, WordKind::Unbuilt, b"task: bad word 0\n"),
+        ("list", 0, WordKind::Unbuilt, b"task: bad word 0\n"),
+        ("add", 0, WordKind::Missing, b"task: bad word 0\n"),
+        ("add|", 1, WordKind::Value, b"task: bad word 1\n"),
+        (
+            "add|Buy|due:eom",
+            2,
+            WordKind::Unbuilt,
+            b"task: bad word 2\n",
+        ),
+        ("add|+shop|Buy", 1, WordKind::Unbuilt, b"task: bad word 1\n"),
+        ("add|Buy|-shop", 2, WordKind::Unbuilt, b"task: bad word 2\n"),
+        (
+            "add|rc.gc=off|Buy",
+            1,
+            WordKind::Unbuilt,
+            b"task: bad word 1\n",
+        ),
+        ("undo|2", 1, WordKind::Extra, b"task: bad word 1\n"),
+        (
+            "count|+PENDING",
+            1,
+            WordKind::Unbuilt,
+            b"task: bad word 1\n",
+        ),
+    ];
+    for (line, word, kind, told) in rows {
+        let mut disk = empty_disk(alloc, &[])?;
+        let ended = run(alloc, line, &mut disk, &[])?;
+        assert_eq!(rt;
+            ended.outcome,
+            Outcome {
+                status: 2,
+                cause: Cause::BadWords { word, kind }
+            },
+            "{line}"
+        );
+        assert_eq!(rt; ended.out.bytes(), b"".as_slice());
+        assert_eq!(rt; ended.err.bytes(), told.as_slice());
+        assert_eq!(rt; disk.calls(), 0);
+    }
+    Ok(())
+}
+
+#[test]
+fn a_task_stands_whose_text_is_not_printed(rt: HostRuntime) -> Result<(), Fail> {
+    let alloc = rt.alloc();
+    let mut disk = empty_disk(alloc, &[])?;
+    let ended = run(alloc, "add|Buy|milk", &mut disk, &[0])?;
+    assert_eq!(rt;
+        ended.outcome,
+        Outcome {
+            status: 6,
+            cause: Cause::OutFault
+        }
+    );
+    assert_eq!(rt; ended.err.bytes(), b"task: output failed\n".as_slice());
+    assert_eq!(rt; disk.bytes(), ADDED.as_slice());
+    Ok(())
+}
+
+#[test]
+fn an_empty_store_has_nothing_to_undo(rt: HostRuntime) -> Result<(), Fail> {
+    let alloc = rt.alloc();
+    let mut disk = empty_disk(alloc, &[])?;
+    let ended = run(alloc, "undo", &mut disk, &[])?;
+    assert_eq!(rt;
+        ended.outcome,
+        Outcome {
+            status: 1,
+            cause: Cause::NothingToUndo
+        }
+    );
+    assert_eq!(rt; ended.err.bytes(), b"task: nothing to undo\n".as_slice());
+    let ended = run(alloc, "count", &mut disk, &[])?;
+    assert_eq!(rt; ended.out.bytes(), b"0\n".as_slice());
+    Ok(())
+}
+
+#[test]
+fn the_folder_is_found(rt: HostRuntime) -> Result<(), Fail> {
+    let alloc = rt.alloc();
+    let settings = Vec::new(alloc);
+    let rows = [
+        (Some("/data"), Some("/home/ann"), "/data"),
+        (Some("/data"), None, "/data"),
+        (None, Some("/home/ann"), "/home/ann/.task"),
+        (None, None, ".task"),
+    ];
+    for (taskdata, home, folder) in rows {
+        assert_eq!(rt;
+            data_folder(alloc, &settings, taskdata, home)?.as_str(),
+            folder
+        );
+    }
+    Ok(())
+}
