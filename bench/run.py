@@ -6,7 +6,8 @@
 For each number of tasks it builds a store for each program: a journal, in the format that
 docs/FORMATS.md gives, with `--per-record` tasks in each record, and Taskwarrior's `pending.data`.
 The runs of the two programs alternate. Each line gives the median of the wall time in milliseconds,
-the greatest peak of resident memory in megabytes, and how many times less `tw` takes of each.
+the peak of resident memory of one more run in megabytes, and how many times less `tw` takes of each.
+Memory is measured by GNU time (Debian's package time), and left out where that is not there.
 Without `task` on the machine (Debian's package taskwarrior), it measures `tw` alone.
 """
 
@@ -23,6 +24,7 @@ import time
 
 FIRST_SECOND = 1_700_000_000
 COMMANDS = ["add", "count", "export", "undo"]
+GNU_TIME = "/usr/bin/time"
 
 
 def tasks(number):
@@ -103,30 +105,38 @@ class Program:
         self.argv = argv
         self.environment = environment
 
-    def run(self, words):
-        """The wall time in milliseconds, and the peak memory in megabytes."""
+    def run(self, words, wrapper=()):
+        """The wall time in milliseconds."""
         begin = time.perf_counter()
-        child = subprocess.Popen(
-            self.argv + words,
+        ended = subprocess.run(
+            [*wrapper, *self.argv, *words],
             env=self.environment,
             stdin=subprocess.DEVNULL,
             stdout=subprocess.DEVNULL,
             stderr=subprocess.PIPE,
+            check=False,
         )
-        told = child.stderr.read()
-        _, status, usage = os.wait4(child.pid, 0)
         end = time.perf_counter()
-        child.returncode = os.waitstatus_to_exitcode(status)
-        if child.returncode != 0:
-            sys.exit(f"{' '.join(self.argv + words)} ended with {child.returncode}: {told.decode()}")
-        return (end - begin) * 1000, usage.ru_maxrss / 1024
+        if ended.returncode != 0:
+            told = ended.stderr.decode(errors="replace")
+            sys.exit(f"{' '.join(self.argv + words)} ended with {ended.returncode}: {told}")
+        return (end - begin) * 1000
 
-    def measure(self, command):
+    def measure(self, command, wrapper=()):
         """One run of a command. An undo takes back an add that is not measured."""
         if command == "undo":
             self.run(["add", "to", "be", "undone"])
         words = {"add": ["add", "Buy", "milk"]}.get(command, [command])
-        return self.run(words)
+        return self.run(words, wrapper)
+
+    def peak(self, command, folder):
+        """The peak memory of one run in megabytes, where GNU time is there."""
+        if not os.access(GNU_TIME, os.X_OK):
+            return None
+        report = os.path.join(folder, "peak")
+        self.measure(command, [GNU_TIME, "-f", "%M", "-o", report])
+        with open(report, encoding="utf-8") as file:
+            return int(file.read().split()[-1]) / 1024
 
 
 def programs(arguments, folder, number):
@@ -148,24 +158,22 @@ def compare(arguments, number):
     with tempfile.TemporaryDirectory(prefix="tw-bench-") as folder:
         pair = programs(arguments, folder, number)
         for command in arguments.commands:
-            runs = [[] for _ in pair]
+            walls = [[] for _ in pair]
             for _ in range(arguments.runs):
                 for place, program in enumerate(pair):
-                    runs[place].append(program.measure(command))
-            show(number, command, runs)
+                    walls[place].append(program.measure(command))
+            peaks = [program.peak(command, folder) for program in pair]
+            show(number, command, [statistics.median(wall) for wall in walls], peaks)
 
 
-def show(number, command, runs):
+def show(number, command, walls, peaks):
     cells = [f"{number:>6} {command:<7}"]
-    figures = []
-    for measured in runs:
-        wall = statistics.median(run[0] for run in measured)
-        peak = max(run[1] for run in measured)
-        figures.append((wall, peak))
-        cells.append(f"{wall:>9.1f} ms {peak:>7.1f} MB")
-    if len(figures) == 2:
-        (tw_wall, tw_peak), (task_wall, task_peak) = figures
-        cells.append(f"{task_wall / tw_wall:>6.1f} x {task_peak / tw_peak:>6.1f} x")
+    for wall, peak in zip(walls, peaks):
+        memory = f"{peak:>7.1f} MB" if peak else "          "
+        cells.append(f"{wall:>9.1f} ms {memory}")
+    if len(walls) == 2:
+        memory = f"{peaks[1] / peaks[0]:>6.1f} x" if all(peaks) else ""
+        cells.append(f"{walls[1] / walls[0]:>6.1f} x {memory}")
     print(" | ".join(cells), flush=True)
 
 
