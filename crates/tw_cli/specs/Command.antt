@@ -70,9 +70,3 @@ text_of Count old new = count_text (len new.tasks)
 abbrev pub next_asked : Result Command BadWord → State → Option State
 next_asked (Ok command) = next_of command
 next_asked (Err bad) = λ state. None
-
--- a uuid has its bytes
-abbrev pub IsWhole : Command → Type 0
-IsWhole (Add u text now) = length u ≡ 16
-IsWhole Undo = Unit {0}
-IsWhole Count = Unit {0}

@@ -1,10 +1,9 @@
 // What the commands do to the replica that a disk holds.
-ghost use Rattle.std.specs.Prelude.{◌≡◌, true, is_some, length, IsUtf8, IfOk, OnOk, IfErr};
-ghost use Rattle.std.specs.Fmt.{decimal};
+ghost use Rattle.std.specs.Prelude.{◌≡◌, is_some, IfOk, IfErr};
 ghost use Rattle.std.specs.FinMap as map;
 ghost use Rattle.tw_world.specs.Disk.{Kept};
 ghost use Rattle.tw_replica.specs.Replica.{held_state};
-ghost use Rattle.tw_cli.specs.Command.{IsWhole, next_of};
+ghost use Rattle.tw_cli.specs.Command.{next_of};
 ghost use Rattle.tw_cli.specs.Run.{Shows, Refused, CanBeCarriedOut, LeavesEither, HasNoMisfit, cause_of, end_of, reached};
 
 use crate::add::add_ops;
@@ -13,7 +12,7 @@ use crate::text::{Short, count_text, created_text, undone_text};
 use std::alloc::Global;
 use tw_journal::JournalError;
 use tw_replica::{Replica, ReplicaError};
-use tw_world::{Disk, Memory, Moment, Text};
+use tw_world::{Disk, Moment, Text};
 use uuid::Uuid;
 
 /// A command, with all that it needs.
@@ -54,14 +53,6 @@ fn holds(replica: &Replica, uuid: Uuid) -> bool
     replica.tasks().get(uuid).is_some()
 }
 
-fn decimal_utf8(alloc: Global, now: Moment) -> Result<(), Memory>
-    ensures { OnOk result (IsUtf8 (decimal now.seconds)) }
-{
-    let text = format!(in alloc; "{}", now.seconds)?;
-    let _ = text.as_str();
-    Ok(())
-}
-
 // Adds a task, and gives what to print.
 fn add<D: Disk>(
     alloc: Global,
@@ -70,7 +61,6 @@ fn add<D: Disk>(
     now: Moment,
     disk: &mut D,
 ) -> Result<Short, Cause>
-    requires { IsWhole (Command.Add uuid text.now now) }
     ensures shows { IfOk result (λ shown. Shows D.model (Command.Add uuid text.now now) disk.old disk.new shown.bytes) }
     ensures refused { IfErr result (λ cause. Refused D.model (Command.Add uuid text.now now) disk.old disk.new cause) }
     ensures complete { IfErr result (λ cause. CanBeCarriedOut D.model (Command.Add uuid text.now now) disk.old disk.new → cause ≡ Cause.Memory) }
@@ -81,9 +71,6 @@ fn add<D: Disk>(
         Ok(ops) => ops,
         Err(_) => return Err(Cause::Memory),
     };
-    if let Err(_) = decimal_utf8(alloc, now) {
-        return Err(Cause::Memory);
-    }
     let mut replica = match Replica::open(alloc, disk) {
         Ok(replica) => replica,
         Err(error) => return Err(as_cause(error)),
@@ -135,7 +122,6 @@ pub(crate) fn carry_out<D: Disk>(
     command: &Command,
     disk: &mut D,
 ) -> Result<Short, Cause>
-    requires { IsWhole command.now }
     ensures shows { IfOk result (λ shown. Shows D.model command.now disk.old disk.new shown.bytes) }
     ensures refused { IfErr result (λ cause. Refused D.model command.now disk.old disk.new cause) }
     ensures complete { IfErr result (λ cause. CanBeCarriedOut D.model command.now disk.old disk.new → cause ≡ Cause.Memory) }

@@ -4,7 +4,7 @@ ghost use Rattle.tw_world.specs.Ids.{id_bytes};
 ghost use Rattle.tw_world.specs.Disk.{Kept, Rose};
 ghost use Rattle.tw_world.specs.Sink.{Got, GotPart};
 ghost use Rattle.tw_cli.specs.Words.{line_of};
-ghost use Rattle.tw_cli.specs.Command.{IsWhole, drawn_for, command_of, next_of, next_asked};
+ghost use Rattle.tw_cli.specs.Command.{drawn_for, command_of, next_of, next_asked};
 ghost use Rattle.tw_cli.specs.Fault.{Told, status_of};
 ghost use Rattle.tw_cli.specs.Run.{Gives, CanEnd, LeavesEither, reached, HasDrawn, Draws};
 
@@ -20,7 +20,6 @@ use uuid::Uuid;
 // The command that a line asks for. One that adds a task draws its uuid.
 fn drawn(line: Line, now: Moment, ids: &mut IdWords) -> Command
     ensures command { result ≡ drawn_for (id_bytes ids.old.start) now line }
-    ensures whole { IsWhole result }
     ensures ids { HasDrawn (Ok line) ids.old ids.new }
 {
     match line {
@@ -42,7 +41,6 @@ fn asked(
     ids: &mut IdWords,
 ) -> Result<Result<Command, BadWord>, Memory>
     ensures asked { IfOk result (λ asked. asked ≡ command_of (id_bytes ids.old.start) now (line_of (map string_bytes words.now.items))) }
-    ensures whole { IfOk result (λ asked. IfOk asked IsWhole) }
     ensures ids { OnOk result (HasDrawn (line_of (map string_bytes words.now.items)) ids.old ids.new) }
     ensures undrawn { OnErr result (ids.new ≡ ids.old) }
 {
@@ -67,7 +65,6 @@ fn run_command<D: Disk, O: Sink>(
     disk: &mut D,
     out: &mut O,
 ) -> Cause
-    requires { IsWhole command.now }
     ensures gives { Gives D.model O.model (Ok command.now) disk.old disk.new out.old out.new result }
     ensures complete { CanEnd D.model O.model (Ok command.now) disk.old disk.new out.old out.new → (result ≡ Cause.Done) ⊎ (result ≡ Cause.Memory) }
     ensures any_moment { LeavesEither D.model (reached result (next_of command.now)) disk.old disk.new }

@@ -37,17 +37,22 @@ fn words_of(alloc: Global, line: &str) -> Result<Vec<String>, Fail> {
     Ok(words)
 }
 
-// Runs a line at the moment 2023-11-14T22:13:20Z. The identifiers begin at 1, with the step 1.
-fn run(alloc: Global, line: &str, disk: &mut MemoryDisk, out_fails: &[u64]) -> Result<Ended, Fail> {
+// Runs a line at the moment 2023-11-14T22:13:20Z, with identifiers from `first` on.
+fn run_from(alloc: Global, first: u128, line: &str, disk: &mut MemoryDisk, out_fails: &[u64]) -> Result<Ended, Fail> {
     let words = words_of(alloc, line)?;
     let Some(now) = Moment::new(1_700_000_000, 0) else {
         return Err(Fail::new("no moment"));
     };
-    let mut ids = IdWords { start: 1, step: 1 };
-    let mut out = MemorySink::new(Vec::new(alloc), out_fails.to_vec(alloc)?);
-    let mut err = MemorySink::new(Vec::new(alloc), Vec::new(alloc));
+    let mut ids = IdWords { start: first, step: 1 };
+    let mut out = MemorySink::new(alloc, Vec::new(alloc), out_fails.to_vec(alloc)?)?;
+    let mut err = MemorySink::new(alloc, Vec::new(alloc), Vec::new(alloc))?;
     let outcome = task_run(alloc, &words, now, &mut ids, disk, &mut out, &mut err);
     Ok(Ended { outcome, out, err })
+}
+
+// Runs a line with identifiers from 1 on, over an output that does not fail.
+fn run(alloc: Global, line: &str, disk: &mut MemoryDisk) -> Result<Ended, Fail> {
+    run_from(alloc, 1, line, disk, &[])
 }
 
 fn empty_disk(alloc: Global, fails: &[u64]) -> Result<MemoryDisk, Fail> {
@@ -58,7 +63,7 @@ fn empty_disk(alloc: Global, fails: &[u64]) -> Result<MemoryDisk, Fail> {
 fn a_task_is_added(rt: HostRuntime) -> Result<(), Fail> {
     let alloc = rt.alloc();
     let mut disk = empty_disk(alloc, &[])?;
-    let ended = run(alloc, "add|Buy|milk", &mut disk, &[])?;
+    let ended = run(alloc, "add|Buy|milk", &mut disk)?;
     assert_eq!(rt;
         ended.outcome,
         Outcome {
@@ -104,7 +109,7 @@ fn words_outside_the_grammar_are_told(rt: HostRuntime) -> Result<(), Fail> {
     ];
     for (line, word, kind, told) in rows {
         let mut disk = empty_disk(alloc, &[])?;
-        let ended = run(alloc, line, &mut disk, &[])?;
+        let ended = run(alloc, line, &mut disk)?;
         assert_eq!(rt;
             ended.outcome,
             Outcome {
@@ -124,7 +129,7 @@ fn words_outside_the_grammar_are_told(rt: HostRuntime) -> Result<(), Fail> {
 fn a_task_stands_whose_text_is_not_printed(rt: HostRuntime) -> Result<(), Fail> {
     let alloc = rt.alloc();
     let mut disk = empty_disk(alloc, &[])?;
-    let ended = run(alloc, "add|Buy|milk", &mut disk, &[0])?;
+    let ended = run_from(alloc, 1, "add|Buy|milk", &mut disk, &[0])?;
     assert_eq!(rt;
         ended.outcome,
         Outcome {
@@ -141,7 +146,7 @@ fn a_task_stands_whose_text_is_not_printed(rt: HostRuntime) -> Result<(), Fail> 
 fn an_empty_store_has_nothing_to_undo(rt: HostRuntime) -> Result<(), Fail> {
     let alloc = rt.alloc();
     let mut disk = empty_disk(alloc, &[])?;
-    let ended = run(alloc, "undo", &mut disk, &[])?;
+    let ended = run(alloc, "undo", &mut disk)?;
     assert_eq!(rt;
         ended.outcome,
         Outcome {
@@ -150,8 +155,69 @@ fn an_empty_store_has_nothing_to_undo(rt: HostRuntime) -> Result<(), Fail> {
         }
     );
     assert_eq!(rt; ended.err.bytes(), b"task: nothing to undo\n".as_slice());
-    let ended = run(alloc, "count", &mut disk, &[])?;
+    let ended = run(alloc, "count", &mut disk)?;
     assert_eq!(rt; ended.out.bytes(), b"0\n".as_slice());
+    Ok(())
+}
+
+#[test]
+fn a_task_is_counted_and_undone(rt: HostRuntime) -> Result<(), Fail> {
+    let alloc = rt.alloc();
+    let mut disk = empty_disk(alloc, &[])?;
+    let _ = run(alloc, "add|Buy|milk", &mut disk)?;
+    assert_eq!(rt; run(alloc, "count", &mut disk)?.out.bytes(), b"1\n".as_slice());
+    assert_eq!(rt; run(alloc, "undo", &mut disk)?.out.bytes(), b"Undone 5 operations.\n".as_slice());
+    assert_eq!(rt; run(alloc, "count", &mut disk)?.out.bytes(), b"0\n".as_slice());
+    assert_eq!(rt; run_from(alloc, 2, "add|Buy|tea", &mut disk, &[])?.out.bytes(), b"Created task 2.\n".as_slice());
+    Ok(())
+}
+
+#[test]
+fn a_uuid_is_drawn_once_only(rt: HostRuntime) -> Result<(), Fail> {
+    let alloc = rt.alloc();
+    let mut disk = empty_disk(alloc, &[])?;
+    let _ = run(alloc, "add|Buy|milk", &mut disk)?;
+    let ended = run(alloc, "add|Buy|tea", &mut disk)?;
+    assert_eq!(rt; ended.outcome.status, 2);
+    assert_eq!(rt; ended.err.bytes(), b"task: 00000000-0000-4000-8000-000000000001 is taken\n".as_slice());
+    assert_eq!(rt; disk.bytes(), ADDED.as_slice());
+    Ok(())
+}
+
+#[test]
+fn each_undo_takes_one_add_back(rt: HostRuntime) -> Result<(), Fail> {
+    let alloc = rt.alloc();
+    for adds in 0..4 {
+        let mut disk = empty_disk(alloc, &[])?;
+        for first in 0..adds {
+            let _ = run_from(alloc, first, "add|Buy|milk", &mut disk, &[])?;
+        }
+        for left in (0..adds).rev() {
+            assert_eq!(rt; run(alloc, "undo", &mut disk)?.outcome.status, 0);
+            let counted = format!(in alloc; "{}\n", left)?;
+            assert_eq!(rt; run(alloc, "count", &mut disk)?.out.bytes(), counted.as_bytes());
+        }
+        assert_eq!(rt; run(alloc, "undo", &mut disk)?.outcome.cause, Cause::NothingToUndo);
+    }
+    Ok(())
+}
+
+#[test]
+fn a_disk_that_fails_is_told_and_keeps_its_records(rt: HostRuntime) -> Result<(), Fail> {
+    let alloc = rt.alloc();
+    let mut whole = empty_disk(alloc, &[])?;
+    let _ = run(alloc, "add|Buy|milk", &mut whole)?;
+    for failing in 0..whole.calls() {
+        let mut disk = empty_disk(alloc, &[failing])?;
+        let ended = run(alloc, "add|Buy|milk", &mut disk)?;
+        assert_eq!(rt; ended.outcome, Outcome { status: 3, cause: Cause::DiskFault }, "call {failing}");
+        assert_eq!(rt; ended.out.bytes(), b"".as_slice());
+        assert_eq!(rt; ended.err.bytes(), b"task: the journal failed\n".as_slice());
+        // Only where the last sync fails does the record stand.
+        let counted = if failing + 1 == whole.calls() { b"1\n" } else { b"0\n" };
+        let mut again = MemoryDisk::new(alloc, disk.bytes().to_vec(alloc)?, Vec::new(alloc))?;
+        assert_eq!(rt; run(alloc, "count", &mut again)?.out.bytes(), counted.as_slice(), "call {failing}");
+    }
     Ok(())
 }
 

@@ -1,20 +1,18 @@
-use Rattle.std.proofs.Common.{◌≡◌, ◌∙◌, ap, sym, subst, refl, false, length, Some, None, ◌++◌, ◌∷◌, [], List, ℕ}
+use Rattle.std.proofs.Common.{◌≡◌, ◌∙◌, ap, sym, subst, refl, true, false, length, Some, None, ◌++◌, ◌∷◌, [], List, ℕ}
 use Rattle.std.specs.FinMap.{get}
-use Rattle.std.proofs.lemmas.Str.{is_utf8-from_IsUtf8}
 use Rattle.tw_world.specs.Disk.{LeavesOnly}
-use Rattle.tw_replica.specs.Body.{IsStep, body_of}
+use Rattle.tw_replica.specs.Body.{is_group, body_of}
 use Rattle.tw_replica.specs.Body.Step.{Commit}
 use Rattle.tw_replica.specs.State.{committed, misfit}
-use Rattle.tw_replica.specs.Replica.{CommitRefused, IsReplicaOn, OpensToEither, held_state}
+use Rattle.tw_replica.specs.Replica.{CommitRefused, bodies_after, IsReplicaOn, OpensToEither, held_state}
 use Rattle.tw_cli.specs.Command.{add_ops, next_of}
 use Rattle.tw_cli.specs.Text.{created_text}
 use Rattle.tw_cli.specs.Run.{Refused, LeavesEither, HasNoMisfit, reached}
 use Rattle.tw_cli.specs.declared.command.Command.TheVariants.{Add}
 use Rattle.tw_cli.specs.declared.cause.Cause.TheVariants.{IdTaken}
-use Rattle.tw_cli.proofs.Fitting.{add_fits}
+use Rattle.tw_cli.proofs.Fitting.{add_is_group, add_fits}
 use Rattle.tw_cli.proofs.Openings.{shows, open_ends, leaves_open, leaves_step}
 use Rattle.tw_cli.proofs.Refusals.{is_none_of, is_taken, not_taken, commit_fits, commit_refused, commit_leaves}
-use Rattle.tw_cli.proofs.Steps.{add_is_step}
 use Rattle.tw_cli.proofs.command.add.Goals as goal
 
 pub returns-in-Err-open-clause-complete : goal.returns-in-Err-open-clause-complete
@@ -32,8 +30,8 @@ returns-then-holds-clause-complete g c = λ can. absurd (not_taken g.D.Disk.mode
 pub returns-then-holds-clause-any_moment : goal.returns-then-holds-clause-any_moment
 returns-then-holds-clause-any_moment g c = leaves_open g.D.Disk.model (reached (IdTaken c.args.uuid) (next_of (Add c.args.uuid c.args.text.now c.args.now))) c.args.disk.now c.open.new.disk c.in-Ok-open.ensures.any_moment
 
-pub commit-requires-clause-step : goal.commit-requires-clause-step
-commit-requires-clause-step g c = subst (λ ops. IsStep (Commit false ops)) (sym c.in-Ok.ensures) (add_is_step c.args.uuid c.args.text.now c.args.now c.requires (is_utf8-from_IsUtf8 _ c.utf8.text) (is_utf8-from_IsUtf8 _ c.in_default.ensures))
+pub commit-requires-clause-group : goal.commit-requires-clause-group
+commit-requires-clause-group g c = subst (λ ops. is_group ops ≡ true) (sym c.in-Ok.ensures) (add_is_group c.args.uuid c.args.text.now c.args.now)
 
 pub as_cause-requires-in-Err-commit : goal.as_cause-requires-in-Err-commit
 as_cause-requires-in-Err-commit g c =
@@ -65,8 +63,8 @@ returns-clause-shows g c =
     let r1 = c.commit.new.self in
     shows g.D.Disk.model (Add c.args.uuid c.args.text.now c.args.now) c.args.disk.now c.open.new.disk c.commit.new.disk r0 r1 c.created_text.result.bytes c.in-Ok-open.ensures.opened
     (is_none_of _ (sym c.holds.ensures ∙ c.if-holds.false))
-    (subst (λ ops. committed false ops (held_state r0) ≡ Some (held_state r1)) c.in-Ok.ensures c.in_default-commit.ensures.committed)
-    (subst (λ ops. (bodies : List (List ℕ)) → IsReplicaOn g.D.Disk.model r0 c.open.new.disk bodies → IsReplicaOn g.D.Disk.model r1 c.commit.new.disk (bodies ++ body_of (Commit false ops) ∷ [])) c.in-Ok.ensures c.in_default-commit.ensures.stands)
+    (subst (λ ops. committed false ops (held_state r0) ≡ Some (held_state r1)) c.in-Ok.ensures c.in_default.ensures.committed)
+    (subst (λ ops. (bodies : List (List ℕ)) → IsReplicaOn g.D.Disk.model r0 c.open.new.disk bodies → IsReplicaOn g.D.Disk.model r1 c.commit.new.disk (bodies_after false ops bodies)) c.in-Ok.ensures c.in_default.ensures.stands)
     (c.created_text.ensures ∙ ap (λ places. created_text c.args.uuid places.items) c.numbers.ensures)
 
 pub returns-clause-any_moment : goal.returns-clause-any_moment
