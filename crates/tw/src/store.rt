@@ -3,10 +3,9 @@
 use crate::file_disk::FileDisk;
 use crate::start::{StartError, variable};
 use std::alloc::Global;
-use std::fs;
 use std::fs::{File, OpenOptions};
-use std::io;
 use std::path::Path;
+use std::{fs, io};
 use tw_cli::data_folder;
 
 /// The folder of the tasks.
@@ -40,7 +39,11 @@ pub fn open_journal(rt: &HostRuntime, alloc: Global, folder: &str) -> io::Result
 
 fn make_journal(rt: &HostRuntime, folder: &str, path: &str) -> io::Result<File> {
     fs::create_dir_all(rt, folder)?;
-    let file = OpenOptions::new().read(true).write(true).create(true).open(rt, path)?;
+    let file = OpenOptions::new()
+        .read(true)
+        .write(true)
+        .create(true)
+        .open(rt, path)?;
     file.sync_all()?;
     sync_folder(rt, folder)?;
     if let Some(parent) = Path::new(folder).parent() {

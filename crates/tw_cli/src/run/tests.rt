@@ -38,12 +38,21 @@ fn words_of(alloc: Global, line: &str) -> Result<Vec<String>, Fail> {
 }
 
 // Runs a line at the moment 2023-11-14T22:13:20Z, with identifiers from `first` on.
-fn run_from(alloc: Global, first: u128, line: &str, disk: &mut MemoryDisk, out_fails: &[u64]) -> Result<Ended, Fail> {
+fn run_from(
+    alloc: Global,
+    first: u128,
+    line: &str,
+    disk: &mut MemoryDisk,
+    out_fails: &[u64],
+) -> Result<Ended, Fail> {
     let words = words_of(alloc, line)?;
     let Some(now) = Moment::new(1_700_000_000, 0) else {
         return Err(Fail::new("no moment"));
     };
-    let mut ids = IdWords { start: first, step: 1 };
+    let mut ids = IdWords {
+        start: first,
+        step: 1,
+    };
     let mut out = MemorySink::new(alloc, Vec::new(alloc), out_fails.to_vec(alloc)?)?;
     let mut err = MemorySink::new(alloc, Vec::new(alloc), Vec::new(alloc))?;
     let outcome = task_run(alloc, &words, now, &mut ids, disk, &mut out, &mut err);
@@ -165,10 +174,24 @@ fn a_task_is_counted_and_undone(rt: HostRuntime) -> Result<(), Fail> {
     let alloc = rt.alloc();
     let mut disk = empty_disk(alloc, &[])?;
     let _ = run(alloc, "add|Buy|milk", &mut disk)?;
-    assert_eq!(rt; run(alloc, "count", &mut disk)?.out.bytes(), b"1\n".as_slice());
-    assert_eq!(rt; run(alloc, "undo", &mut disk)?.out.bytes(), b"Undone 5 operations.\n".as_slice());
-    assert_eq!(rt; run(alloc, "count", &mut disk)?.out.bytes(), b"0\n".as_slice());
-    assert_eq!(rt; run_from(alloc, 2, "add|Buy|tea", &mut disk, &[])?.out.bytes(), b"Created task 2.\n".as_slice());
+    assert_eq!(rt;
+        run(alloc, "count", &mut disk)?.out.bytes(),
+        b"1\n".as_slice()
+    );
+    assert_eq!(rt;
+        run(alloc, "undo", &mut disk)?.out.bytes(),
+        b"Undone 5 operations.\n".as_slice()
+    );
+    assert_eq!(rt;
+        run(alloc, "count", &mut disk)?.out.bytes(),
+        b"0\n".as_slice()
+    );
+    assert_eq!(rt;
+        run_from(alloc, 2, "add|Buy|tea", &mut disk, &[])?
+            .out
+            .bytes(),
+        b"Created task 2.\n".as_slice()
+    );
     Ok(())
 }
 
@@ -179,7 +202,10 @@ fn a_uuid_is_drawn_once_only(rt: HostRuntime) -> Result<(), Fail> {
     let _ = run(alloc, "add|Buy|milk", &mut disk)?;
     let ended = run(alloc, "add|Buy|tea", &mut disk)?;
     assert_eq!(rt; ended.outcome.status, 2);
-    assert_eq!(rt; ended.err.bytes(), b"task: 00000000-0000-4000-8000-000000000001 is taken\n".as_slice());
+    assert_eq!(rt;
+        ended.err.bytes(),
+        b"task: 00000000-0000-4000-8000-000000000001 is taken\n".as_slice()
+    );
     assert_eq!(rt; disk.bytes(), ADDED.as_slice());
     Ok(())
 }
@@ -195,9 +221,15 @@ fn each_undo_takes_one_add_back(rt: HostRuntime) -> Result<(), Fail> {
         for left in (0..adds).rev() {
             assert_eq!(rt; run(alloc, "undo", &mut disk)?.outcome.status, 0);
             let counted = format!(in alloc; "{}\n", left)?;
-            assert_eq!(rt; run(alloc, "count", &mut disk)?.out.bytes(), counted.as_bytes());
+            assert_eq!(rt;
+                run(alloc, "count", &mut disk)?.out.bytes(),
+                counted.as_bytes()
+            );
         }
-        assert_eq!(rt; run(alloc, "undo", &mut disk)?.outcome.cause, Cause::NothingToUndo);
+        assert_eq!(rt;
+            run(alloc, "undo", &mut disk)?.outcome.cause,
+            Cause::NothingToUndo
+        );
     }
     Ok(())
 }
@@ -210,13 +242,28 @@ fn a_disk_that_fails_is_told_and_keeps_its_records(rt: HostRuntime) -> Result<()
     for failing in 0..whole.calls() {
         let mut disk = empty_disk(alloc, &[failing])?;
         let ended = run(alloc, "add|Buy|milk", &mut disk)?;
-        assert_eq!(rt; ended.outcome, Outcome { status: 3, cause: Cause::DiskFault }, "call {failing}");
+        assert_eq!(rt;
+            ended.outcome,
+            Outcome {
+                status: 3,
+                cause: Cause::DiskFault
+            },
+            "call {failing}"
+        );
         assert_eq!(rt; ended.out.bytes(), b"".as_slice());
         assert_eq!(rt; ended.err.bytes(), b"task: the journal failed\n".as_slice());
         // Only where the last sync fails does the record stand.
-        let counted = if failing + 1 == whole.calls() { b"1\n" } else { b"0\n" };
+        let counted = if failing + 1 == whole.calls() {
+            b"1\n"
+        } else {
+            b"0\n"
+        };
         let mut again = MemoryDisk::new(alloc, disk.bytes().to_vec(alloc)?, Vec::new(alloc))?;
-        assert_eq!(rt; run(alloc, "count", &mut again)?.out.bytes(), counted.as_slice(), "call {failing}");
+        assert_eq!(rt;
+            run(alloc, "count", &mut again)?.out.bytes(),
+            counted.as_slice(),
+            "call {failing}"
+        );
     }
     Ok(())
 }
