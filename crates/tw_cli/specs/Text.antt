@@ -2,6 +2,8 @@
 use Rattle.std.specs.Prelude.{ℕ, ◌+◌, ◌==◌, cond, List, [], ◌∷◌, ◌++◌, codes}
 use Rattle.std.specs.Fmt.{decimal}
 use Rattle.tw_replica.specs.Settle.{Places, has_uuid}
+use Rattle.tw_cli.specs.declared.text.Printed.{Printed}
+use Rattle.tw_cli.specs.declared.text.Printed.TheVariants.{Line, Text}
 
 -- a number between two texts
 abbrev pub numbered : List ℕ → ℕ → List ℕ → List ℕ
@@ -23,3 +25,8 @@ undone_text n = numbered (codes "Undone ") n (cond (n == 1) (codes " operation.\
 -- of a number of tasks
 abbrev pub count_text : ℕ → List ℕ
 count_text n = numbered [] n (codes "\n")
+
+-- the bytes of what a command prints
+abbrev pub printed_bytes : Printed → List ℕ
+printed_bytes (Line short) = short.bytes
+printed_bytes (Text bytes) = bytes.items

@@ -3,16 +3,20 @@ ghost use Rattle.std.specs.Prelude.{◌≡◌, is_some, IfOk, IfErr};
 ghost use Rattle.std.specs.FinMap as map;
 ghost use Rattle.tw_world.specs.Disk.{Kept};
 ghost use Rattle.tw_replica.specs.Replica.{held_state};
+ghost use Rattle.tw_export.specs.Export.{export_text};
+ghost use Rattle.tw_cli.specs.Text.{printed_bytes};
 ghost use Rattle.tw_cli.specs.Command.{next_of};
 ghost use Rattle.tw_cli.specs.Run.{Shows, Refused, CanBeCarriedOut, LeavesEither, HasNoMisfit, cause_of, end_of, reached};
 
 use crate::add::add_ops;
 use crate::cause::Cause;
-use crate::text::{Short, count_text, created_text, undone_text};
+use crate::text::{Printed, count_text, created_text, undone_text};
 use std::alloc::Global;
+use tw_export::export_text;
 use tw_journal::JournalError;
+use tw_model::Tasks;
 use tw_replica::{Replica, ReplicaError};
-use tw_world::{Disk, Moment, Text};
+use tw_world::{Disk, Memory, Moment, Text};
 use uuid::Uuid;
 
 /// A command, with all that it needs.
@@ -28,6 +32,8 @@ pub(crate) enum Command {
     Undo,
     /// Counts the tasks.
     Count,
+    /// Prints the tasks as JSON.
+    Export,
 }
 
 // The cause that the error of a replica becomes.
@@ -60,8 +66,8 @@ fn add<D: Disk>(
     text: &str,
     now: Moment,
     disk: &mut D,
-) -> Result<Short, Cause>
-    ensures shows { IfOk result (λ shown. Shows D.model (Command.Add uuid text.now now) disk.old disk.new shown.bytes) }
+) -> Result<Printed, Cause>
+    ensures shows { IfOk result (λ shown. Shows D.model (Command.Add uuid text.now now) disk.old disk.new (printed_bytes shown)) }
     ensures refused { IfErr result (λ cause. Refused D.model (Command.Add uuid text.now now) disk.old disk.new cause) }
     ensures complete { IfErr result (λ cause. CanBeCarriedOut D.model (Command.Add uuid text.now now) disk.old disk.new → cause ≡ Cause.Memory) }
     ensures any_moment { LeavesEither D.model (reached (end_of result) (next_of (Command.Add uuid text.now now))) disk.old disk.new }
@@ -81,12 +87,12 @@ fn add<D: Disk>(
     if let Err(error) = replica.commit(alloc, disk, ops, false) {
         return Err(as_cause(error));
     }
-    Ok(created_text(uuid, replica.numbers()))
+    Ok(Printed::Line(created_text(uuid, replica.numbers())))
 }
 
 // Takes the last group back, and gives what to print.
-fn undo<D: Disk>(alloc: Global, disk: &mut D) -> Result<Short, Cause>
-    ensures shows { IfOk result (λ shown. Shows D.model Command.Undo disk.old disk.new shown.bytes) }
+fn undo<D: Disk>(alloc: Global, disk: &mut D) -> Result<Printed, Cause>
+    ensures shows { IfOk result (λ shown. Shows D.model Command.Undo disk.old disk.new (printed_bytes shown)) }
     ensures refused { IfErr result (λ cause. Refused D.model Command.Undo disk.old disk.new cause) }
     ensures complete { IfErr result (λ cause. CanBeCarriedOut D.model Command.Undo disk.old disk.new → cause ≡ Cause.Memory) }
     ensures any_moment { LeavesEither D.model (reached (end_of result) (next_of Command.Undo)) disk.old disk.new }
@@ -97,22 +103,48 @@ fn undo<D: Disk>(alloc: Global, disk: &mut D) -> Result<Short, Cause>
         Err(error) => return Err(as_cause(error)),
     };
     match replica.undo(alloc, disk) {
-        Ok(count) => Ok(undone_text(count)),
+        Ok(count) => Ok(Printed::Line(undone_text(count))),
         Err(error) => Err(as_cause(error)),
     }
 }
 
 // Counts the tasks, and gives what to print.
-fn count<D: Disk>(alloc: Global, disk: &mut D) -> Result<Short, Cause>
-    ensures shows { IfOk result (λ shown. Shows D.model Command.Count disk.old disk.new shown.bytes) }
+fn count<D: Disk>(alloc: Global, disk: &mut D) -> Result<Printed, Cause>
+    ensures shows { IfOk result (λ shown. Shows D.model Command.Count disk.old disk.new (printed_bytes shown)) }
     ensures refused { IfErr result (λ cause. Refused D.model Command.Count disk.old disk.new cause) }
     ensures complete { IfErr result (λ cause. CanBeCarriedOut D.model Command.Count disk.old disk.new → cause ≡ Cause.Memory) }
     ensures any_moment { LeavesEither D.model (reached (end_of result) (next_of Command.Count)) disk.old disk.new }
     ensures kept { Kept D.model disk.old disk.new }
 {
     match Replica::open(alloc, disk) {
-        Ok(replica) => Ok(count_text(replica.tasks().len())),
+        Ok(replica) => Ok(Printed::Line(count_text(replica.tasks().len()))),
         Err(error) => Err(as_cause(error)),
+    }
+}
+
+// The text of all tasks.
+fn exported(alloc: Global, tasks: &Tasks) -> Result<Vec<u8>, Memory>
+    ensures { IfOk result (λ text. text.items ≡ export_text (map.keys tasks.now) tasks.now) }
+{
+    let rows = tasks.uuids(alloc)?;
+    export_text(alloc, &rows, tasks)
+}
+
+// Prints the tasks as JSON.
+fn export<D: Disk>(alloc: Global, disk: &mut D) -> Result<Printed, Cause>
+    ensures shows { IfOk result (λ shown. Shows D.model Command.Export disk.old disk.new (printed_bytes shown)) }
+    ensures refused { IfErr result (λ cause. Refused D.model Command.Export disk.old disk.new cause) }
+    ensures complete { IfErr result (λ cause. CanBeCarriedOut D.model Command.Export disk.old disk.new → cause ≡ Cause.Memory) }
+    ensures any_moment { LeavesEither D.model (reached (end_of result) (next_of Command.Export)) disk.old disk.new }
+    ensures kept { Kept D.model disk.old disk.new }
+{
+    let replica = match Replica::open(alloc, disk) {
+        Ok(replica) => replica,
+        Err(error) => return Err(as_cause(error)),
+    };
+    match exported(alloc, replica.tasks()) {
+        Ok(text) => Ok(Printed::Text(text)),
+        Err(_) => Err(Cause::Memory),
     }
 }
 
@@ -121,8 +153,8 @@ pub(crate) fn carry_out<D: Disk>(
     alloc: Global,
     command: &Command,
     disk: &mut D,
-) -> Result<Short, Cause>
-    ensures shows { IfOk result (λ shown. Shows D.model command.now disk.old disk.new shown.bytes) }
+) -> Result<Printed, Cause>
+    ensures shows { IfOk result (λ shown. Shows D.model command.now disk.old disk.new (printed_bytes shown)) }
     ensures refused { IfErr result (λ cause. Refused D.model command.now disk.old disk.new cause) }
     ensures complete { IfErr result (λ cause. CanBeCarriedOut D.model command.now disk.old disk.new → cause ≡ Cause.Memory) }
     ensures any_moment { LeavesEither D.model (reached (end_of result) (next_of command.now)) disk.old disk.new }
@@ -136,5 +168,6 @@ pub(crate) fn carry_out<D: Disk>(
         } => add(alloc, *uuid, description.as_str(), *now, disk),
         Command::Undo => undo(alloc, disk),
         Command::Count => count(alloc, disk),
+        Command::Export => export(alloc, disk),
     }
 }

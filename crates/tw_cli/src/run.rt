@@ -4,6 +4,7 @@ ghost use Rattle.tw_world.specs.Ids.{id_bytes};
 ghost use Rattle.tw_world.specs.Disk.{Kept, Rose};
 ghost use Rattle.tw_world.specs.Sink.{Got, GotPart};
 ghost use Rattle.tw_cli.specs.Words.{line_of};
+ghost use Rattle.tw_cli.specs.Text.{printed_bytes};
 ghost use Rattle.tw_cli.specs.Command.{drawn_for, command_of, next_of, next_asked};
 ghost use Rattle.tw_cli.specs.Fault.{Told, status_of};
 ghost use Rattle.tw_cli.specs.Run.{Gives, CanEnd, LeavesEither, reached, HasDrawn, Draws};
@@ -11,7 +12,7 @@ ghost use Rattle.tw_cli.specs.Run.{Gives, CanEnd, LeavesEither, reached, HasDraw
 use crate::cause::{Cause, Outcome, status_of};
 use crate::command::{Command, carry_out};
 use crate::fault::tell;
-use crate::text::Short;
+use crate::text::Printed;
 use crate::words::{BadWord, Line, read_words};
 use std::alloc::Global;
 use tw_world::{Disk, IdWords, Memory, Moment, Sink, StreamError};
@@ -30,6 +31,7 @@ fn drawn(line: Line, now: Moment, ids: &mut IdWords) -> Command
         },
         Line::Undo => Command::Undo,
         Line::Count => Command::Count,
+        Line::Export => Command::Export,
     }
 }
 
@@ -50,12 +52,12 @@ fn asked(
     }
 }
 
-fn print<O: Sink>(out: &mut O, text: &Short) -> Result<(), StreamError>
-    ensures written { OnOk result (Got O.model out.old out.new text.now.bytes) }
-    ensures part { OnErr result (GotPart O.model out.old out.new text.now.bytes) }
+fn print<O: Sink>(out: &mut O, text: &Printed) -> Result<(), StreamError>
+    ensures written { OnOk result (Got O.model out.old out.new (printed_bytes text.now)) }
+    ensures part { OnErr result (GotPart O.model out.old out.new (printed_bytes text.now)) }
     ensures failed { OnErr result (Rose (O.model.faults out.old) (O.model.faults out.new)) }
 {
-    out.write_all(text.as_str().as_bytes())
+    out.write_all(text.bytes())
 }
 
 // Carries a command out, and prints its text.

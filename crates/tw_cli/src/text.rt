@@ -11,6 +11,29 @@ use uuid::Uuid;
 /// A short text that takes no memory.
 pub(crate) type Short = ArrayString<128>;
 
+/// What a command prints.
+#[derive(Drop)]
+pub(crate) enum Printed {
+    /// A line.
+    Line(Short),
+    /// A text of any length.
+    Text(Vec<u8>),
+}
+
+impl Printed {
+    ghost use Rattle.tw_cli.specs.Text.{printed_bytes};
+
+    /// Its bytes.
+    pub(crate) fn bytes(&self) -> &[u8]
+        ensures { result.now ≡ printed_bytes self.now }
+    {
+        match self {
+            Printed::Line(line) => line.as_str().as_bytes(),
+            Printed::Text(text) => text.as_slice(),
+        }
+    }
+}
+
 /// A number between two texts.
 pub(crate) fn numbered(front: &str, number: u64, back: &str) -> Short
     requires { length front.now + length back.now ≤ 80 }

@@ -6,7 +6,8 @@ use Rattle.tw_replica.specs.Body.Step.{Commit}
 use Rattle.tw_replica.specs.State.{committed, misfit}
 use Rattle.tw_replica.specs.Replica.{CommitRefused, bodies_after, IsReplicaOn, OpensToEither, held_state}
 use Rattle.tw_cli.specs.Command.{add_ops, next_of}
-use Rattle.tw_cli.specs.Text.{created_text}
+use Rattle.tw_cli.specs.Text.{created_text, printed_bytes}
+use Rattle.tw_cli.specs.declared.text.Printed.TheVariants.{Line}
 use Rattle.tw_cli.specs.Run.{Refused, LeavesEither, HasNoMisfit, reached}
 use Rattle.tw_cli.specs.declared.command.Command.TheVariants.{Add}
 use Rattle.tw_cli.specs.declared.cause.Cause.TheVariants.{IdTaken}
@@ -61,7 +62,7 @@ pub returns-clause-shows : goal.returns-clause-shows
 returns-clause-shows g c =
     let r0 = c.in-Ok-open.replica in
     let r1 = c.commit.new.self in
-    shows g.D.Disk.model (Add c.args.uuid c.args.text.now c.args.now) c.args.disk.now c.open.new.disk c.commit.new.disk r0 r1 c.created_text.result.bytes c.in-Ok-open.ensures.opened
+    shows g.D.Disk.model (Add c.args.uuid c.args.text.now c.args.now) c.args.disk.now c.open.new.disk c.commit.new.disk r0 r1 (printed_bytes (Line c.created_text.result)) c.in-Ok-open.ensures.opened
     (is_none_of _ (sym c.holds.ensures ∙ c.if-holds.false))
     (subst (λ ops. committed false ops (held_state r0) ≡ Some (held_state r1)) c.in-Ok.ensures c.in_default.ensures.committed)
     (subst (λ ops. (bodies : List (List ℕ)) → IsReplicaOn g.D.Disk.model r0 c.open.new.disk bodies → IsReplicaOn g.D.Disk.model r1 c.commit.new.disk (bodies_after false ops bodies)) c.in-Ok.ensures c.in_default.ensures.stands)

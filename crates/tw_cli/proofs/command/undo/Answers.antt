@@ -1,5 +1,6 @@
 use Rattle.std.proofs.Common.{◌≡◌, ◌∙◌, ap, sym, subst, refl, length}
-use Rattle.tw_cli.specs.Text.{undone_text}
+use Rattle.tw_cli.specs.Text.{undone_text, printed_bytes}
+use Rattle.tw_cli.specs.declared.text.Printed.TheVariants.{Line}
 use Rattle.tw_cli.specs.Command.{next_of}
 use Rattle.tw_cli.specs.Run.{Refused, LeavesEither, reached}
 use Rattle.tw_cli.specs.declared.command.Command.TheVariants.{Undo}
@@ -18,7 +19,7 @@ pub returns-in-Ok-undo-clause-shows : goal.returns-in-Ok-undo-clause-shows
 returns-in-Ok-undo-clause-shows g c =
     let old = held_state c.in-Ok.replica in
     let new = held_state c.undo.new.self in
-    shows g.D.Disk.model Undo c.args.disk.now c.open.new.disk c.undo.new.disk c.in-Ok.replica c.undo.new.self c.undone_text.result.bytes c.in-Ok.ensures.opened
+    shows g.D.Disk.model Undo c.args.disk.now c.open.new.disk c.undo.new.disk c.in-Ok.replica c.undo.new.self (printed_bytes (Line c.undone_text.result)) c.in-Ok.ensures.opened
     (undo_has_point old new c.in-Ok-undo.ensures.undone) c.in-Ok-undo.ensures.undone c.in-Ok-undo.ensures.stands
     (c.undone_text.ensures ∙ ap undone_text (group_size (length old.pending) (length new.pending) c.in-Ok-undo.count c.in-Ok-undo.ensures.answer))
 
