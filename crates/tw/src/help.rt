@@ -6,6 +6,9 @@ tw keeps tasks and working hours, for people who use several machines.
 
 usage:
   tw task add WORDS     add a task, with the words as its description
+  tw task undo          take the last command back that changed something
+  tw task count         print how many tasks there are
+  tw task export        print the tasks as JSON
   tw --help             print this text
   tw --version          print the version
 

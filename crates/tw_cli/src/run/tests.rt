@@ -90,45 +90,26 @@ fn a_task_is_added(rt: HostRuntime) -> Result<(), Fail> {
 fn words_outside_the_grammar_are_told(rt: HostRuntime) -> Result<(), Fail> {
     let alloc = rt.alloc();
     let rows = [
-        ("", 0, WordKind::Unbuilt, b"task: bad word 0\n"),
-        ("list", 0, WordKind::Unbuilt, b"task: bad word 0\n"),
-        ("add", 0, WordKind::Missing, b"task: bad word 0\n"),
-        ("add|", 1, WordKind::Value, b"task: bad word 1\n"),
-        (
-            "add|Buy|due:eom",
-            2,
-            WordKind::Unbuilt,
-            b"task: bad word 2\n",
-        ),
-        ("add|+shop|Buy", 1, WordKind::Unbuilt, b"task: bad word 1\n"),
-        ("add|Buy|-shop", 2, WordKind::Unbuilt, b"task: bad word 2\n"),
-        (
-            "add|rc.gc=off|Buy",
-            1,
-            WordKind::Unbuilt,
-            b"task: bad word 1\n",
-        ),
-        ("undo|2", 1, WordKind::Extra, b"task: bad word 1\n"),
-        (
-            "count|+PENDING",
-            1,
-            WordKind::Unbuilt,
-            b"task: bad word 1\n",
-        ),
+        ("", 0, WordKind::Unbuilt),
+        ("list", 0, WordKind::Unbuilt),
+        ("add", 0, WordKind::Missing),
+        ("add|", 1, WordKind::Value),
+        ("add|Buy|due:eom", 2, WordKind::Unbuilt),
+        ("add|+shop|Buy", 1, WordKind::Unbuilt),
+        ("add|Buy|-shop", 2, WordKind::Unbuilt),
+        ("add|rc.gc=off|Buy", 1, WordKind::Unbuilt),
+        ("undo|2", 1, WordKind::Extra),
+        ("count|+PENDING", 1, WordKind::Unbuilt),
+        ("export|2", 1, WordKind::Unbuilt),
     ];
-    for (line, word, kind, told) in rows {
+    for (line, word, kind) in rows {
         let mut disk = empty_disk(alloc, &[])?;
         let ended = run(alloc, line, &mut disk)?;
-        assert_eq!(rt;
-            ended.outcome,
-            Outcome {
-                status: 2,
-                cause: Cause::BadWords { word, kind }
-            },
-            "{line}"
-        );
+        let cause = Cause::BadWords { word, kind };
+        assert_eq!(rt; ended.outcome, Outcome { status: 2, cause }, "{line}");
         assert_eq!(rt; ended.out.bytes(), b"".as_slice());
-        assert_eq!(rt; ended.err.bytes(), told.as_slice());
+        let told = format!(in alloc; "task: bad word {}\n", word)?;
+        assert_eq!(rt; ended.err.bytes(), told.as_bytes());
         assert_eq!(rt; disk.calls(), 0);
     }
     Ok(())
@@ -191,6 +172,25 @@ fn a_task_is_counted_and_undone(rt: HostRuntime) -> Result<(), Fail> {
             .out
             .bytes(),
         b"Created task 2.\n".as_slice()
+    );
+    Ok(())
+}
+
+#[test]
+fn a_task_is_exported_until_it_is_undone(rt: HostRuntime) -> Result<(), Fail> {
+    let alloc = rt.alloc();
+    let mut disk = empty_disk(alloc, &[])?;
+    let _ = run(alloc, "add|Buy|milk", &mut disk)?;
+    let exported =
+        b"[\n{\"description\":\"Buy milk\",\"entry\":\"20231114T221320Z\",\"modified\":\"20231114T221320Z\",\"status\":\"pending\",\"urgency\":0.000,\"uuid\":\"00000000-0000-4000-8000-000000000001\"}\n]\n";
+    assert_eq!(rt;
+        run(alloc, "export", &mut disk)?.out.bytes(),
+        exported.as_slice()
+    );
+    let _ = run(alloc, "undo", &mut disk)?;
+    assert_eq!(rt;
+        run(alloc, "export", &mut disk)?.out.bytes(),
+        b"[\n]\n".as_slice()
     );
     Ok(())
 }
