@@ -25,13 +25,17 @@ fn as_str(text: &Option<String>) -> Option<&str> {
     }
 }
 
-/// The journal's file in a folder. What is not there is made, and stands when the machine stops.
-pub fn open_journal(rt: &HostRuntime, alloc: Global, folder: &str) -> io::Result<FileDisk> {
-    let path = format!(in alloc; "{}/replica.journal", folder)?;
-    match OpenOptions::new().read(true).write(true).open(rt, &path) {
+/// The path of the journal in a folder.
+pub fn journal_path(alloc: Global, folder: &str) -> Result<String, StartError> {
+    Ok(format!(in alloc; "{}/replica.journal", folder)?)
+}
+
+/// The journal's file. What is not there is made, and stands when the machine stops.
+pub fn open_journal(rt: &HostRuntime, folder: &str, path: &str) -> io::Result<FileDisk> {
+    match OpenOptions::new().read(true).write(true).open(rt, path) {
         Ok(file) => FileDisk::new(file),
         Err(error) if error.kind() == io::ErrorKind::NotFound => {
-            FileDisk::new(make_journal(rt, folder, path.as_str())?)
+            FileDisk::new(make_journal(rt, folder, path)?)
         }
         Err(error) => Err(error),
     }

@@ -77,7 +77,7 @@ module _ {D : Type 0} (m : DiskModel D) where
 
   -- a uuid that has a task is taken
   pub is_taken : (u text : List ℕ) (now : Moment) (d0 d1 : D) (r : Replica) → (Tells m d0 → IsOpenedReplica m d0 d1 r) → is_some (get (held_state r).tasks u) ≡ true → IsTaken m (Add u text now) d0 d1 u
-  is_taken u text now d0 d1 r opened taken = record { text = text; add = (now, refl); state = held_state r; taken = taken; stays = stays_open m d0 d1 r opened }
+  is_taken u text now d0 d1 r opened taken = record { text = text; now = now; add = refl; state = held_state r; taken = taken; stays = stays_open m d0 d1 r opened }
 
   pub not_taken : (u text : List ℕ) (now : Moment) (d0 d1 : D) (r : Replica) → (Tells m d0 → IsOpenedReplica m d0 d1 r) → is_some (get (held_state r).tasks u) ≡ true → CanBeCarriedOut m (Add u text now) d0 d1 → ⊥
   not_taken u text now d0 d1 r opened taken can =
