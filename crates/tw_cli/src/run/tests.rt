@@ -213,10 +213,10 @@ fn a_uuid_is_drawn_once_only(rt: HostRuntime) -> Result<(), Fail> {
 #[test]
 fn each_undo_takes_one_add_back(rt: HostRuntime) -> Result<(), Fail> {
     let alloc = rt.alloc();
-    for adds in 0..4 {
+    for adds in 0..4u64 {
         let mut disk = empty_disk(alloc, &[])?;
         for first in 0..adds {
-            let _ = run_from(alloc, first, "add|Buy|milk", &mut disk, &[])?;
+            let _ = run_from(alloc, first as u128, "add|Buy|milk", &mut disk, &[])?;
         }
         for left in (0..adds).rev() {
             assert_eq!(rt; run(alloc, "undo", &mut disk)?.outcome.status, 0);
