@@ -1,5 +1,5 @@
 -- A text of a form is ASCII where the form is.
-use Rattle.std.proofs.Common.{◌≡◌, ℕ, ◌^◌, ◌/◌, ◌<◌, List, [], ◌∷◌, Bool, true, false, Option, Some, None, arith, nat_lt, ◌&&◌}
+use Rattle.std.proofs.Common.{◌≡◌, ℕ, ◌^◌, ◌/◌, ◌<◌, List, [], ◌∷◌, true, Option, Some, None, arith, nat_lt}
 use Rattle.std.specs.List.{list_all}
 use Rattle.std.specs.Str.{IsAscii}
 use Rattle.std.proofs.lemmas.Nat.{mod_below}

@@ -14,7 +14,7 @@ use Rattle.tw_time.specs.Basic.{parts_of}
 use Rattle.tw_time.specs.Extended.{civil_second, second_of_parts}
 use Rattle.tw_time.proofs.CivilFacts.{date_of-date, time_of-time, second_in_range_is}
 
-pos_abs : (z : ℤ) → pos 0 ≤ℤ z → pos (unsigned_abs z) ≡ z
+pub pos_abs : (z : ℤ) → pos 0 ≤ℤ z → pos (unsigned_abs z) ≡ z
 pos_abs (pos n) h = refl
 pos_abs (negsuc n) h = absurd (omega (arith, signed_arith))
 

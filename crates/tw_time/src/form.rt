@@ -1,6 +1,6 @@
 ghost use Rattle.std.specs.Prelude.{◌≡◌, ◌<◌, ◌≤◌, IfOk};
 ghost use Rattle.tw_time.specs.Civil.{limit};
-ghost use Rattle.tw_time.specs.Forms.{put, filled, with_digit, digit_at};
+ghost use Rattle.tw_time.specs.Forms.{put, filled, with_digit, digit_at, is_digit_place};
 ghost use Rattle.tw_time.specs.Placed.{at_civil};
 
 use crate::calendar::{date_of, time_of};
@@ -48,7 +48,11 @@ fn put(letter: u8, byte: u8, parts: Parts) -> Option<Parts>
     ensures { result ≡ put letter byte parts }
 {
     if !byte.is_ascii_digit() {
-        return if letter == byte { Some(parts) } else { None };
+        return if letter == byte && !is_digit_place(letter) {
+            Some(parts)
+        } else {
+            None
+        };
     }
     match letter {
         b'Y' => Some(Parts {
@@ -77,6 +81,18 @@ fn put(letter: u8, byte: u8, parts: Parts) -> Option<Parts>
         }),
         _ => None,
     }
+}
+
+// Whether a character of a form stands for a digit.
+fn is_digit_place(letter: u8) -> bool
+    ensures { result ≡ is_digit_place letter }
+{
+    letter == b'Y'
+        || letter == b'M'
+        || letter == b'D'
+        || letter == b'h'
+        || letter == b'm'
+        || letter == b's'
 }
 
 // The last four digits of a number with a digit after it.
