@@ -1,7 +1,9 @@
 // The answer to a request.
-ghost use Rattle.std.specs.Prelude.{◌≡◌, ◌<◌, false, length, List, ℕ, IfOk, IfErr, OnErr};
+ghost use Rattle.std.specs.Prelude.{◌≡◌, ◌<◌, true, false, length, List, ℕ, Err, IfOk, IfErr, OnErr};
 ghost use Rattle.tw_world.specs.Disk.{LeavesOnly, Kept, Untouched};
 ghost use Rattle.tw_http.specs.declared.message.Request.TheVariants as asks;
+ghost use Rattle.tw_journal.specs.declared.journal.JournalError.TheVariants as journal_error;
+ghost use Rattle.tw_server.specs.declared.server.ServerError.TheVariants as server_error;
 ghost use Rattle.tw_server.specs.Log.{Accepted, added, told};
 ghost use Rattle.tw_server.specs.Server.{drawn_id, IsServerOn, IsAnswer, LogOrMore, AnswerRefused, is_closed, server_end};
 
@@ -20,7 +22,8 @@ impl Server {
     /// version durable first. Only an accepted add-version draws an id.
     ///
     /// A crash at any moment leaves the versions from before the call, or with the new one.
-    /// A refusal leaves the versions and the ids; after a fault of the disk in an append the server is closed.
+    /// A refusal leaves the ids, and the versions on a server that it leaves open; after a fault of the disk in an
+    /// append the server is closed.
     pub fn answer<D: Disk>(
         &mut self,
         alloc: Global,
@@ -37,6 +40,8 @@ impl Server {
 
         ensures refused { IfErr result (AnswerRefused D.model self.old self.new disk.old disk.new) }
         ensures no_id { OnErr result (ids.new ≡ ids.old) }
+        ensures stays { OnErr result ((log : List Accepted) → IsServerOn D.model self.old disk.old log → is_closed self.new ≡ false → IsServerOn D.model self.new disk.new log) }
+        ensures closed { is_closed self.old ≡ true → result ≡ Err (server_error.Journal journal_error.Closed) }
     {
         if self.journal.is_closed() {
             return Err(ServerError::Journal(JournalError::Closed));
@@ -71,6 +76,7 @@ impl Server {
 
         ensures refused { IfErr result (AnswerRefused D.model self.old self.new disk.old disk.new) }
         ensures no_id { OnErr result (ids.new ≡ ids.old) }
+        ensures stays { OnErr result ((log : List Accepted) → IsServerOn D.model self.old disk.old log → is_closed self.new ≡ false → IsServerOn D.model self.new disk.new log) }
     {
         let latest = self.latest(client);
         if latest != parent {
