@@ -4,3 +4,5 @@ pub mod Refusals
 pub mod Places
 pub mod Adds
 pub mod Openings
+pub mod Messages
+pub mod Ends

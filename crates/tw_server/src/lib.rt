@@ -5,9 +5,12 @@
 
 mod answer;
 mod entry;
+mod message;
 mod open;
+mod serve;
 mod server;
 
+pub use serve::{ServeEnd, serve_one};
 pub use server::{Server, ServerError};
 
 #[cfg(test)]

@@ -1,0 +1,152 @@
+// One connection.
+ghost use Rattle.std.specs.Prelude.{◌≡◌, true, false, List, ℕ, IsTrue, Result, Ok, Err};
+ghost use Rattle.tw_world.specs.Disk.{Kept};
+ghost use Rattle.tw_world.specs.Peer.{SameHeld, sink_of};
+ghost use Rattle.tw_world.specs.Sink.{SinkKept};
+ghost use Rattle.tw_http.specs.declared.message.HttpError.{HttpError};
+ghost use Rattle.tw_http.specs.declared.message.Request.{Request};
+ghost use Rattle.tw_http.specs.Messages.{status_of};
+ghost use Rattle.tw_http.specs.Serving.{refusal_of};
+ghost use Rattle.tw_server.specs.Log.{Accepted};
+ghost use Rattle.tw_server.specs.Message.{IsMessage};
+ghost use Rattle.tw_server.specs.Serve.{IfServed, IfSilent, IsSent, IsServed, IsStep, ServeEnded};
+ghost use Rattle.tw_server.specs.Server.{IsServerOn, drawn_id, is_closed, server_end};
+ghost use Rattle.tw_server.specs.Ends.{end_of};
+ghost use Rattle.tw_server.specs.declared.serve.ServeEnd.TheVariants.{Closed};
+
+use crate::message::read_message;
+use crate::server::{Server, ServerError};
+use std::alloc::Global;
+use tw_http::{HttpError, Request, Response, write_response};
+use tw_journal::JournalError;
+use tw_world::{Disk, IdWords, Peer};
+
+/// How the serving of a connection ends.
+#[derive(Clone, Copy, Debug, PartialEq, Eq, Drop)]
+pub enum ServeEnd {
+    /// A response of this status was written.
+    Served { status: u16 },
+    /// The peer failed. A version may have been added; of the response a front part may be written.
+    PeerFault,
+    /// The disk failed. After an append the server is closed.
+    DiskFault,
+    /// A fault of the disk closed the server before, and the message is a request.
+    Closed,
+    /// The bytes at this place of the file are no record.
+    Damaged { offset: u64 },
+    /// There was no memory. A version may have been added.
+    Memory,
+}
+
+/// Serves one connection: reads one message, answers it as the protocol does and writes the one text of the answer
+/// (TaskChampion book, "HTTP Representation").
+///
+/// The message is the shortest front part of the peer's bytes that is a request or is refused; what is no request is
+/// answered 400, or 413 where it is too long, and so is an input that ends inside a message. A version stands before
+/// its answer is written. Nothing is written on an end other than `Served` and `PeerFault`.
+/// Reading takes at most 4,096 bytes at a time, and may take some behind the message.
+pub fn serve_one<P: Peer, D: Disk>(
+    alloc: Global,
+    peer: &mut P,
+    disk: &mut D,
+    server: &mut Server,
+    ids: &mut IdWords,
+) -> ServeEnd
+    requires { is_closed server.old ≡ false → D.model.len disk.old ≡ server_end server.old }
+
+    ensures served { IfServed result (λ status. IsTrue (P.model.tells peer.old) → (log : List Accepted) → IsServerOn D.model server.old disk.old log → (answer : Result Request HttpError) × IsMessage (P.model.rest peer.old) answer × IsServed D.model server.old server.new disk.old disk.new P.model peer.old peer.new log ids.old ids.new answer status) }
+    ensures step { (log : List Accepted) → IsServerOn D.model server.old disk.old log → IsStep D.model server.old server.new disk.old disk.new log (λ request. IsTrue (P.model.tells peer.old) → IsMessage (P.model.rest peer.old) (Ok request)) (drawn_id ids.old.start) }
+    ensures length { is_closed server.new ≡ false → D.model.len disk.new ≡ server_end server.new }
+    ensures kept { Kept D.model disk.old disk.new }
+
+    ensures ended { ServeEnded D.model server.old server.new disk.old disk.new P.model peer.old peer.new (IsTrue (P.model.tells peer.old) → (request : Request) × IsMessage (P.model.rest peer.old) (Ok request)) result }
+    ensures silent { IfSilent result (SameHeld P.model peer.old peer.new) }
+    ensures closed { is_closed server.old ≡ true → IfServed result (λ status. IsTrue (P.model.tells peer.old) → (e : HttpError) × IsMessage (P.model.rest peer.old) (Err e) × (status ≡ status_of (refusal_of e))) }
+{
+    match read_message(alloc, peer) {
+        Ok(Ok(request)) => serve_request(alloc, peer, disk, server, &request, ids),
+        Ok(Err(error)) => send(alloc, peer, &refusal_of(error)),
+        Err(end) => end,
+    }
+}
+
+// Answers a request.
+fn serve_request<P: Peer, D: Disk>(
+    alloc: Global,
+    peer: &mut P,
+    disk: &mut D,
+    server: &mut Server,
+    request: &Request,
+    ids: &mut IdWords,
+) -> ServeEnd
+    requires { is_closed server.old ≡ false → D.model.len disk.old ≡ server_end server.old }
+
+    ensures served { IfServed result (λ status. IsTrue (P.model.tells peer.old) → (log : List Accepted) → IsServerOn D.model server.old disk.old log → IsServed D.model server.old server.new disk.old disk.new P.model peer.old peer.new log ids.old ids.new (Ok request.now) status) }
+    ensures step { (log : List Accepted) → IsServerOn D.model server.old disk.old log → IsStep D.model server.old server.new disk.old disk.new log (λ r. r ≡ request.now) (drawn_id ids.old.start) }
+    ensures length { is_closed server.new ≡ false → D.model.len disk.new ≡ server_end server.new }
+    ensures kept { Kept D.model disk.old disk.new }
+
+    ensures ended { ServeEnded D.model server.old server.new disk.old disk.new P.model peer.old peer.new (Unit {0}) result }
+    ensures silent { IfSilent result (SameHeld P.model peer.old peer.new) }
+    ensures closed { is_closed server.old ≡ true → result ≡ Closed }
+{
+    match server.answer(alloc, disk, request, ids) {
+        Ok(response) => send(alloc, peer, &response),
+        Err(error) => end_of(error),
+    }
+}
+
+// Writes a response.
+fn send<P: Peer>(alloc: Global, peer: &mut P, response: &Response) -> ServeEnd
+    ensures sent { IsSent P.model peer.old peer.new response.now result }
+    ensures kept { SinkKept (sink_of P.model) peer.old peer.new }
+{
+    let Ok(text) = write_response(alloc, response) else {
+        return ServeEnd::Memory;
+    };
+    if peer.write_all(text.as_slice()).is_err() {
+        return ServeEnd::PeerFault;
+    }
+    ServeEnd::Served {
+        status: status_of(response),
+    }
+}
+
+fn status_of(response: &Response) -> u16
+    ensures { result ≡ status_of response.now }
+{
+    match response {
+        Response::Added { .. } => 200,
+        Response::Conflict { .. } => 409,
+        Response::Child { .. } => 200,
+        Response::UpToDate => 404,
+        Response::Gone => 410,
+        Response::Bad => 400,
+        Response::TooLong => 413,
+        Response::Taken => 500,
+    }
+}
+
+// The response to a message that is no request, or that ends too early.
+fn refusal_of(error: HttpError) -> Response
+    ensures { result ≡ refusal_of error }
+{
+    match error {
+        HttpError::TooLong => Response::TooLong,
+        _ => Response::Bad,
+    }
+}
+
+// The end where a request is not answered. No request that is read has a record that is too long.
+fn end_of(error: ServerError) -> ServeEnd
+    ensures { result ≡ end_of error }
+{
+    match error {
+        ServerError::Journal(JournalError::Disk) => ServeEnd::DiskFault,
+        ServerError::Journal(JournalError::Closed) => ServeEnd::Closed,
+        ServerError::Journal(JournalError::Damaged { offset }) => ServeEnd::Damaged { offset },
+        ServerError::Journal(JournalError::TooLong { .. }) => ServeEnd::Memory,
+        ServerError::Journal(JournalError::Memory) => ServeEnd::Memory,
+        ServerError::Memory => ServeEnd::Memory,
+    }
+}
