@@ -1,6 +1,6 @@
 // One connection.
 ghost use Rattle.std.specs.Prelude.{◌≡◌, true, false, List, ℕ, IsTrue, Result, Ok, Err};
-ghost use Rattle.tw_world.specs.Disk.{Kept};
+ghost use Rattle.tw_world.specs.Disk.{Kept, Rose};
 ghost use Rattle.tw_world.specs.Peer.{SameHeld, sink_of};
 ghost use Rattle.tw_world.specs.Sink.{SinkKept};
 ghost use Rattle.tw_http.specs.declared.message.HttpError.{HttpError};
@@ -9,7 +9,7 @@ ghost use Rattle.tw_http.specs.Messages.{status_of};
 ghost use Rattle.tw_http.specs.Serving.{refusal_of};
 ghost use Rattle.tw_server.specs.Log.{Accepted};
 ghost use Rattle.tw_server.specs.Message.{IsMessage};
-ghost use Rattle.tw_server.specs.Serve.{IfServed, IfSilent, IsSent, IsServed, IsStep, ServeEnded};
+ghost use Rattle.tw_server.specs.Serve.{IfServed, IfSilent, IsSent, IsServed, IsServedOrShort, IsStep, ServeEnded};
 ghost use Rattle.tw_server.specs.Server.{IsServerOn, drawn_id, is_closed, server_end};
 ghost use Rattle.tw_server.specs.Ends.{end_of};
 ghost use Rattle.tw_server.specs.declared.serve.ServeEnd.TheVariants.{Closed};
@@ -43,7 +43,8 @@ pub enum ServeEnd {
 ///
 /// The message is the shortest front part of the peer's bytes that is a request or is refused; what is no request is
 /// answered 400, or 413 where it is too long, and so is an input that ends inside a message. A version stands before
-/// its answer is written. Nothing is written on an end other than `Served` and `PeerFault`.
+/// its answer is written. Nothing is written on an end other than `Served` and `PeerFault`. Where neither the peer nor
+/// the disk fails, a server that stands on its disk ends it by `Served`, or by `Memory`.
 /// Reading takes at most 4,096 bytes at a time, and may take some behind the message.
 pub fn serve_one<P: Peer, D: Disk>(
     alloc: Global,
@@ -60,6 +61,7 @@ pub fn serve_one<P: Peer, D: Disk>(
     ensures kept { Kept D.model disk.old disk.new }
 
     ensures ended { ServeEnded D.model server.old server.new disk.old disk.new P.model peer.old peer.new (IsTrue (P.model.tells peer.old) → (request : Request) × IsMessage (P.model.rest peer.old) (Ok request)) result }
+    ensures complete { (log : List Accepted) → IsServerOn D.model server.old disk.old log → (Rose (P.model.faults peer.old) (P.model.faults peer.new) → ⊥) → (Rose (D.model.faults disk.old) (D.model.faults disk.new) → ⊥) → IsServedOrShort result }
     ensures silent { IfSilent result (SameHeld P.model peer.old peer.new) }
     ensures closed { is_closed server.old ≡ true → IfServed result (λ status. IsTrue (P.model.tells peer.old) → (e : HttpError) × IsMessage (P.model.rest peer.old) (Err e) × (status ≡ status_of (refusal_of e))) }
 {
