@@ -1,0 +1,5 @@
+use Rattle.tw_sync.proofs.Steps.{commit_agrees}
+use Rattle.tw_sync.proofs.laws.commit_agrees.Goals as goal
+
+pub returns : goal.returns
+returns c = commit_agrees

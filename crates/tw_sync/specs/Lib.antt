@@ -1,0 +1,5 @@
+pub mod Fold
+pub mod Positions
+pub mod End
+pub mod Steps
+pub mod Laws

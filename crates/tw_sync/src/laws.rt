@@ -1,0 +1,87 @@
+//! Laws of chains, positions and ends of a sync. Each function does nothing: its contract is the law.
+ghost use Rattle.tw_sync.specs.Laws.{NewReplicaAgrees, AgreesIsKept, FoldIsOne, PendingActsOnTheFold, AgreeingReplicasAreEqual, AddedVersionCancels, SyncEndAgrees};
+ghost use Rattle.tw_sync.specs.Positions.{ChainStarts, ChainPulls, ChainFits, ChainPushes, OwnVersionsCancelAt, OwnVersionCancelsIn, OwnVersionsCancelEachTime};
+ghost use Rattle.tw_sync.specs.Steps.{CommitAgrees, UndoAgrees};
+
+/// A new replica agrees with every chain.
+pub fn a_new_replica_agrees()
+    ensures { NewReplicaAgrees }
+{}
+
+/// A replica that agrees with a chain agrees with it when it has grown.
+pub fn agrees_is_kept()
+    ensures { AgreesIsKept }
+{}
+
+/// A chain is folded to a version in one way.
+pub fn fold_is_one()
+    ensures { FoldIsOne }
+{}
+
+/// The tasks of a replica that agrees with a chain are the chain folded to its base, then what is pending.
+pub fn pending_acts_on_the_fold()
+    ensures { PendingActsOnTheFold }
+{}
+
+/// Replicas that agree with one chain, stand at one version and have nothing pending hold the same tasks,
+/// and so print the same export.
+pub fn agreeing_replicas_are_equal()
+    ensures { AgreeingReplicasAreEqual }
+{}
+
+/// With no version pulled the local list is left as it is.
+pub fn chain_starts()
+    ensures { ChainStarts }
+{}
+
+/// One version more is pulled over what was left.
+pub fn chain_pulls()
+    ensures { ChainPulls }
+{}
+
+/// What is left fits the chain folded to where the replica stands.
+pub fn chain_fits()
+    ensures { ChainFits }
+{}
+
+/// A version that is added behind a chain acts on the fold of the chain.
+pub fn chain_pushes()
+    ensures { ChainPushes }
+{}
+
+/// Where what was sent comes back, of later operations the rest is left, and of those that were sent none.
+pub fn own_versions_cancel_at()
+    ensures { OwnVersionsCancelAt }
+{}
+
+/// Where the version that a refused sync added is pulled, nothing is left of what it was made from.
+pub fn own_version_cancels_in()
+    ensures { OwnVersionCancelsIn }
+{}
+
+/// After any number of refused syncs whose versions were added, each sends what is left of the operations
+/// since the one before, and none of them again.
+pub fn own_versions_cancel_each_time()
+    ensures { OwnVersionsCancelEachTime }
+{}
+
+/// Once the version that a refused sync added is pulled, of what was pending then nothing is left, and of
+/// later operations what is not overruled.
+pub fn added_version_cancels()
+    ensures { AddedVersionCancels }
+{}
+
+/// A commit leaves a replica in agreement with the chains that it agreed with.
+pub fn commit_agrees()
+    ensures { CommitAgrees }
+{}
+
+/// An undo leaves a replica in agreement with the chains that it agreed with.
+pub fn undo_agrees()
+    ensures { UndoAgrees }
+{}
+
+/// A sync of a replica that agrees with the chain ends in one that agrees with it.
+pub fn sync_end_agrees()
+    ensures { SyncEndAgrees }
+{}
