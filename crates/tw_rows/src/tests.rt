@@ -1,0 +1,88 @@
+// Runs of command lines over damaged stores.
+
+use std::alloc::Global;
+use std::test::Fail;
+use tw_cli::{Cause, task_run};
+use tw_world::{IdWords, MemoryDisk, MemorySink, Moment};
+
+// Where the three records of a store of two added tasks begin, by the format of the journal: the magic has 13 bytes, and the
+// commit of a task `Buy milk` 250.
+const RECORDS: [u64; 3] = [0, 13, 263];
+
+// Runs a line of words that are parted by bars, with identifiers from `first` on, and answers how it ended and what it printed.
+fn run(
+    alloc: Global,
+    first: u128,
+    line: &str,
+    disk: &mut MemoryDisk,
+) -> Result<(Cause, MemorySink), Fail> {
+    let mut words = Vec::new(alloc);
+    for word in line.split('|') {
+        words.push(String::from_str(alloc, word)?)?;
+    }
+    let Some(now) = Moment::new(1_700_000_000, 0) else {
+        return Err(Fail::new("no moment"));
+    };
+    let mut ids = IdWords {
+        start: first,
+        step: 1,
+    };
+    let mut out = MemorySink::new(alloc, Vec::new(alloc), Vec::new(alloc))?;
+    let mut err = MemorySink::new(alloc, Vec::new(alloc), Vec::new(alloc))?;
+    let outcome = task_run(alloc, &words, now, &mut ids, disk, &mut out, &mut err);
+    Ok((outcome.cause, out))
+}
+
+fn disk_of(alloc: Global, bytes: Vec<u8>) -> Result<MemoryDisk, Fail> {
+    if bytes.len() >= 1 << 20 {
+        return Err(Fail::new("a store of two tasks is small"));
+    }
+    Ok(MemoryDisk::new(alloc, bytes, Vec::new(alloc))?)
+}
+
+// The damage of a store whose byte at this place is 255: at the record that has the byte. Where it is the last byte of the length
+// of the first commit, the record takes ten bytes of the next one, and what stands behind them is no gate.
+fn damage_at(place: u64) -> u64 {
+    if place == 17 {
+        273
+    } else if place < RECORDS[1] {
+        RECORDS[0]
+    } else if place < RECORDS[2] {
+        RECORDS[1]
+    } else {
+        RECORDS[2]
+    }
+}
+
+#[test]
+fn a_byte_of_255_is_damage_at_its_record_or_changes_no_task(rt: HostRuntime) -> Result<(), Fail> {
+    let alloc = rt.alloc();
+    let mut whole = disk_of(alloc, Vec::new(alloc))?;
+    let _ = run(alloc, 1, "add|Buy|milk", &mut whole)?;
+    let _ = run(alloc, 2, "add|Buy|milk", &mut whole)?;
+    assert_eq!(rt; whole.bytes().len(), 513);
+    let mut taken: u64 = 0;
+    for place in 0..whole.bytes().len() {
+        let mut bytes = whole.bytes().to_vec(alloc)?;
+        if place < bytes.len() {
+            bytes[place] = 255;
+        }
+        let mut disk = disk_of(alloc, bytes)?;
+        match run(alloc, 3, "count", &mut disk)? {
+            (Cause::Done, out) => {
+                assert_eq!(rt; out.bytes(), b"2\n".as_slice(), "byte {place}");
+                taken = u64::saturating_add(taken, 1);
+            }
+            (Cause::Damaged { offset }, _) => assert_eq!(rt;
+                offset,
+                damage_at(place as u64),
+                "byte {place}"
+            ),
+            _ => return Err(Fail::new("another cause")),
+        }
+    }
+    // Of each of the eight moments seven bytes may be 255 and leave it in range: the last four of the seconds, and the last three
+    // of the nanoseconds.
+    assert_eq!(rt; taken, 8 * 7);
+    Ok(())
+}
