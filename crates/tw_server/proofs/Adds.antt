@@ -20,7 +20,8 @@ use Rattle.tw_http.specs.declared.message.Request.TheVariants.{Add, Child}
 use Rattle.tw_http.specs.declared.message.Response.TheVariants as responses
 use Rattle.tw_http.specs.Serving.{response_of}
 use Rattle.tw_server.specs.Log.{Accepted, HasUuids, chain_of, body_of, bodies_of, entry_of, accepted_for, added, told}
-use Rattle.tw_server.specs.Server.{magic, drawn_id, is_held, IsServerOn, IsAnswer, LogOrMore}
+use Rattle.tw_server.specs.Server.{magic, drawn_id, IsServerOn, IsAnswer, LogOrMore}
+use Rattle.tw_server.specs.Versions.{is_held}
 use Rattle.tw_server.specs.declared.server.Server.{Server}
 use Rattle.tw_server.proofs.Logs.{sound-push, list_any-held}
 use Rattle.tw_server.specs.declared.entry.Entry.{Entry}
@@ -119,7 +120,7 @@ module _ {D : Type 0} (m : DiskModel D) (client parent segment : List ℕ) where
   pub added_answer : (before server : Server) (first disk : D) (log : List Accepted) (old new : IdWords) (last : List ℕ) → IsServerOn m before first log → length client ≡ 16 → last ≡ latest (chain_of client log) → same_id last parent ≡ true
       → has_id (drawn_id old.start) (chain_of client log) ≡ false → IsUuid (drawn_id old.start) → same_id (drawn_id old.start) zero_bytes ≡ false → new.start ≡ (old.start + old.step) % 2 ^ 128 → new.step ≡ old.step
       → IsOpenOn m magic server.journal disk (bodies_of log ++ body_of (accepted_for client (version (drawn_id old.start) parent segment)) ∷ [])
-      → server.entries.items ≡ map entry_of log ++ entry_of (accepted_for client (version (drawn_id old.start) parent segment)) ∷ []
+      → server.versions.entries.items ≡ map entry_of log ++ entry_of (accepted_for client (version (drawn_id old.start) parent segment)) ∷ []
       → IsAnswer m server disk log (Add client parent segment) old new (responses.Added (drawn_id old.start))
   added_answer before server first disk log old new last on long is same fresh uuid real start step open_on entries =
       let chain = chain_of client log in

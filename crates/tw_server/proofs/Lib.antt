@@ -1,3 +1,4 @@
+pub mod Found
 pub mod Logs
 pub mod Disks
 pub mod Refusals
@@ -6,3 +7,4 @@ pub mod Adds
 pub mod Openings
 pub mod Messages
 pub mod Ends
+pub mod Growing

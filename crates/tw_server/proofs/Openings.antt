@@ -22,7 +22,8 @@ use Rattle.tw_server.specs.declared.server.Server.{Server}
 use Rattle.tw_server.specs.Faults.{error_of}
 use Rattle.tw_server.specs.Log.{Accepted, HasUuids, IsSound, chain_of, body_of, bodies_of, entry_of, accepted_in, is_body, is_next_entry, follows}
 use Rattle.std.specs.List.{list_any}
-use Rattle.tw_server.specs.Server.{magic, is_held, IsReadTo, IsBadBody, IsOpenedOn, TakeRefused, ServerOpenRefused}
+use Rattle.tw_server.specs.Versions.{is_held}
+use Rattle.tw_server.specs.Server.{magic, IsReadTo, IsBadBody, IsOpenedOn, TakeRefused, ServerOpenRefused}
 use Rattle.tw_server.proofs.Logs.{sound-push, list_any-held}
 
 -- a read is never refused as damaged where the journal is open
@@ -83,7 +84,7 @@ not_true false e = refl
 
 -- the next body is read
 pub read_on : (server next : Server) (bodies : List (List ℕ)) (n : ℕ) (body : List ℕ) (read : IsReadTo server bodies n) → n < length bodies → body ≡ get_or bodies n [] → All (λ b. b < 256) body → follows read.log body ≡ true
-    → next.entries.items ≡ server.entries.items ++ entry_of (accepted_in body) ∷ [] → IsReadTo next bodies (n + 1)
+    → next.versions.entries.items ≡ server.versions.entries.items ++ entry_of (accepted_in body) ∷ [] → IsReadTo next bodies (n + 1)
 read_on server next bodies n body read inside is small ok entries =
     let log = read.log in
     let a = accepted_in body in

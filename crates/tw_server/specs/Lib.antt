@@ -4,3 +4,6 @@ pub mod Log
 pub mod Message
 pub mod Serve
 pub mod Server
+pub mod Versions
+pub mod Room
+pub mod Laws

@@ -1,12 +1,10 @@
 -- A server on its disk, and why it refuses.
-use Rattle.std.specs.Prelude.{◌≡◌, ◌⊎◌, ℕ, ◌+◌, ◌%◌, ◌<◌, ◌^◌, ◌&&◌, Bool, true, false, List, [], ◌∷◌, ◌++◌, codes, length, take, slice_index_or, map, if◌then◌else◌}
+use Rattle.std.specs.Prelude.{◌≡◌, ◌⊎◌, ℕ, ◌+◌, ◌%◌, ◌<◌, ◌^◌, Bool, true, false, List, [], ◌∷◌, ◌++◌, codes, length, take, slice_index_or, map, if◌then◌else◌}
 use Rattle.tw_world.specs.Disk.{DiskModel, Tells, Rose}
 use Rattle.tw_journal.specs.Journal.{IsOpenOn, is_closed as is_journal_closed, journal_end}
 use Rattle.tw_journal.specs.Open.{Records, IsDamagedAt}
 use Rattle.tw_journal.specs.Record.{rows}
 use Rattle.tw_journal.specs.declared.journal.JournalError.TheVariants as journal
-use Rattle.tw_protocol.specs.Chain.{same_id}
-use Rattle.tw_server.specs.declared.entry.Entry.{Entry}
 use Rattle.tw_server.specs.declared.server.Server.{Server}
 use Rattle.tw_server.specs.declared.server.ServerError.{ServerError}
 use Rattle.tw_server.specs.declared.server.ServerError.TheVariants.{Journal, Memory}
@@ -24,12 +22,12 @@ magic = codes "TWSERV01"
 -- the disk holds the records of these versions and no others, each client's are a chain, and the server knows them
 pub record IsServerOn {D : Type 0} (m : DiskModel D) (server : Server) (disk : D) (log : List Accepted) : Type 0 where
   pub journal : IsOpenOn m magic server.journal disk (bodies_of log)
-  pub entries : server.entries.items ≡ map entry_of log
+  pub entries : server.versions.entries.items ≡ map entry_of log
   pub sound : IsSound log
 
 -- the server knows these versions
 abbrev pub Knows : Server → List Accepted → Type 0
-Knows server log = server.entries.items ≡ map entry_of log
+Knows server log = server.versions.entries.items ≡ map entry_of log
 
 -- whether a fault of the disk has closed it
 abbrev pub is_closed : Server → Bool
@@ -42,18 +40,6 @@ server_end server = journal_end server.journal
 -- the file has the records of these versions, or of these and more
 abbrev pub LogOrMore : List Accepted → List Accepted → List ℕ → Type 0
 LogOrMore log more file = Records magic file (bodies_of log) ⊎ Records magic file (bodies_of (log ++ more))
-
--- the id of a client's last version among entries, or this one where there is none
-abbrev pub latest_in : List ℕ → List ℕ → List Entry → List ℕ
-latest_in client h [] = h
-latest_in client h (e ∷ es) = if same_id e.client client then latest_in client e.id es else latest_in client h es
-
--- whether an entry is this client's and has this id, or this parent
-abbrev pub is_held : List ℕ → List ℕ → Entry → Bool
-is_held client id e = same_id e.client client && same_id e.id id
-
-abbrev pub is_child : List ℕ → List ℕ → Entry → Bool
-is_child client parent e = same_id e.client client && same_id e.parent parent
 
 -- whether a request is an accepted add-version
 abbrev pub is_accepted : List Accepted → Request → Bool
@@ -89,7 +75,7 @@ AnswerRefused m old new before after Memory = new.journal ≡ old.journal
 -- the server knows the versions of the first so many bodies
 pub record IsReadTo (server : Server) (bodies : List (List ℕ)) (n : ℕ) : Type 0 where
   pub log : List Accepted
-  pub entries : server.entries.items ≡ map entry_of log
+  pub entries : server.versions.entries.items ≡ map entry_of log
   pub same : bodies_of log ≡ take n bodies
   pub sound : IsSound log
 

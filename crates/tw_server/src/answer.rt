@@ -87,15 +87,15 @@ impl Server {
             step: ids.step,
         };
         let id = Uuid::from_bytes(drawn.next());
-        if self.has_id(client, id) {
+        if self.versions.has_id(client, id) {
             *ids = drawn;
             return Ok(Response::Taken);
         }
         let entry = Entry { client, id, parent };
         let body = body_of(alloc, &entry, segment)?;
-        self.entries.reserve(1)?;
+        self.versions.make_room(&entry)?;
         self.journal.append(disk, body.as_slice())?;
-        self.entries.push_reserved(entry);
+        self.versions.push(entry);
         *ids = drawn;
         Ok(Response::Added { id })
     }
@@ -115,9 +115,9 @@ impl Server {
         ensures untouched { Untouched D.model disk.old disk.new }
         ensures refused { IfErr result (AnswerRefused D.model self.now self.now disk.old disk.new) }
     {
-        match self.child_place(client, parent) {
+        match self.versions.child(client, parent) {
             Some(n) => {
-                let id = self.entries[n].id;
+                let id = self.versions.entries[n].id;
                 let segment = self.segment(alloc, disk, n as u64)?;
                 Ok(Response::Child {
                     id,
@@ -137,7 +137,7 @@ impl Server {
 
     // The segment of the version with this number.
     fn segment<D: Disk>(&self, alloc: Global, disk: &mut D, n: u64) -> Result<Bytes, ServerError>
-        requires known { n < length self.now.entries.items }
+        requires known { n < length self.now.versions.entries.items }
         requires open { is_closed self.now ≡ false }
         requires length { D.model.len disk.old ≡ server_end self.now }
 

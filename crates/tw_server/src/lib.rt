@@ -5,10 +5,12 @@
 
 mod answer;
 mod entry;
+pub mod laws;
 mod message;
 mod open;
 mod serve;
 mod server;
+mod versions;
 
 pub use serve::{ServeEnd, serve_one};
 pub use server::{Server, ServerError};

@@ -8,6 +8,7 @@ ghost use Rattle.tw_server.specs.Server.{magic, Knows, IsReadTo, IsOpenedOn, Tak
 
 use crate::entry::{Entry, read_entry};
 use crate::server::{Server, ServerError};
+use crate::versions::Versions;
 use std::alloc::Global;
 use tw_journal::{Journal, JournalError};
 use tw_world::Disk;
@@ -34,7 +35,7 @@ impl Server {
         let count = journal.count();
         let mut server = Server {
             journal,
-            entries: Vec::new(alloc),
+            versions: Versions::new(alloc),
         };
         for n in 0..count {
             server.take_body(alloc, disk, n)?;
@@ -60,8 +61,8 @@ impl Server {
             let offset = self.journal.offset(disk, n)?;
             return Err(ServerError::Journal(JournalError::Damaged { offset }));
         };
-        self.entries.reserve(1)?;
-        self.entries.push_reserved(entry);
+        self.versions.make_room(&entry)?;
+        self.versions.push(entry);
         Ok(())
     }
 
@@ -85,7 +86,7 @@ impl Server {
         if entry.id == Uuid::nil() {
             return false;
         }
-        if self.has_id(entry.client, entry.id) {
+        if self.versions.has_id(entry.client, entry.id) {
             return false;
         }
         self.latest(entry.client) == entry.parent

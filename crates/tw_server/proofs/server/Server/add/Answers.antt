@@ -15,7 +15,7 @@ pub returns-then-has_id-clause-answered : goal.returns-then-has_id-clause-answer
 returns-then-has_id-clause-answered g c log on =
     let id_is = c.from_bytes-id.ensures ∙ c.next.ensures.id ∙ sym (drawn_is c.args.ids.now.start) in
     taken_answer g.D.Disk.model c.args.client c.args.parent c.args.segment.now c.args.self.now c.args.disk.now log c.args.ids.now c.next.new.self c.latest-latest.result on (c.latest-latest.ensures log on.entries) (not_other _ c.if-ne.ensures)
-    (held_is c.args.client c.from_bytes-id.result c.args.ids.now.start log c.args.self.now.entries.items true on.entries id_is c.if-has_id.ensures) c.next.ensures.start c.next.ensures.step
+    (held_is c.args.client c.from_bytes-id.result c.args.ids.now.start log c.args.self.now.versions.entries.items true on.entries id_is c.if-has_id.ensures) c.next.ensures.start c.next.ensures.step
 
 pub returns-clause-answered : goal.returns-clause-answered
 returns-clause-answered g c log on =
@@ -24,11 +24,11 @@ returns-clause-answered g c log on =
     let id_is = c.from_bytes-id.ensures ∙ c.next.ensures.id ∙ sym (drawn_is start) in
     let body_is = c.as_slice.ensures.value ∙ c.in_ok-body.ensures.items ∙ ap (λ x. body_of (accepted_for c.args.client (version x c.args.parent c.args.segment.now))) id_is in
     let open_on = subst (λ b. IsOpenOn m magic c.append.new.self c.append.new.disk (bodies_of log ++ b ∷ [])) body_is (c.in_ok-append.ensures.appended magic (bodies_of log) on.journal) in
-    let entries = c.push_reserved.ensures.items ∙ ap (λ es. es ++ entry_of (accepted_for c.args.client (version c.from_bytes-id.result c.args.parent c.args.segment.now)) ∷ []) (c.in_ok-reserve.ensures.items ∙ on.entries) ∙ ap (λ x. map entry_of log ++ entry_of (accepted_for c.args.client (version x c.args.parent c.args.segment.now)) ∷ []) id_is in
-    let server : Server = record { journal = c.append.new.self; entries = c.push_reserved.new.self } in
+    let entries = c.push.ensures ∙ ap (λ es. es ++ entry_of (accepted_for c.args.client (version c.from_bytes-id.result c.args.parent c.args.segment.now)) ∷ []) (c.in_ok-make_room.ensures.same ∙ on.entries) ∙ ap (λ x. map entry_of log ++ entry_of (accepted_for c.args.client (version x c.args.parent c.args.segment.now)) ∷ []) id_is in
+    let server : Server = record { journal = c.append.new.self; versions = c.push.new.self } in
     subst (λ x. IsAnswer m server c.append.new.disk log (Add c.args.client c.args.parent c.args.segment.now) c.args.ids.now c.next.new.self (responses.Added x)) (sym id_is)
     (added_answer m c.args.client c.args.parent c.args.segment.now c.args.self.now server c.args.disk.now c.append.new.disk log c.args.ids.now c.next.new.self c.latest-latest.result on c.in_ok-body.ensures.client (c.latest-latest.ensures log on.entries) (not_other _ c.if-ne.ensures)
-    (held_is c.args.client c.from_bytes-id.result start log c.args.self.now.entries.items false on.entries id_is c.if-has_id.ensures)
+    (held_is c.args.client c.from_bytes-id.result start log c.args.self.now.versions.entries.items false on.entries id_is c.if-has_id.ensures)
     (drawn_uuid start (subst (λ x. slice_index x 6 / 16 ≡ 4) c.next.ensures.id c.next.ensures.version) (subst (λ x. slice_index x 8 / 64 ≡ 2) c.next.ensures.id c.next.ensures.variant))
     (drawn_real start (subst (λ x. slice_index x 6 / 16 ≡ 4) c.next.ensures.id c.next.ensures.version))
     c.next.ensures.start c.next.ensures.step open_on entries)
@@ -38,7 +38,7 @@ returns-clause-any_moment g c log on =
     let start = c.args.ids.now.start in
     let id_is = c.from_bytes-id.ensures ∙ c.next.ensures.id ∙ sym (drawn_is start) in
     added_moments g.D.Disk.model c.args.client c.args.parent c.args.segment.now c.args.disk.now c.append.new.disk log (drawn_id start) c.latest-latest.result c.as_slice.result.now (c.latest-latest.ensures log on.entries) (not_other _ c.if-ne.ensures)
-    (held_is c.args.client c.from_bytes-id.result start log c.args.self.now.entries.items false on.entries id_is c.if-has_id.ensures)
+    (held_is c.args.client c.from_bytes-id.result start log c.args.self.now.versions.entries.items false on.entries id_is c.if-has_id.ensures)
     (c.as_slice.ensures.value ∙ c.in_ok-body.ensures.items ∙ ap (λ x. body_of (accepted_for c.args.client (version x c.args.parent c.args.segment.now))) id_is)
     (c.in_ok-append.ensures.any_moment magic (bodies_of log) on.journal)
 
@@ -47,9 +47,9 @@ returns-in_err-append-clause-any_moment g c log on =
     let start = c.args.ids.now.start in
     let id_is = c.from_bytes-id.ensures ∙ c.next.ensures.id ∙ sym (drawn_is start) in
     added_moments g.D.Disk.model c.args.client c.args.parent c.args.segment.now c.args.disk.now c.append.new.disk log (drawn_id start) c.latest-latest.result c.as_slice.result.now (c.latest-latest.ensures log on.entries) (not_other _ c.if-ne.ensures)
-    (held_is c.args.client c.from_bytes-id.result start log c.args.self.now.entries.items false on.entries id_is c.if-has_id.ensures)
+    (held_is c.args.client c.from_bytes-id.result start log c.args.self.now.versions.entries.items false on.entries id_is c.if-has_id.ensures)
     (c.as_slice.ensures.value ∙ c.in_ok-body.ensures.items ∙ ap (λ x. body_of (accepted_for c.args.client (version x c.args.parent c.args.segment.now))) id_is)
     (c.in_err-append.ensures.any_moment magic (bodies_of log) on.journal)
 
-pub returns-in_err-reserve-clause-any_moment : goal.returns-in_err-reserve-clause-any_moment
-returns-in_err-reserve-clause-any_moment g c log on = first_moment g.D.Disk.model c.args.self.now c.args.disk.now log _ g.met.D.Disk.only_now on
+pub returns-in_err-make_room-clause-any_moment : goal.returns-in_err-make_room-clause-any_moment
+returns-in_err-make_room-clause-any_moment g c log on = first_moment g.D.Disk.model c.args.self.now c.args.disk.now log _ g.met.D.Disk.only_now on

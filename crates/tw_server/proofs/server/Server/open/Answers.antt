@@ -11,7 +11,7 @@ pub loop-n-init : goal.loop-n-init
 loop-n-init g c = record {
   same = refl;
   untouched = untouched g.D.Disk.model g.met.D.Disk.only_now c.open.new.disk;
-  read = λ bodies on. record { log = []; entries = c.new.ensures.items; same = refl; sound = nothing_sound };
+  read = λ bodies on. record { log = []; entries = c.new.ensures; same = refl; sound = nothing_sound };
   open_now = c.in_ok-journal.ensures.length.1;
   len = c.in_ok-journal.ensures.length.0;
   count = c.count-count.ensures;
