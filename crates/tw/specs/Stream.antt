@@ -1,5 +1,5 @@
 -- A writer as a sink. It tells nothing of what it got.
-use Rattle.std.specs.Prelude.{ℕ, Bool, List, [], false}
+use Rattle.std.specs.Prelude.{[], false}
 use Rattle.tw_world.specs.Sink.{SinkModel}
 use Rattle.tw.specs.declared.stream.Stream.{Stream}
 

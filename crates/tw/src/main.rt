@@ -1,16 +1,21 @@
 //! The program `tw`: tasks and working hours from the command line.
-//! It hands the words, the clock, the random source, the journal's file and the standard streams to
-//! the calls of `tw_cli`, and ends with the status that they give.
+//! It hands the words, the clock, the random source, files, the standard streams and connections to
+//! the calls of `tw_cli` and `tw_server`, and ends with the status that they give.
 #![tactic(auto)]
 
+mod connection;
 mod file_disk;
 mod help;
+mod peer;
+mod server;
+mod server_words;
 mod start;
 mod store;
 mod stream;
 mod task;
 
 use help::{HELP, VERSION};
+use server::run_server;
 use start::{StartError, take_first, words};
 use std::alloc::Global;
 use std::process::ExitCode;
@@ -27,6 +32,7 @@ fn run(rt: &HostRuntime, alloc: Global) -> Result<u8, StartError> {
         "--help" => Ok(print(rt, HELP)),
         "--version" => Ok(print(rt, VERSION)),
         "task" => run_task(rt, alloc, &words),
+        "server" => run_server(rt, alloc, words),
         _ => Err(StartError::CommandLine),
     }
 }

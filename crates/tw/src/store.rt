@@ -30,19 +30,22 @@ pub fn journal_path(alloc: Global, folder: &str) -> Result<String, StartError> {
     Ok(format!(in alloc; "{}/replica.journal", folder)?)
 }
 
-/// The journal's file. What is not there is made, and stands when the machine stops.
-pub fn open_journal(rt: &HostRuntime, folder: &str, path: &str) -> io::Result<FileDisk> {
+/// A file that is a journal. What is not there is made, and stands when the machine stops.
+pub fn open_file(rt: &HostRuntime, path: &str) -> io::Result<FileDisk> {
     match OpenOptions::new().read(true).write(true).open(rt, path) {
         Ok(file) => FileDisk::new(file),
-        Err(error) if error.kind() == io::ErrorKind::NotFound => {
-            FileDisk::new(make_journal(rt, folder, path)?)
-        }
+        Err(error) if error.kind() == io::ErrorKind::NotFound => match Path::new(path).parent() {
+            Some(folder) => FileDisk::new(make_file(rt, folder.as_str(), path)?),
+            None => Err(error),
+        },
         Err(error) => Err(error),
     }
 }
 
-fn make_journal(rt: &HostRuntime, folder: &str, path: &str) -> io::Result<File> {
-    fs::create_dir_all(rt, folder)?;
+fn make_file(rt: &HostRuntime, folder: &str, path: &str) -> io::Result<File> {
+    if !folder.is_empty() {
+        fs::create_dir_all(rt, folder)?;
+    }
     let file = OpenOptions::new()
         .read(true)
         .write(true)

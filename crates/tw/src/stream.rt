@@ -11,8 +11,8 @@ pub struct Stream<W: Write> {
     faults: u64,
 }
 
-// Writes all the bytes, and answers whether that was possible.
-fn write_whole<W: Write>(writer: &mut W, bytes: &[u8]) -> bool {
+/// Writes all the bytes, and answers whether that was possible.
+pub fn write_whole<W: Write>(writer: &mut W, bytes: &[u8]) -> bool {
     let mut done = 0;
     while done < bytes.len() {
         match writer.write(&bytes[done..]) {

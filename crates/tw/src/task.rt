@@ -1,7 +1,7 @@
 // `tw task`.
 
 use crate::start::{StartError, moment, seed};
-use crate::store::{folder, journal_path, open_journal};
+use crate::store::{folder, journal_path, open_file};
 use crate::stream::Stream;
 use std::alloc::Global;
 use std::io::ErrorKind;
@@ -17,7 +17,7 @@ pub fn run_task(rt: &HostRuntime, alloc: Global, words: &Vec<String>) -> Result<
     let mut ids = IdWords::from_seed(seed(rt)?);
     let mut out = Stream::new(rt.stdout());
     let mut err = Stream::new(rt.stderr());
-    let outcome = match open_journal(rt, folder.as_str(), path.as_str()) {
+    let outcome = match open_file(rt, path.as_str()) {
         Ok(mut disk) => task_run(alloc, words, now, &mut ids, &mut disk, &mut out, &mut err),
         Err(error) if error.kind() == ErrorKind::OutOfMemory => return Err(StartError::Memory),
         Err(_) => {

@@ -1,0 +1,110 @@
+// `tw server`.
+ghost use Rattle.std.specs.Prelude.{◌≡◌, false};
+ghost use Rattle.tw_server.specs.Server.{is_closed, server_end};
+ghost use Rattle.tw.specs.Served.{last_status, status_of_refusal};
+
+use crate::connection::{Connection, Limits};
+use crate::peer::StreamPeer;
+use crate::server_words::server_words;
+use crate::start::{StartError, seed};
+use crate::store::open_file;
+use std::alloc::Global;
+use std::io::ErrorKind;
+use std::net::{Ipv4Addr, TcpListener, TcpStream};
+use tw_journal::JournalError;
+use tw_server::{ServeEnd, Server, ServerError, serve_one};
+use tw_world::{Disk, IdWords};
+
+// A client that is silent, or not done in time, is cut off, and the next one is served.
+const LIMITS: Limits = Limits {
+    silence_seconds: 10,
+    whole_seconds: 120,
+};
+
+/// Serves the sync protocol on a port of 127.0.0.1, one connection after another, and gives the program's status:
+/// 0 after the last connection, 3 where the file failed, 4 where there was no memory to read it, 5 where the port
+/// can't be listened on, 7 where the file is damaged. The file is not touched before the port is taken.
+pub fn run_server(rt: &HostRuntime, alloc: Global, words: Vec<String>) -> Result<u8, StartError> {
+    let Some(asked) = server_words(words) else {
+        return Err(StartError::CommandLine);
+    };
+    let mut ids = IdWords::from_seed(seed(rt)?);
+    let Ok(listener) = TcpListener::bind(rt, (Ipv4Addr::LOCALHOST, asked.port)) else {
+        return Ok(5);
+    };
+    match open_file(rt, asked.file.as_str()) {
+        Ok(mut disk) => Ok(serve_all(rt, alloc, &listener, &mut disk, &mut ids, asked.count)),
+        Err(error) if error.kind() == ErrorKind::OutOfMemory => Err(StartError::Memory),
+        Err(_) => Ok(3),
+    }
+}
+
+// Opens the server of a disk, and serves so many connections or until the disk ends it. One that can't be accepted counts.
+fn serve_all<D: Disk>(
+    rt: &HostRuntime,
+    alloc: Global,
+    listener: &TcpListener,
+    disk: &mut D,
+    ids: &mut IdWords,
+    count: u64,
+) -> u8 {
+    let mut server = match Server::open(alloc, disk) {
+        Ok(server) => server,
+        Err(error) => return status_of_refusal(error),
+    };
+    for _ in 0..count {
+        let Ok((stream, _)) = listener.accept() else {
+            continue;
+        };
+        let end = serve_stream(rt, alloc, stream, disk, &mut server, ids);
+        if let Some(status) = last_status(end) {
+            return status;
+        }
+    }
+    0
+}
+
+// Serves one connection.
+fn serve_stream<D: Disk>(
+    rt: &HostRuntime,
+    alloc: Global,
+    stream: TcpStream,
+    disk: &mut D,
+    server: &mut Server,
+    ids: &mut IdWords,
+) -> ServeEnd
+    requires { is_closed server.old ≡ false → D.model.len disk.old ≡ server_end server.old }
+    ensures { is_closed server.new ≡ false → D.model.len disk.new ≡ server_end server.new }
+{
+    let Ok(connection) = Connection::new(rt, stream, LIMITS) else {
+        return ServeEnd::PeerFault;
+    };
+    let mut peer = StreamPeer::new(connection);
+    let end = serve_one(alloc, &mut peer, disk, server, ids);
+    if let ServeEnd::Served { .. } = end {
+        peer.into_stream().close();
+    }
+    end
+}
+
+// The status of a server that is not opened.
+fn status_of_refusal(error: ServerError) -> u8
+    ensures { result ≡ status_of_refusal error }
+{
+    match error {
+        ServerError::Journal(JournalError::Damaged { .. }) => 7,
+        ServerError::Journal(JournalError::Memory) | ServerError::Memory => 4,
+        ServerError::Journal(_) => 3,
+    }
+}
+
+// The status that a connection's end is the server's end with, if it is one.
+fn last_status(end: ServeEnd) -> Option<u8>
+    ensures { result ≡ last_status end }
+{
+    match end {
+        ServeEnd::DiskFault | ServeEnd::Closed => Some(3),
+        ServeEnd::Damaged { .. } => Some(7),
+        ServeEnd::Served { .. } | ServeEnd::PeerFault | ServeEnd::Memory => None,
+    }
+}
