@@ -7,6 +7,7 @@ use Rattle.tw_journal.specs.Record.{rows, HoldsRows, ArePlaces}
 use Rattle.tw_journal.specs.Open.{Finding, IsNoRecord, IsSizeAt, SizeRefused, FindRefused}
 use Rattle.tw_journal.specs.Journal.{IsOpenOn, ReadRefused}
 use Rattle.tw_journal.specs.declared.journal.Journal.{Journal}
+use Rattle.tw_journal.specs.declared.window.Window.{Window}
 use Rattle.tw_journal.specs.declared.journal.JournalError.{JournalError}
 use Rattle.tw_journal.specs.declared.journal.JournalError.TheVariants.{Disk, Closed, Damaged, TooLong, Memory}
 use Rattle.tw_journal.proofs.Places.{none, body_is, next_place, holds_rows}
@@ -22,22 +23,22 @@ on_ok (Err e) P Q has wide = tt
 
 module _ {D : Type 0} (m : DiskModel D) (old : D) (known : List ℕ) (n : ℕ) where
   -- one record further on the way
-  pub one_further : (mid new : D) (at number size : ℕ) → Finding m known n old mid at number → number ≤ n → (Tells m mid → IsSizeAt (drop at (m.seen mid)) size)
+  pub one_further : (mid new : D) (window : Window) (at number size : ℕ) → Finding m known n old mid window at number → number ≤ n → (Tells m mid → IsSizeAt (drop at (m.seen mid)) size)
       → (all : List (List ℕ)) → HoldsRows m old all → ArePlaces all known → n + 1 < length all → at + (5 + size) ≡ length (rows (take (number + 1) all))
-  one_further mid new at number size way turn read all held places inside =
+  one_further mid new window at number size way turn read all held places inside =
       let here : IsSizeAt (drop at (m.seen old)) size = subst (λ (s : List ℕ). IsSizeAt (drop at s) size) (way.untouched.seen held.tells) (read (way.untouched.kept.tells ∙ held.tells)) in
       next_place all (m.seen old) at number held.file held.lengths (omega (arith, turn, inside)) (way.so_far all held places inside) size here
 
-  pub not_found : (mid new : D) (at number : ℕ) (e : JournalError) → Finding m known n old mid at number → number ≤ n → SizeRefused m mid new at e → FindRefused m old new known n e
-  not_found mid new at number Disk way turn refused = let earlier : m.faults old ≤ m.faults mid = way.untouched.kept.faults in grind arith
-  not_found mid new at number Memory way turn refused = tt
-  not_found mid new at number (Damaged offset) way turn refused =
+  pub not_found : (mid new : D) (window : Window) (at number : ℕ) (e : JournalError) → Finding m known n old mid window at number → number ≤ n → SizeRefused m mid new at e → FindRefused m old new known n e
+  not_found mid new window at number Disk way turn refused = let earlier : m.faults old ≤ m.faults mid = way.untouched.kept.faults in grind arith
+  not_found mid new window at number Memory way turn refused = tt
+  not_found mid new window at number (Damaged offset) way turn refused =
       let seen : Tells m old → IsNoRecord (drop at (m.seen old)) = λ tells. subst (λ (s : List ℕ). IsNoRecord (drop at s)) (way.untouched.seen tells) (refused.1 (way.untouched.kept.tells ∙ tells)) in (
         λ tells. subst (λ (k : ℕ). IsNoRecord (drop k (m.seen old))) (sym refused.0) (seen tells),
         λ all held places inside. none all (m.seen old) at number held.file held.lengths (omega (arith, turn, inside)) (way.so_far all held places inside) (seen held.tells),
       )
-  not_found mid new at number (TooLong bytes) way turn refused = refused
-  not_found mid new at number Closed way turn refused = refused
+  not_found mid new window at number (TooLong bytes) way turn refused = refused
+  not_found mid new window at number Closed way turn refused = refused
 
 -- A journal on a disk, and the place that was found for one of its records.
 module _ {D : Type 0} (m : DiskModel D) (old mid : D) (journal : Journal) (known : List ℕ) (n : ℕ) (kept : known ≡ journal.places.items) (inside : n < journal.count) where

@@ -3,7 +3,7 @@ use Rattle.tw_journal.specs.Open.{Finding}
 use Rattle.tw_journal.proofs.place.find_place.Given as goal
 
 abbrev pub invariant-loop-number : goal.invariant-loop-number
-invariant-loop-number g l = Finding g.D.Disk.model l.places l.n l.fn.disk l.disk l.at l.number
+invariant-loop-number g l = Finding g.D.Disk.model l.places l.n l.fn.disk l.disk l.window l.at l.number
 
 abbrev pub decreases-loop-number : goal.decreases-loop-number
 decreases-loop-number g l = l.n + 1 - l.number

@@ -1,5 +1,5 @@
 use Rattle.tw_journal.proofs.Refusals.{passed_on, on_ok, find_refused, size_refused, body_read}
-use Rattle.tw_journal.proofs.journal.Journal.body.Goals as goal
+use Rattle.tw_journal.proofs.journal.Journal.body_through.Goals as goal
 
 pub returns-in_err-at-clause-refused : goal.returns-in_err-at-clause-refused
 returns-in_err-at-clause-refused g c =
