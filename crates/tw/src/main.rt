@@ -4,8 +4,10 @@
 #![tactic(auto)]
 
 mod connection;
+mod failing_link;
 mod file_disk;
 mod help;
+mod link;
 mod peer;
 mod server;
 mod server_words;

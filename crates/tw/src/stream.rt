@@ -1,4 +1,6 @@
 // The standard streams as sinks.
+ghost use Rattle.std.specs.Prelude.{IsTrue};
+ghost use Rattle.std.specs.Io.KnownBytes.{Appends};
 
 use crate::start::StartError;
 use std::io::Write;
@@ -12,7 +14,9 @@ pub struct Stream<W: Write> {
 }
 
 /// Writes all the bytes, and answers whether that was possible.
-pub fn write_whole<W: Write>(writer: &mut W, bytes: &[u8]) -> bool {
+pub fn write_whole<W: Write>(writer: &mut W, bytes: &[u8]) -> bool
+    ensures whole { IsTrue result → Appends (W.contents writer.old) (W.contents writer.new) bytes.now }
+{
     let mut done = 0;
     while done < bytes.len() {
         match writer.write(&bytes[done..]) {

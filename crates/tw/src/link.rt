@@ -1,0 +1,118 @@
+// A server at the other end of a TCP connection as a link.
+ghost use Rattle.std.specs.Prelude.{◌≡◌, ◌⊎◌, ◌≤◌, ◌-◌, length, OnOk, OnErr};
+ghost use Rattle.std.specs.Io.KnownBytes.{Consumes, IsAtEnd};
+ghost use Rattle.tw_world.specs.Disk.{Rose};
+
+use crate::connection::{Connection, Limits};
+use crate::stream::write_whole;
+use std::io::Read;
+use std::net::{SocketAddr, TcpStream, ToSocketAddrs};
+use std::time::Duration;
+use tw_http::{Link, LinkError};
+
+// A server that is silent, or not done in time, counts as a fault.
+const LIMITS: Limits = Limits {
+    silence_seconds: 30,
+    whole_seconds: 120,
+};
+
+const CONNECT_SECONDS: u64 = 30;
+
+// The bytes of the longest reply: a head of 16,384 and a body of 16,777,216.
+const MAX_REPLY: usize = 16_793_600;
+
+const PIECE: usize = 65_536;
+
+/// A server by its host, a name or an address, and its port, with how many exchanges it was asked for and how many of
+/// them failed. Each exchange is a connection of its own. It tells nothing of what it brings.
+#[derive(Drop)]
+pub struct TcpLink<'a> {
+    rt: &'a HostRuntime,
+    host: String,
+    port: u16,
+    exchanges: u64,
+    faults: u64,
+}
+
+impl<'a> TcpLink<'a> {
+    /// A link that was asked for no exchange.
+    pub fn new(rt: &'a HostRuntime, host: String, port: u16) -> TcpLink<'a> {
+        TcpLink {
+            rt,
+            host,
+            port,
+            exchanges: 0,
+            faults: 0,
+        }
+    }
+
+    // Sends a request over a connection of its own, and reads the reply.
+    fn ask(&self, request: &[u8], reply: &mut Vec<u8>) -> Result<(), LinkError> {
+        let Some(stream) = self.connect() else {
+            return Err(LinkError::Failed);
+        };
+        let Ok(mut connection) = Connection::new(self.rt, stream, LIMITS) else {
+            return Err(LinkError::Failed);
+        };
+        if !write_whole(&mut connection, request) {
+            return Err(LinkError::Failed);
+        }
+        read_reply(&mut connection, reply)
+    }
+
+    // A connection to the first of the host's addresses that takes one.
+    fn connect(&self) -> Option<TcpStream> {
+        let limit = Duration::from_secs(CONNECT_SECONDS);
+        let addresses = (self.host.as_str(), self.port)
+            .to_socket_addrs(self.rt)
+            .ok()?;
+        for address in addresses {
+            if let Ok(stream) = TcpStream::connect_timeout(self.rt, &address, limit) {
+                return Some(stream);
+            }
+        }
+        None
+    }
+}
+
+// Puts what is left of a stream in the place of `reply`, or the first bytes of it, as many as the longest reply has.
+fn read_reply<S: Read>(stream: &mut S, reply: &mut Vec<u8>) -> Result<(), LinkError>
+    ensures bytes { OnOk result (Consumes (S.remaining stream.old) (S.remaining stream.new) reply.new.items) }
+    ensures whole { OnOk result (IsAtEnd (S.remaining stream.new) ⊎ (length reply.new.items ≡ 16793600)) }
+{
+    reply.clear();
+    let mut piece = [0; PIECE];
+    while reply.len() < MAX_REPLY {
+        let room = PIECE.min(MAX_REPLY - reply.len());
+        match stream.read(&mut piece[..room]) {
+            Ok(0) => return Ok(()),
+            Ok(count) => {
+                if reply.extend_from_slice(&piece[..count]).is_err() {
+                    return Err(LinkError::Memory);
+                }
+            }
+            Err(_) => return Err(LinkError::Failed),
+        }
+    }
+    Ok(())
+}
+
+impl Link for TcpLink<'_> {
+    ghost use Rattle.tw.specs.FileDisk.{none_told};
+    ghost use Rattle.tw.specs.Links.{tcp_model};
+
+    ghost model = { tcp_model };
+
+    ghost tells_chain = { λ link truly. none_told truly.honest };
+
+    ghost own_stand = { λ link tells. none_told tells };
+
+    fn exchange(&mut self, request: &[u8], reply: &mut Vec<u8>) -> Result<(), LinkError> {
+        self.exchanges = self.exchanges.saturating_add(1);
+        let result = self.ask(request, reply);
+        if let Err(LinkError::Failed) = result {
+            self.faults = self.faults.saturating_add(1);
+        }
+        result
+    }
+}
