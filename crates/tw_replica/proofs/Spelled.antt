@@ -17,9 +17,8 @@ use Rattle.tw_model.specs.Ops.{TaskValue}
 use Rattle.tw_model.specs.declared.Op.{Op}
 use Rattle.tw_model.specs.declared.Op.TheVariants.{Create, Delete, Update, UndoPoint}
 use Rattle.tw_replica.specs.Body.{Step, text_bytes, option_bytes, moment_bytes, pair_bytes, task_bytes, op_bytes, flag_byte, body_of, is_group, IsText, IsUuid, IsPair, IsTask, IsOp, IsStep}
-use Rattle.tw_replica.specs.Body.Step.{Commit, Undo}
-use Rattle.tw_replica.specs.Reading.{◌>>=◌, number_at, text_at, option_at, moment_at, uuid_at, pair_at, many_at, task_at, create_at, delete_at, update_at, op_at, group_of, commit_of, step_of}
-use Rattle.tw_replica.specs.Spelling.{ReadIsSpelled}
+use Rattle.tw_replica.specs.Body.Step.{Commit}
+use Rattle.tw_replica.specs.Reading.{◌>>=◌, number_at, text_at, option_at, moment_at, uuid_at, pair_at, many_at, task_at, create_at, delete_at, update_at, op_at, group_of, commit_of}
 
 -- ---- options
 
@@ -38,10 +37,10 @@ both_hold false b e = absurd cc
 -- ---- bytes
 
 -- each number is a byte
-abbrev AreBytes : List ℕ → Type 0
+abbrev pub AreBytes : List ℕ → Type 0
 AreBytes bytes = (i : ℕ) → get_or bytes i 0 < 256
 
-bytes_tail : (b : ℕ) (bytes : List ℕ) → AreBytes (b ∷ bytes) → AreBytes bytes
+pub bytes_tail : (b : ℕ) (bytes : List ℕ) → AreBytes (b ∷ bytes) → AreBytes bytes
 bytes_tail b bytes are i = are (suc i)
 
 bytes_take : (n : ℕ) (bytes : List ℕ) → AreBytes bytes → AreBytes (take n bytes)
@@ -54,10 +53,10 @@ bytes_drop : (n : ℕ) (bytes : List ℕ) → AreBytes bytes → AreBytes (drop 
 bytes_drop n bytes are i = omega (arith, get_or-drop n bytes i 0, are (n + i))
 
 -- what was read of bytes spells those before the rest, and fits
-abbrev Spells : {A : Type 0} → (A → List ℕ) → (A → Type 0) → List ℕ → A × List ℕ → Type 0
+abbrev pub Spells : {A : Type 0} → (A → List ℕ) → (A → Type 0) → List ℕ → A × List ℕ → Type 0
 Spells spell P bytes r = (bytes ≡ spell r.0 ++ r.1) × P r.0 × AreBytes r.1
 
-abbrev Any : {A : Type 0} → A → Type 0
+abbrev pub Any : {A : Type 0} → A → Type 0
 Any x = Unit {0}
 
 number_spelled : (w : Width) (again : (bytes : List ℕ) (n : ℕ) → length bytes ≡ byte_len w → AreBytes bytes → n ≡ from_be_bytes w bytes → to_be_bytes w n ≡ bytes)
@@ -71,13 +70,13 @@ number_spelled w again bytes r are e =
     let here : Spells (to_be_bytes w) Any bytes (from_be_bytes w front, rest) = (sym (take-append-drop (byte_len w) bytes) ∙ ap (λ (l : List ℕ). l ++ rest) (sym spelled), tt, bytes_drop (byte_len w) bytes are) in
     subst (Spells (to_be_bytes w) Any bytes) (same_Some _ r u.1) here
 
-four_spelled : (bytes : List ℕ) (r : ℕ × List ℕ) → AreBytes bytes → number_at w32 bytes ≡ Some r → Spells (to_be_bytes w32) Any bytes r
+pub four_spelled : (bytes : List ℕ) (r : ℕ × List ℕ) → AreBytes bytes → number_at w32 bytes ≡ Some r → Spells (to_be_bytes w32) Any bytes r
 four_spelled = number_spelled w32 (λ bytes n size are e. be_bytes_4 bytes n size are e)
 
 eight_spelled : (bytes : List ℕ) (r : ℕ × List ℕ) → AreBytes bytes → number_at w64 bytes ≡ Some r → Spells (to_be_bytes w64) Any bytes r
 eight_spelled = number_spelled w64 (λ bytes n size are e. be_bytes_8 bytes n size are e)
 
-text_spelled : (bytes : List ℕ) (r : List ℕ × List ℕ) → AreBytes bytes → text_at bytes ≡ Some r → Spells text_bytes IsText bytes r
+pub text_spelled : (bytes : List ℕ) (r : List ℕ × List ℕ) → AreBytes bytes → text_at bytes ≡ Some r → Spells text_bytes IsText bytes r
 unfolding text_at
 text_spelled bytes r are e =
     let n = bind_some _ _ r e in
@@ -94,10 +93,10 @@ text_spelled bytes r are e =
     let here : Spells text_bytes IsText bytes (front, rest) = (spelled, w.0, bytes_drop n.0.0 n.0.1 s.2) in
     subst (Spells text_bytes IsText bytes) (ap (λ (text : List ℕ). let p : List ℕ × List ℕ = (text, rest) in p) w.1 ∙ same_Some _ r t.2) here
 
-abbrev IsTextIfAny : Option (List ℕ) → Type 0
+abbrev pub IsTextIfAny : Option (List ℕ) → Type 0
 IsTextIfAny o = IfSome o IsText
 
-option_spelled : (bytes : List ℕ) (r : Option (List ℕ) × List ℕ) → AreBytes bytes → option_at bytes ≡ Some r → Spells option_bytes IsTextIfAny bytes r
+pub option_spelled : (bytes : List ℕ) (r : Option (List ℕ) × List ℕ) → AreBytes bytes → option_at bytes ≡ Some r → Spells option_bytes IsTextIfAny bytes r
 unfolding option_at
 option_spelled [] r are e = absurd cc
 option_spelled (zero ∷ rest) r are e =
@@ -122,7 +121,7 @@ numbers_of : (seconds nanos : ℕ) (at : Moment) → moment_of seconds nanos ≡
 unfolding moment_of
 numbers_of seconds nanos at e = numbers_made seconds nanos _ _ refl refl at e
 
-moment_spelled : (bytes : List ℕ) (r : Moment × List ℕ) → AreBytes bytes → moment_at bytes ≡ Some r → Spells moment_bytes Any bytes r
+pub moment_spelled : (bytes : List ℕ) (r : Moment × List ℕ) → AreBytes bytes → moment_at bytes ≡ Some r → Spells moment_bytes Any bytes r
 unfolding moment_at
 moment_spelled bytes r are e =
     let s = bind_some _ _ r e in
@@ -137,10 +136,10 @@ moment_spelled bytes r are e =
     let here : Spells moment_bytes Any bytes (m.0, n.0.1) = (spelled, tt, nanos.2) in
     subst (Spells moment_bytes Any bytes) (same_Some _ r m.2) here
 
-abbrev itself : List ℕ → List ℕ
+abbrev pub itself : List ℕ → List ℕ
 itself u = u
 
-uuid_spelled : (bytes : List ℕ) (r : List ℕ × List ℕ) → AreBytes bytes → uuid_at bytes ≡ Some r → Spells itself IsUuid bytes r
+pub uuid_spelled : (bytes : List ℕ) (r : List ℕ × List ℕ) → AreBytes bytes → uuid_at bytes ≡ Some r → Spells itself IsUuid bytes r
 uuid_spelled bytes r are e =
     let u = unless_some _ _ r e in
     let long : 16 ≤ length bytes = ltb-false _ _ u.0 in
@@ -161,10 +160,10 @@ pair_spelled bytes r are e =
 -- ---- one after another
 
 module _ {A : Type 0} (one : List ℕ → Option (A × List ℕ)) (spell : A → List ℕ) (P : A → Type 0) (one_spelled : (bytes : List ℕ) (r : A × List ℕ) → AreBytes bytes → one bytes ≡ Some r → Spells spell P bytes r) where
-  abbrev AreSo : ℕ → List A → Type 0
+  abbrev pub AreSo : ℕ → List A → Type 0
   AreSo n xs = AllByRecursion P xs × (length xs ≡ n)
 
-  many_spelled : (n : ℕ) (bytes : List ℕ) (r : List A × List ℕ) → AreBytes bytes → many_at one n bytes ≡ Some r → Spells (flat_map spell) (AreSo n) bytes r
+  pub many_spelled : (n : ℕ) (bytes : List ℕ) (r : List A × List ℕ) → AreBytes bytes → many_at one n bytes ≡ Some r → Spells (flat_map spell) (AreSo n) bytes r
   unfolding many_at
   many_spelled zero bytes r are e =
       let here : Spells (flat_map spell) (AreSo zero) bytes ([], bytes) = (refl, (tt, refl), are) in
@@ -266,7 +265,7 @@ op_spelled (suc (suc (suc (suc (suc b)))) ∷ rest) r are e = absurd cc
 
 -- ---- steps
 
-none_left : (bytes : List ℕ) → (length bytes == 0) ≡ true → bytes ≡ []
+pub none_left : (bytes : List ℕ) → (length bytes == 0) ≡ true → bytes ≡ []
 none_left [] e = refl
 none_left (b ∷ bytes) e = absurd (omega (arith, eqb-true (length (b ∷ bytes)) 0 e))
 
@@ -290,7 +289,7 @@ group_spelled bytes ops are e =
     subst (λ (l : List Op). (bytes ≡ ops_bytes l) × AllByRecursion IsOp l × (is_group l ≡ true)) w.1 here
 
 -- the body is of the step, which is of the program
-abbrev SpellsStep : List ℕ → Step → Type 0
+abbrev pub SpellsStep : List ℕ → Step → Type 0
 SpellsStep body step = (body ≡ body_of step) × IsStep step
 
 with_flag : (renumber : Bool) (rest : List ℕ) (step : Step) → AreBytes rest → (group_of rest >>= λ ops. Some (Commit renumber ops)) ≡ Some step → SpellsStep (1 ∷ flag_byte renumber ∷ rest) step
@@ -300,30 +299,9 @@ with_flag renumber rest step are e =
     let here : SpellsStep (1 ∷ flag_byte renumber ∷ rest) (Commit renumber g.0) = (ap (λ (l : List ℕ). 1 ∷ flag_byte renumber ∷ l) s.0, (s.1, s.2)) in
     subst (SpellsStep (1 ∷ flag_byte renumber ∷ rest)) (same_Some _ step g.2) here
 
-commit_spelled : (rest : List ℕ) (step : Step) → AreBytes rest → commit_of rest ≡ Some step → SpellsStep (1 ∷ rest) step
+pub commit_spelled : (rest : List ℕ) (step : Step) → AreBytes rest → commit_of rest ≡ Some step → SpellsStep (1 ∷ rest) step
 unfolding commit_of
 commit_spelled [] step are e = absurd cc
 commit_spelled (zero ∷ rest) step are e = with_flag false rest step (bytes_tail 0 rest are) e
 commit_spelled (suc zero ∷ rest) step are e = with_flag true rest step (bytes_tail 1 rest are) e
 commit_spelled (suc (suc b) ∷ rest) step are e = absurd cc
-
-step_spelled : (body : List ℕ) (step : Step) → AreBytes body → step_of body ≡ Some step → SpellsStep body step
-unfolding step_of
-step_spelled [] step are e = absurd cc
-step_spelled (zero ∷ rest) step are e = absurd cc
-step_spelled (suc zero ∷ rest) step are e = commit_spelled rest step (bytes_tail 1 rest are) e
-step_spelled (suc (suc zero) ∷ rest) step are e =
-    let w = cond_some _ _ step e in
-    let here : SpellsStep (2 ∷ rest) Undo = (ap (λ (l : List ℕ). 2 ∷ l) (none_left rest w.0), tt) in
-    subst (SpellsStep (2 ∷ rest)) w.1 here
-step_spelled (suc (suc (suc b)) ∷ rest) step are e = absurd cc
-
-all_bytes : (body : List ℕ) → All (λ b. b < 256) body → AreBytes body
-all_bytes body all i = by (ltb i (length body)) refl
-  where
-    by : (b : Bool) → ltb i (length body) ≡ b → get_or body i 0 < 256
-    by true e = All-get_or (λ b. b < 256) body i 0 (ltb-true i (length body) e) all
-    by false e = omega (arith, get_or_past body i 0 (ltb-false i (length body) e))
-
-pub read_is_spelled : ReadIsSpelled
-read_is_spelled body step all e = step_spelled body step (all_bytes body all) e

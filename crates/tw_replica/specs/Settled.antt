@@ -5,9 +5,10 @@ use Rattle.std.specs.Ordering.{eq_by_cmp}
 use Rattle.std.specs.FinMap.{get}
 use Rattle.std.specs.BTreeMap as tree
 use Rattle.tw_model.specs.Maps.{bytes_cmp, same_bytes}
-use Rattle.tw_model.specs.Ops.{TasksValue}
+use Rattle.tw_model.specs.Ops.{TasksValue, uuid_of}
 use Rattle.tw_model.specs.declared.Op.{Op}
 use Rattle.tw_model.specs.declared.Op.TheVariants.{Create, Delete, Update, UndoPoint}
+use Rattle.tw_model.specs.declared.SyncOp.{SyncOp}
 use Rattle.tw_replica.specs.Settle.{Places, has_uuid, is_placed, is_open, uuid_at}
 
 -- no uuid has two places
@@ -36,6 +37,13 @@ is_about u UndoPoint = false
 -- whether one of the operations is about the task of a uuid
 abbrev pub is_touched : List Op → List ℕ → Bool
 is_touched ops u = list_any (is_about u) ops
+
+-- whether one of the operations of versions is about the task of a uuid
+abbrev pub is_about_synced : List ℕ → SyncOp → Bool
+is_about_synced u op = same_bytes u (uuid_of op)
+
+abbrev pub is_touched_by_synced : List SyncOp → List ℕ → Bool
+is_touched_by_synced ops u = list_any (is_about_synced u) ops
 
 -- whether a uuid is among those of a list
 abbrev pub is_among : List (List ℕ) → List ℕ → Bool

@@ -1,54 +1,18 @@
 // Settling after a step, by a look at the tasks that it is about.
-ghost use Rattle.std.specs.Prelude.{◌≡◌, ◌≤◌, ◌++◌, ◌∷◌, ◌||◌, List, ℕ, [], length, drop, map as list_map, Some, None, false, cond, is_some, IfOk, OnOk};
+ghost use Rattle.std.specs.Prelude.{◌≡◌, ◌++◌, ◌∷◌, List, ℕ, [], length, map as list_map, Some, None, false, cond, is_some, IfOk, OnOk};
 ghost use Rattle.std.specs.Ordering.{eq_by_cmp};
-ghost use Rattle.std.specs.BTreeSet as set;
 ghost use Rattle.std.specs.BTreeMap as tree;
-ghost use Rattle.tw_model.specs.Maps.{bytes_cmp, same_bytes};
+ghost use Rattle.tw_model.specs.Maps.{bytes_cmp};
 ghost use Rattle.tw_replica.specs.Settle.{Places, is_placed, is_unplaced, with_rank, with_ranks, place_of, settled};
 ghost use Rattle.tw_replica.specs.State.{packed_if};
-ghost use Rattle.tw_replica.specs.Settled.{IsOnce, IsIndex, IsReadyFor, is_about, is_touched, vacated, vacated_all};
+ghost use Rattle.tw_replica.specs.Settled.{IsOnce, IsIndex, IsReadyFor, vacated, vacated_all};
 
 use crate::numbers::{is_open, pack, rank};
 use std::alloc::Global;
 use std::collections::{BTreeMap, BTreeSet};
-use tw_model::{Op, Tasks};
+use tw_model::Tasks;
 use tw_world::Memory;
 use uuid::Uuid;
-
-fn add_uuid(touched: &mut BTreeSet<Uuid>, uuid: &Uuid) -> Result<(), Memory>
-    ensures { OnOk result ((u : List ℕ) → set.contains bytes_cmp touched.new u ≡ (set.contains bytes_cmp touched.old u || same_bytes u uuid.now)) }
-{
-    touched.insert(*uuid)?;
-    Ok(())
-}
-
-fn add_touched(touched: &mut BTreeSet<Uuid>, op: &Op) -> Result<(), Memory>
-    ensures { OnOk result ((u : List ℕ) → set.contains bytes_cmp touched.new u ≡ (set.contains bytes_cmp touched.old u || is_about u op.now)) }
-{
-    match op {
-        Op::Create { uuid } => add_uuid(touched, uuid),
-        Op::Delete { uuid, .. } => add_uuid(touched, uuid),
-        Op::Update { uuid, .. } => add_uuid(touched, uuid),
-        Op::UndoPoint => Ok(()),
-    }
-}
-
-/// The uuids of the tasks that the operations from a place on are about.
-pub(crate) fn touched_uuids(
-    alloc: Global,
-    ops: &Vec<Op>,
-    from: usize,
-) -> Result<BTreeSet<Uuid>, Memory>
-    ensures { IfOk result (λ touched. (u : List ℕ) → set.contains bytes_cmp touched u ≡ is_touched (drop from ops.now.items) u) }
-{
-    let mut touched = BTreeSet::new(alloc);
-    let mut at = from;
-    while at < ops.len() {
-        add_touched(&mut touched, &ops[at])?;
-        at += 1;
-    }
-    Ok(touched)
-}
 
 fn place_in(index: &BTreeMap<Uuid, u64>, uuid: Uuid) -> Option<u64>
     ensures { result ≡ tree.get bytes_cmp index.now uuid }

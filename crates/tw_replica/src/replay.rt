@@ -2,19 +2,20 @@
 ghost use Rattle.std.specs.Prelude.{◌≡◌, ◌<◌, List, ℕ, [], Some, true, false, slice_index_or, IfOk, OnOk, IfErr};
 ghost use Rattle.tw_world.specs.Disk.{Untouched};
 ghost use Rattle.tw_journal.specs.Journal.{IsOpenOn, is_closed, journal_count, journal_end};
-ghost use Rattle.tw_replica.specs.State.{Stands, start, stepped, committed, undone};
+ghost use Rattle.tw_replica.specs.State.{Stands, start, stepped, committed, undone, synced};
 ghost use Rattle.tw_replica.specs.Core.{state_of, StepIs};
 ghost use Rattle.tw_replica.specs.Ready.{IsReady};
 ghost use Rattle.tw_replica.specs.Replica.{magic, TakingRefused, ReplayRefused};
 
-use crate::held::{Core, apply_ops, is_idle, last_point, take_back_from};
-use crate::index::{pack_if, settle, touched_uuids};
+use crate::about::{add_all_synced, touched_uuids};
+use crate::held::{Core, apply_ops, apply_sync_ops, is_idle, last_point, take_back_from};
+use crate::index::{pack_if, settle};
 use crate::reading::{Read, ReadError, read_step};
 use crate::replica::ReplicaError;
 use std::alloc::Global;
 use std::collections::BTreeMap;
 use tw_journal::{Journal, JournalError};
-use tw_model::Op;
+use tw_model::{Op, SyncOp};
 use tw_world::{Disk, Memory};
 use uuid::Uuid;
 
@@ -87,6 +88,28 @@ impl Indexed {
         }
     }
 
+    // Takes what is pending back, and applies what a sync brought.
+    fn sync(&mut self, alloc: Global, base: Uuid, ops: &Vec<SyncOp>) -> Result<(), Memory>
+        requires { IsReady self.old }
+        ensures step { OnOk result (synced base ops.now.items (state_of self.old.core) ≡ state_of self.new.core) }
+        ensures ready { OnOk result (IsReady self.new) }
+    {
+        let mut touched = touched_uuids(alloc, &self.core.pending, 0)?;
+        add_all_synced(&mut touched, ops)?;
+        take_back_from(alloc, &mut self.core.tasks, &self.core.pending, 0)?;
+        apply_sync_ops(alloc, &mut self.core.tasks, ops)?;
+        settle(
+            alloc,
+            &mut self.core.numbers,
+            &mut self.index,
+            &self.core.tasks,
+            &touched,
+        )?;
+        self.core.pending.truncate(0);
+        self.core.base = base;
+        Ok(())
+    }
+
     // Takes the step of a body, and answers whether it is one that can be taken here.
     fn step(&mut self, alloc: Global, body: &[u8]) -> Result<bool, Memory>
         requires { IsReady self.old }
@@ -96,6 +119,10 @@ impl Indexed {
         match read_step(alloc, body) {
             Ok(Read::Commit { renumber, ops }) => self.commit(alloc, ops, renumber),
             Ok(Read::Undo) => self.undo(alloc),
+            Ok(Read::Sync { base, ops }) => {
+                self.sync(alloc, Uuid::from_bytes(base), &ops)?;
+                Ok(true)
+            }
             Err(ReadError::Malformed) => Ok(false),
             Err(ReadError::Memory) => Err(Memory),
         }

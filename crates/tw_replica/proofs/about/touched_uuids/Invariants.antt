@@ -2,7 +2,7 @@ use Rattle.std.proofs.Common.{◌≡◌, ◌-◌, ◌||◌, ℕ, List, length, d
 use Rattle.std.specs.BTreeSet as set
 use Rattle.tw_model.specs.Maps.{bytes_cmp}
 use Rattle.tw_replica.specs.Settled.{is_touched}
-use Rattle.tw_replica.proofs.index.touched_uuids.Given as goal
+use Rattle.tw_replica.proofs.about.touched_uuids.Given as goal
 
 abbrev pub invariant-loop-at : goal.invariant-loop-at
 invariant-loop-at l = (u : List ℕ) → set.contains bytes_cmp l.touched u || is_touched (drop l.at l.ops.items) u ≡ is_touched (drop l.from l.ops.items) u
