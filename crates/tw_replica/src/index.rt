@@ -2,7 +2,10 @@
 ghost use Rattle.std.specs.Prelude.{◌≡◌, ◌++◌, ◌∷◌, List, ℕ, [], length, map as list_map, Some, None, false, cond, is_some, IfOk, OnOk};
 ghost use Rattle.std.specs.Ordering.{eq_by_cmp};
 ghost use Rattle.std.specs.BTreeMap as tree;
+ghost use Rattle.std.specs.Option.{option_copied};
+ghost use Rattle.std.specs.FinMap.{get};
 ghost use Rattle.tw_model.specs.Maps.{bytes_cmp};
+ghost use Rattle.tw_model.specs.Ops.{TasksValue};
 ghost use Rattle.tw_replica.specs.Settle.{Places, is_placed, is_unplaced, with_rank, with_ranks, place_of, settled};
 ghost use Rattle.tw_replica.specs.State.{packed_if};
 ghost use Rattle.tw_replica.specs.Settled.{IsOnce, IsIndex, IsReadyFor, vacated, vacated_all};
@@ -10,7 +13,7 @@ ghost use Rattle.tw_replica.specs.Settled.{IsOnce, IsIndex, IsReadyFor, vacated,
 use crate::numbers::{is_open, pack, rank};
 use std::alloc::Global;
 use std::collections::{BTreeMap, BTreeSet};
-use tw_model::Tasks;
+use tw_model::{TaskMap, Tasks};
 use tw_world::Memory;
 use uuid::Uuid;
 
@@ -26,10 +29,10 @@ fn has_place(index: &BTreeMap<Uuid, u64>, uuid: Uuid) -> bool
     place_in(index, uuid).is_some()
 }
 
-fn has_no_place(tasks: &Tasks, index: &BTreeMap<Uuid, u64>, uuid: Uuid) -> bool
-    ensures { (places : Places) → IsIndex index.now places → result ≡ is_unplaced places tasks.now uuid }
+fn has_no_place(task: Option<&TaskMap>, index: &BTreeMap<Uuid, u64>, uuid: Uuid) -> bool
+    ensures { (places : Places) (tasks : TasksValue) → IsIndex index.now places → option_copied task.entry ≡ get tasks uuid → result ≡ is_unplaced places tasks uuid }
 {
-    is_open(tasks.get(uuid)) && !has_place(index, uuid)
+    is_open(task) && !has_place(index, uuid)
 }
 
 fn add_new_rank(
@@ -40,8 +43,9 @@ fn add_new_rank(
 ) -> Result<(), Memory>
     ensures { OnOk result ((places : Places) → IsIndex index.now places → ranks.new.keys ≡ with_rank places tasks.now ranks.old.keys uuid) }
 {
-    if has_no_place(tasks, index, uuid) {
-        ranks.insert(rank(tasks, uuid))?;
+    let task = tasks.get(uuid);
+    if has_no_place(task, index, uuid) {
+        ranks.insert(rank(task, uuid))?;
     }
     Ok(())
 }

@@ -1,6 +1,7 @@
 // Replaying the records of a journal.
 ghost use Rattle.std.specs.Prelude.{◌≡◌, ◌<◌, List, ℕ, [], Some, true, false, slice_index_or, IfOk, OnOk, IfErr};
 ghost use Rattle.tw_world.specs.Disk.{Untouched};
+ghost use Rattle.tw_journal.specs.Window.{IsWindowOn};
 ghost use Rattle.tw_journal.specs.Journal.{IsOpenOn, is_closed, journal_count, journal_end};
 ghost use Rattle.tw_replica.specs.State.{Stands, start, stepped, committed, undone, synced};
 ghost use Rattle.tw_replica.specs.Core.{state_of, StepIs};
@@ -14,7 +15,7 @@ use crate::reading::{Read, ReadError, read_step};
 use crate::replica::ReplicaError;
 use std::alloc::Global;
 use std::collections::BTreeMap;
-use tw_journal::{Journal, JournalError};
+use tw_journal::{Journal, JournalError, Window};
 use tw_model::{Op, SyncOp};
 use tw_world::{Disk, Memory};
 use uuid::Uuid;
@@ -133,20 +134,23 @@ impl Indexed {
 fn take_record<D: Disk>(
     alloc: Global,
     journal: &Journal,
+    window: &mut Window,
     disk: &mut D,
     n: u64,
     indexed: &mut Indexed,
 ) -> Result<(), ReplicaError>
+    requires window { IsWindowOn D.model disk.old window.old }
     requires ready { IsReady indexed.old }
     requires inside { n < journal_count journal.now }
     requires open_now { is_closed journal.now ≡ false }
     requires length { D.model.len disk.old ≡ journal_end journal.now }
     ensures step { OnOk result ((bodies : List (List ℕ)) → IsOpenOn D.model magic journal.now disk.old bodies → stepped (state_of indexed.old.core) (slice_index_or bodies n []) ≡ Some (state_of indexed.new.core)) }
     ensures ready { OnOk result (IsReady indexed.new) }
+    ensures window { OnOk result (IsWindowOn D.model disk.new window.new) }
     ensures untouched { Untouched D.model disk.old disk.new }
     ensures refused { IfErr result (λ e. TakingRefused D.model disk.old disk.new journal.now n (state_of indexed.old.core) e) }
 {
-    let body = journal.body(alloc, disk, n)?;
+    let body = journal.body_through(alloc, window, disk, n)?;
     if indexed.step(alloc, &body)? {
         return Ok(());
     }
@@ -167,8 +171,9 @@ pub(crate) fn replay<D: Disk>(
     ensures refused { IfErr result (λ e. ReplayRefused D.model disk.old disk.new journal.now e) }
 {
     let mut indexed = Indexed::new(alloc);
+    let mut window = Window::on(alloc, &*disk);
     for n in 0..journal.count() {
-        take_record(alloc, journal, disk, n, &mut indexed)?;
+        take_record(alloc, journal, &mut window, disk, n, &mut indexed)?;
     }
     let Indexed { core, index: _ } = indexed;
     Ok(core)
