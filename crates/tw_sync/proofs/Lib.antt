@@ -3,3 +3,12 @@ pub mod Folds
 pub mod Places
 pub mod Steps
 pub mod Ends
+pub mod Replies
+pub mod Sending
+pub mod Badly
+pub mod Told
+pub mod Served
+pub mod Answered
+pub mod Unheard
+pub mod Hearing
+pub mod Complete

@@ -3,3 +3,9 @@ pub mod Positions
 pub mod End
 pub mod Steps
 pub mod Laws
+pub mod Causes
+pub mod Heard
+pub mod Answers
+pub mod Refused
+pub mod Sync
+pub mod Honest

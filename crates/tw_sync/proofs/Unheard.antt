@@ -1,0 +1,62 @@
+-- What is heard where a reply is none that a sync goes on from.
+use Rattle.std.proofs.Common.{◌≡◌, ℕ, inr, List, [], ◌∷◌, ◌++◌, Result, Ok, Err, IfOk, IfErr, refl}
+use Rattle.tw_http.specs.Link.{LinkModel, Exchange}
+use Rattle.tw_http.specs.Messages.{request_text}
+use Rattle.tw_http.specs.Responses.{IsResponseAnswer}
+use Rattle.tw_http.specs.Serving.{client_of, kind_of}
+use Rattle.tw_http.specs.declared.message.Request.{Request}
+use Rattle.tw_http.specs.declared.message.Response.{Response}
+use Rattle.tw_http.specs.declared.message.HttpError.{HttpError}
+use Rattle.tw_sync.specs.Heard.{Heard, heard, IsSent, Hears, HearsUnread, HearsUntil}
+use Rattle.tw_sync.specs.Refused.{HeardRefused}
+use Rattle.tw_sync.specs.Answers.{AskRefused, IsBadlyAnswered}
+use Rattle.tw_sync.specs.declared.error.SyncError.{SyncError}
+use Rattle.tw_sync.specs.declared.error.SyncError.TheVariants as errors
+
+pub if_ok : {A E : Type 0} {P Q : A → Type 0} (r : Result A E) → IfOk r P → ((a : A) → P a → Q a) → IfOk r Q
+if_ok (Ok a) p f = f a p
+if_ok (Err e) p f = tt
+
+pub if_err : {A E : Type 0} {P Q : E → Type 0} (r : Result A E) → IfErr r P → ((e : E) → P e → Q e) → IfErr r Q
+if_err (Ok a) p f = tt
+if_err (Err e) p f = f e p
+
+module _ {L : Type 0} (m : LinkModel L) (old new : L) where
+  pub badly_refused : (asked : Request) (bytes : List ℕ) (e : SyncError) → IsBadlyAnswered asked bytes e → AskRefused m old new e
+  badly_refused asked bytes (errors.Reply kind) b = tt
+  badly_refused asked bytes errors.Memory b = tt
+  badly_refused asked bytes errors.Link b = absurd b
+  badly_refused asked bytes (errors.Journal e) b = absurd b
+  badly_refused asked bytes (errors.Gone base) b = absurd b
+  badly_refused asked bytes (errors.Busy parent) b = absurd b
+  badly_refused asked bytes (errors.OutOfSync base parent) b = absurd b
+  badly_refused asked bytes (errors.Segment version) b = absurd b
+  badly_refused asked bytes (errors.SegmentTooLong n) b = absurd b
+  badly_refused asked bytes (errors.PullTooLong n) b = absurd b
+
+  abbrev exchange_of : Request → (host reply : List ℕ) → Exchange
+  exchange_of asked host reply = record { request = request_text asked host; reply = reply }
+
+  abbrev IsListed : Request → (host reply : List ℕ) → Type 0
+  IsListed asked host reply = m.list new ≡ m.list old ++ exchange_of asked host reply ∷ []
+
+  sent_of : (asked : Request) (host reply : List ℕ) → IsSent (client_of asked) host (exchange_of asked host reply) asked
+  sent_of asked host reply = record { client_is = refl; text = refl }
+
+  pub hears_one : (asked : Request) (host reply : List ℕ) (r : Result Response HttpError) → IsListed asked host reply → IsResponseAnswer (kind_of asked) reply r → Hears m (client_of asked) host old new (heard asked r ∷ [])
+  hears_one asked host reply r listed read = record { exchanges = exchange_of asked host reply ∷ []; listed = listed; are_heard = (record { sent = sent_of asked host reply; read_as = read }, refl) }
+
+  hears_unread : (asked : Request) (host reply : List ℕ) → IsListed asked host reply → HearsUnread m (client_of asked) host old new []
+  hears_unread asked host reply listed = record { exchanges = []; last = exchange_of asked host reply; listed = listed; are_heard = refl; asked = asked; sent = sent_of asked host reply }
+
+  pub badly_heard : (asked : Request) (host reply : List ℕ) (e : SyncError) → IsListed asked host reply → IsBadlyAnswered asked reply e → (hs : List Heard) × HearsUntil m (client_of asked) host old new hs e × HeardRefused (client_of asked) hs e
+  badly_heard asked host reply (errors.Reply kind) listed (r, read, bad) = (heard asked r ∷ [], hears_one asked host reply r listed read, (heard asked r, record { earlier = []; split = refl }, bad))
+  badly_heard asked host reply errors.Memory listed b = ([], inr (hears_unread asked host reply listed), tt)
+  badly_heard asked host reply errors.Link listed b = absurd b
+  badly_heard asked host reply (errors.Journal e) listed b = absurd b
+  badly_heard asked host reply (errors.Gone base) listed b = absurd b
+  badly_heard asked host reply (errors.Busy parent) listed b = absurd b
+  badly_heard asked host reply (errors.OutOfSync base parent) listed b = absurd b
+  badly_heard asked host reply (errors.Segment version) listed b = absurd b
+  badly_heard asked host reply (errors.SegmentTooLong n) listed b = absurd b
+  badly_heard asked host reply (errors.PullTooLong n) listed b = absurd b

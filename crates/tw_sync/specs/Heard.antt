@@ -1,0 +1,121 @@
+-- What a call heard over its link: its requests, and what the replies are read as (TaskChampion book, "HTTP Representation").
+use Rattle.std.specs.Prelude.{◌≡◌, ◌⊎◌, ℕ, ◌+◌, ◌*◌, min, List, [], ◌∷◌, ◌++◌, length, Result, Ok, Err}
+use Rattle.tw_http.specs.Link.{LinkModel, Exchange}
+use Rattle.tw_http.specs.Messages.{request_text}
+use Rattle.tw_http.specs.Responses.{IsResponseAnswer}
+use Rattle.tw_http.specs.Serving.{client_of, kind_of}
+use Rattle.tw_http.specs.declared.message.Request.{Request}
+use Rattle.tw_http.specs.declared.message.Response.{Response}
+use Rattle.tw_http.specs.declared.message.Response.TheVariants.{Added, Conflict, Child, UpToDate, Gone, Bad, TooLong, Taken}
+use Rattle.tw_http.specs.declared.message.HttpError.{HttpError}
+use Rattle.tw_sync.specs.declared.error.SyncError.{SyncError}
+use Rattle.tw_sync.specs.declared.error.SyncError.TheVariants as errors
+
+-- a request, and what the reply to it is read as
+pub record Heard : Type 0 where
+  pub asked : Request
+  pub reply : Result Response HttpError
+
+abbrev pub heard : Request → Result Response HttpError → Heard
+heard asked reply = record { asked = asked; reply = reply }
+
+-- an exchange sent the text of this request, which is of this client
+pub record IsSent (client host : List ℕ) (exchange : Exchange) (asked : Request) : Type 0 where
+  pub client_is : client_of asked ≡ client
+  pub text : exchange.request ≡ request_text asked host
+
+-- an exchange sent this request, and its reply is read so
+pub record IsHeard (client host : List ℕ) (exchange : Exchange) (heard : Heard) : Type 0 where
+  pub sent : IsSent client host exchange heard.asked
+  pub read_as : IsResponseAnswer (kind_of heard.asked) exchange.reply heard.reply
+
+-- exchanges, one after another
+abbrev pub AreHeard : (client host : List ℕ) → List Exchange → List Heard → Type 0
+AreHeard client host [] hs = hs ≡ []
+AreHeard client host (x ∷ xs) [] = ⊥
+AreHeard client host (x ∷ xs) (h ∷ hs) = IsHeard client host x h × AreHeard client host xs hs
+
+-- all that a call heard
+pub record Hears {L : Type 0} (m : LinkModel L) (client host : List ℕ) (old new : L) (hs : List Heard) : Type 0 where
+  pub exchanges : List Exchange
+  pub listed : m.list new ≡ m.list old ++ exchanges
+  pub are_heard : AreHeard client host exchanges hs
+
+-- all that a call heard, but for the last reply, which it did not read
+pub record HearsUnread {L : Type 0} (m : LinkModel L) (client host : List ℕ) (old new : L) (hs : List Heard) : Type 0 where
+  pub exchanges : List Exchange
+  pub last : Exchange
+  pub listed : m.list new ≡ m.list old ++ (exchanges ++ last ∷ [])
+  pub are_heard : AreHeard client host exchanges hs
+  pub asked : Request
+  pub sent : IsSent client host last asked
+
+-- all that a refused call heard: where memory ran out, it may not have read the last reply
+abbrev pub HearsUntil : {L : Type 0} → LinkModel L → (client host : List ℕ) → (old new : L) → List Heard → SyncError → Type 0
+HearsUntil m client host old new hs errors.Memory = Hears m client host old new hs ⊎ HearsUnread m client host old new hs
+HearsUntil m client host old new hs (errors.Journal e) = Hears m client host old new hs
+HearsUntil m client host old new hs errors.Link = Hears m client host old new hs
+HearsUntil m client host old new hs (errors.Reply kind) = Hears m client host old new hs
+HearsUntil m client host old new hs (errors.Gone base) = Hears m client host old new hs
+HearsUntil m client host old new hs (errors.Busy parent) = Hears m client host old new hs
+HearsUntil m client host old new hs (errors.OutOfSync base parent) = Hears m client host old new hs
+HearsUntil m client host old new hs (errors.Segment version) = Hears m client host old new hs
+HearsUntil m client host old new hs (errors.SegmentTooLong bytes) = Hears m client host old new hs
+HearsUntil m client host old new hs (errors.PullTooLong bytes) = Hears m client host old new hs
+
+-- ---- counts of what was heard
+
+-- the bytes of the segment that a 200 to get-child brought
+abbrev pub brought_bytes : Result Response HttpError → List ℕ
+brought_bytes (Ok (Child id parent segment)) = segment
+brought_bytes (Ok (Added id)) = []
+brought_bytes (Ok (Conflict latest)) = []
+brought_bytes (Ok UpToDate) = []
+brought_bytes (Ok Gone) = []
+brought_bytes (Ok Bad) = []
+brought_bytes (Ok TooLong) = []
+brought_bytes (Ok Taken) = []
+brought_bytes (Err e) = []
+
+-- one for a 200 to get-child
+abbrev pub is_child : Result Response HttpError → ℕ
+is_child (Ok (Child id parent segment)) = 1
+is_child (Ok (Added id)) = 0
+is_child (Ok (Conflict latest)) = 0
+is_child (Ok UpToDate) = 0
+is_child (Ok Gone) = 0
+is_child (Ok Bad) = 0
+is_child (Ok TooLong) = 0
+is_child (Ok Taken) = 0
+is_child (Err e) = 0
+
+-- one for a 409
+abbrev pub is_conflict : Result Response HttpError → ℕ
+is_conflict (Ok (Conflict latest)) = 1
+is_conflict (Ok (Child id parent segment)) = 0
+is_conflict (Ok (Added id)) = 0
+is_conflict (Ok UpToDate) = 0
+is_conflict (Ok Gone) = 0
+is_conflict (Ok Bad) = 0
+is_conflict (Ok TooLong) = 0
+is_conflict (Ok Taken) = 0
+is_conflict (Err e) = 0
+
+-- how many bytes of segments were brought
+abbrev pub pulled_bytes : List Heard → ℕ
+pulled_bytes [] = 0
+pulled_bytes (h ∷ hs) = length (brought_bytes h.reply) + pulled_bytes hs
+
+-- how many versions were brought
+abbrev pub brought : List Heard → ℕ
+brought [] = 0
+brought (h ∷ hs) = is_child h.reply + brought hs
+
+-- how many replies were 409
+abbrev pub conflicts : List Heard → ℕ
+conflicts [] = 0
+conflicts (h ∷ hs) = is_conflict h.reply + conflicts hs
+
+-- the most exchanges of a sync that ends, where so many versions were brought
+abbrev pub most_exchanges : ℕ → ℕ
+most_exchanges pulled = pulled + 2 * (min pulled 15 + 1)

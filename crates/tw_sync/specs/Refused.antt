@@ -1,0 +1,153 @@
+-- Why a sync is refused, and what a refusal leaves.
+use Rattle.std.specs.Prelude.{◌≡◌, ◌⊎◌, ℕ, ◌<◌, ◌^◌, true, false, List, [], ◌∷◌, ◌++◌, Ok, Err}
+use Rattle.uuid.specs.Parts.{zero_bytes}
+use Rattle.tw_world.specs.Disk.{DiskModel, Rose}
+use Rattle.tw_journal.specs.Journal.{is_closed}
+use Rattle.tw_journal.specs.declared.journal.JournalError.{JournalError}
+use Rattle.tw_journal.specs.declared.journal.JournalError.TheVariants as journal
+use Rattle.tw_http.specs.Link.{LinkModel}
+use Rattle.tw_http.specs.declared.message.Request.TheVariants as asks
+use Rattle.tw_http.specs.declared.message.Response.TheVariants as replies
+use Rattle.tw_http.specs.declared.message.HttpError.TheVariants as http
+use Rattle.tw_segment.specs.Segment.{max_len}
+use Rattle.tw_segment.specs.Refusals.{IsUnread}
+use Rattle.tw_segment.specs.declared.error.SegmentError.{SegmentError}
+use Rattle.tw_segment.specs.declared.error.SegmentError.TheVariants as segments
+use Rattle.tw_replica.specs.Core.{state_of}
+use Rattle.tw_replica.specs.Replica.{IsSame}
+use Rattle.tw_replica.specs.declared.replica.Replica.{Replica}
+use Rattle.tw_sync.specs.Heard.{Heard, conflicts, pulled_bytes}
+use Rattle.tw_sync.specs.declared.error.ReplyKind.{ReplyKind}
+use Rattle.tw_sync.specs.declared.error.ReplyKind.TheVariants.{Cut, Head, Header, Length, TooLong, Parent, Nil, Status}
+use Rattle.tw_sync.specs.declared.error.SyncError.{SyncError}
+use Rattle.tw_sync.specs.declared.error.SyncError.TheVariants as errors
+
+-- the most bytes of the segments of one sync
+abbrev pub max_pull : ℕ
+max_pull = 268_435_456
+
+-- ---- what was heard
+
+-- the last thing heard
+pub record EndsWith (hs : List Heard) (last : Heard) : Type 0 where
+  pub earlier : List Heard
+  pub split : hs ≡ earlier ++ last ∷ []
+
+-- the call ended at this reply
+abbrev pub EndedBy : List Heard → (Heard → Type 0) → Type 0
+EndedBy hs P = (last : Heard) × EndsWith hs last × P last
+
+-- a 200 to get-child that names another parent than was asked for
+abbrev pub IsOtherParent : Heard → Type 0
+IsOtherParent heard = (client : List ℕ) × (asked : List ℕ) × (id : List ℕ) × (parent : List ℕ) × (segment : List ℕ)
+    × (heard.asked ≡ asks.Child client asked) × (heard.reply ≡ Ok (replies.Child id parent segment)) × ¬ (parent ≡ asked)
+
+-- a new version whose id is nil. The child of the version that was asked for, where it is one
+abbrev pub IsNilVersion : Heard → Type 0
+IsNilVersion heard = (heard.reply ≡ Ok (replies.Added zero_bytes))
+    ⊎ ((client : List ℕ) × (parent : List ℕ) × (segment : List ℕ) × (heard.asked ≡ asks.Child client parent) × (heard.reply ≡ Ok (replies.Child zero_bytes parent segment)))
+
+-- a reply that no sync goes on from
+abbrev pub IsBadReply : ReplyKind → Heard → Type 0
+IsBadReply Cut heard = heard.reply ≡ Err http.NotYet
+IsBadReply Head heard = heard.reply ≡ Err http.Head
+IsBadReply Header heard = heard.reply ≡ Err http.Header
+IsBadReply Length heard = heard.reply ≡ Err http.Length
+IsBadReply TooLong heard = heard.reply ≡ Err http.TooLong
+IsBadReply Parent heard = IsOtherParent heard
+IsBadReply Nil heard = IsNilVersion heard
+IsBadReply (Status code) heard = (heard.reply ≡ Err (http.Status code)) ⊎ ((code ≡ 400) × (heard.reply ≡ Ok replies.Bad)) ⊎ ((code ≡ 413) × (heard.reply ≡ Ok replies.TooLong)) ⊎ ((code ≡ 500) × (heard.reply ≡ Ok replies.Taken))
+
+-- a reply that a sync goes on from, or that says why it can't
+abbrev pub IsWelcome : Heard → Type 0
+IsWelcome heard = (kind : ReplyKind) → ¬ (IsBadReply kind heard)
+
+-- a 410 to get-child of this version
+abbrev pub IsGone : (client base : List ℕ) → Heard → Type 0
+IsGone client base heard = (heard.asked ≡ asks.Child client base) × (heard.reply ≡ Ok replies.Gone)
+
+-- a 409 that names this version
+abbrev pub IsConflict : List ℕ → Heard → Type 0
+IsConflict last heard = heard.reply ≡ Ok (replies.Conflict last)
+
+-- a 409 named the parent, and the next get-child of the base answered 404
+pub record IsOutOfSync (client : List ℕ) (hs : List Heard) (base parent : List ℕ) : Type 0 where
+  pub earlier : List Heard
+  pub refused : Heard
+  pub asked_next : Heard
+  pub split : hs ≡ earlier ++ refused ∷ asked_next ∷ []
+  pub conflict : IsConflict parent refused
+  pub of_base : asked_next.asked ≡ asks.Child client base
+  pub none : asked_next.reply ≡ Ok replies.UpToDate
+
+-- a version was brought whose segment is none
+pub record IsBadSegment (version : List ℕ) (heard : Heard) : Type 0 where
+  pub parent : List ℕ
+  pub segment : List ℕ
+  pub reply_is : heard.reply ≡ Ok (replies.Child version parent segment)
+  pub error : SegmentError
+  pub unread : IsUnread segment error
+  pub other : ¬ (error ≡ segments.Memory)
+
+-- the segments that were brought pass their limit, the last one with them
+abbrev pub IsTooMuch : List Heard → ℕ → Type 0
+IsTooMuch hs bytes = (bytes ≡ pulled_bytes hs) × (max_pull < bytes)
+
+-- what was heard where a sync is refused for a cause of the link or the server
+abbrev pub HeardRefused : (client : List ℕ) → List Heard → SyncError → Type 0
+HeardRefused client hs (errors.Reply kind) = EndedBy hs (IsBadReply kind)
+HeardRefused client hs (errors.Gone base) = EndedBy hs (IsGone client base)
+HeardRefused client hs (errors.Busy parent) = EndedBy hs (IsConflict parent) × (conflicts hs ≡ 16)
+HeardRefused client hs (errors.OutOfSync base parent) = IsOutOfSync client hs base parent
+HeardRefused client hs (errors.Segment version) = EndedBy hs (IsBadSegment version)
+HeardRefused client hs (errors.PullTooLong bytes) = IsTooMuch hs bytes
+HeardRefused client hs (errors.SegmentTooLong bytes) = Unit {0}
+HeardRefused client hs errors.Link = Unit {0}
+HeardRefused client hs (errors.Journal e) = Unit {0}
+HeardRefused client hs errors.Memory = Unit {0}
+
+-- ---- what stays
+
+-- an open replica and its disk are as they were
+pub record IsUnchanged {D : Type 0} (old new : Replica) (before after : D) : Type 0 where
+  pub same : IsSame old new before after
+  pub is_open : is_closed old.journal ≡ false
+
+-- why the record is not written, and what stays
+abbrev pub JournalRefused : {D L : Type 0} → DiskModel D → (old new : Replica) (before after : D) (first last : L) → JournalError → Type 0
+JournalRefused m old new before after first last journal.Disk =
+    Rose (m.faults before) (m.faults after) × (state_of new.core ≡ state_of old.core) × (is_closed old.journal ≡ false) × (is_closed new.journal ≡ true)
+JournalRefused m old new before after first last journal.Closed = (is_closed old.journal ≡ true) × IsSame old new before after × (last ≡ first)
+JournalRefused m old new before after first last (journal.TooLong bytes) = (2 ^ 30 < bytes) × IsUnchanged old new before after
+JournalRefused m old new before after first last (journal.Damaged offset) = ⊥
+JournalRefused m old new before after first last journal.Memory = ⊥
+
+-- why a sync is refused, and what stays. The counts tell the fault of the disk and of the link
+abbrev pub SyncRefused : {D L : Type 0} → DiskModel D → LinkModel L → (old new : Replica) (before after : D) (first last : L) → SyncError → Type 0
+SyncRefused m links old new before after first last (errors.Journal e) = JournalRefused m old new before after first last e
+SyncRefused m links old new before after first last errors.Link = Rose (links.faults first) (links.faults last) × IsUnchanged old new before after
+SyncRefused m links old new before after first last (errors.Reply kind) = IsUnchanged old new before after
+SyncRefused m links old new before after first last (errors.Gone base) = IsUnchanged old new before after
+SyncRefused m links old new before after first last (errors.Busy parent) = IsUnchanged old new before after
+SyncRefused m links old new before after first last (errors.OutOfSync base parent) = IsUnchanged old new before after
+SyncRefused m links old new before after first last (errors.Segment version) = IsUnchanged old new before after
+SyncRefused m links old new before after first last (errors.SegmentTooLong bytes) = (max_len < bytes) × IsUnchanged old new before after
+SyncRefused m links old new before after first last (errors.PullTooLong bytes) = (max_pull < bytes) × IsUnchanged old new before after
+SyncRefused m links old new before after first last errors.Memory = IsUnchanged old new before after
+
+-- the causes where a refused sync may have added a version
+abbrev pub MayAdd : SyncError → Type 0
+MayAdd errors.Link = Unit {0}
+MayAdd errors.Memory = Unit {0}
+MayAdd (errors.Journal journal.Disk) = Unit {0}
+MayAdd (errors.Journal (journal.TooLong bytes)) = Unit {0}
+MayAdd (errors.Journal journal.Closed) = ⊥
+MayAdd (errors.Journal (journal.Damaged offset)) = ⊥
+MayAdd (errors.Journal journal.Memory) = ⊥
+MayAdd (errors.Reply kind) = ⊥
+MayAdd (errors.Gone base) = ⊥
+MayAdd (errors.Busy parent) = ⊥
+MayAdd (errors.OutOfSync base parent) = ⊥
+MayAdd (errors.Segment version) = ⊥
+MayAdd (errors.SegmentTooLong bytes) = ⊥
+MayAdd (errors.PullTooLong bytes) = ⊥

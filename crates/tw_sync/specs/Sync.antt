@@ -1,0 +1,66 @@
+-- The parts of the contract of a sync.
+use Rattle.std.specs.Prelude.{◌≡◌, ◌⊎◌, ℕ, ◌+◌, ◌≤◌, List, [], ◌∷◌, ◌++◌, length, Option, Some, None, Ok}
+use Rattle.std.specs.List.{AllByRecursion}
+use Rattle.tw_world.specs.Disk.{DiskModel, LeavesOnly}
+use Rattle.tw_model.specs.declared.SyncOp.{SyncOp}
+use Rattle.tw_http.specs.Link.{LinkModel}
+use Rattle.tw_http.specs.declared.message.Request.TheVariants as asks
+use Rattle.tw_http.specs.declared.message.Response.TheVariants as replies
+use Rattle.tw_replica.specs.Body.{body_of}
+use Rattle.tw_replica.specs.Body.Step.{Sync}
+use Rattle.tw_replica.specs.State.{State}
+use Rattle.tw_replica.specs.Replica.{IsReplicaOn, IsSame, OpensToEither}
+use Rattle.tw_replica.specs.declared.replica.Replica.{Replica}
+use Rattle.tw_sync.specs.End.{Told, SyncEnd}
+use Rattle.tw_sync.specs.Heard.{Heard, brought, conflicts}
+use Rattle.tw_sync.specs.Refused.{EndedBy, IsWelcome}
+use Rattle.tw_sync.specs.declared.report.SyncReport.{SyncReport}
+
+-- what a link tells of its chain
+abbrev pub told : {L : Type 0} → LinkModel L → L → Told
+told m link = record { chain = m.chain link; own = m.own link }
+
+-- the record of a sync, and how many bytes its row has
+abbrev pub record_body : List ℕ → List SyncOp → List ℕ
+record_body base ops = body_of (Sync base ops)
+
+abbrev pub record_size : List ℕ → List SyncOp → ℕ
+record_size base ops = length (record_body base ops) + 5
+
+-- a sync that leaves the base writes nothing
+pub record WritesNothing {D : Type 0} (m : DiskModel D) (old new : Replica) (before after : D) (bodies : List (List ℕ)) : Type 0 where
+  pub base : new.core.base ≡ old.core.base
+  pub same : IsSame old new before after
+
+-- a sync that moves the base writes one record: the new base, and the operations of all versions since the old one
+pub record WritesOne {D : Type 0} (m : DiskModel D) (old new : Replica) (after : D) (bodies : List (List ℕ)) : Type 0 where
+  pub moved : ¬ (new.core.base ≡ old.core.base)
+  pub ops : List SyncOp
+  pub on : IsReplicaOn m new after (bodies ++ record_body new.core.base ops ∷ [])
+
+-- the records after a sync
+abbrev pub RecordsOfSync : {D : Type 0} → DiskModel D → (old new : Replica) (before after : D) → List (List ℕ) → Type 0
+RecordsOfSync m old new before after bodies = WritesNothing m old new before after bodies ⊎ WritesOne m old new after bodies
+
+-- the end that a sync has led to, if it has come so far
+abbrev pub IsEndIn : (old : State) (before after : Told) → Option State → Type 0
+IsEndIn old before after None = Unit {0}
+IsEndIn old before after (Some next) = (report : SyncReport) × SyncEnd old next before after report
+
+-- at any moment the disk opens to the state before, or to the one end of the sync
+pub record LeavesEnd {D : Type 0} (m : DiskModel D) (before after : D) (old : State) (honest : Type 0) (first last : Told) : Type 0 where
+  pub next : Option State
+  pub end : honest → IsEndIn old first last next
+  pub leaves : LeavesOnly m before after (OpensToEither old next)
+
+-- the last reply of a sync that ends: there is no more, or what was sent was added
+abbrev pub IsLastReply : (client base : List ℕ) → Heard → Type 0
+IsLastReply client base last =
+    ((last.asked ≡ asks.Child client base) × (last.reply ≡ Ok replies.UpToDate)) ⊎ (last.reply ≡ Ok (replies.Added base))
+
+-- what was heard where a sync ends
+pub record HeardEnd (client : List ℕ) (hs : List Heard) (report : SyncReport) : Type 0 where
+  pub ended : EndedBy hs (IsLastReply client report.base)
+  pub brought_is : brought hs ≡ report.pulled
+  pub few : conflicts hs ≤ 15
+  pub welcome : AllByRecursion IsWelcome hs
