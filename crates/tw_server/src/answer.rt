@@ -5,7 +5,7 @@ ghost use Rattle.tw_http.specs.declared.message.Request.TheVariants as asks;
 ghost use Rattle.tw_journal.specs.declared.journal.JournalError.TheVariants as journal_error;
 ghost use Rattle.tw_server.specs.declared.server.ServerError.TheVariants as server_error;
 ghost use Rattle.tw_server.specs.Log.{Accepted, added, told};
-ghost use Rattle.tw_server.specs.Server.{drawn_id, IsServerOn, IsAnswer, LogOrMore, AnswerRefused, is_closed, server_end};
+ghost use Rattle.tw_server.specs.Server.{Knows, drawn_id, IsServerOn, IsAnswer, LogOrMore, AnswerRefused, is_closed, server_end};
 
 use crate::entry::{BEFORE_SEGMENT, Entry, body_of};
 use crate::server::{Server, ServerError};
@@ -22,8 +22,8 @@ impl Server {
     /// version durable first. Only an accepted add-version draws an id.
     ///
     /// A crash at any moment leaves the versions from before the call, or with the new one.
-    /// A refusal leaves the ids, and the versions on a server that it leaves open; after a fault of the disk in an
-    /// append the server is closed.
+    /// A refusal leaves the ids, what the server knows, and the versions on a server that it leaves open; after a
+    /// fault of the disk in an append the server is closed.
     pub fn answer<D: Disk>(
         &mut self,
         alloc: Global,
@@ -41,6 +41,7 @@ impl Server {
         ensures refused { IfErr result (AnswerRefused D.model self.old self.new disk.old disk.new) }
         ensures no_id { OnErr result (ids.new ≡ ids.old) }
         ensures stays { OnErr result ((log : List Accepted) → IsServerOn D.model self.old disk.old log → is_closed self.new ≡ false → IsServerOn D.model self.new disk.new log) }
+        ensures known { OnErr result ((log : List Accepted) → Knows self.old log → Knows self.new log) }
         ensures closed { is_closed self.old ≡ true → result ≡ Err (server_error.Journal journal_error.Closed) }
     {
         if self.journal.is_closed() {
@@ -77,6 +78,7 @@ impl Server {
         ensures refused { IfErr result (AnswerRefused D.model self.old self.new disk.old disk.new) }
         ensures no_id { OnErr result (ids.new ≡ ids.old) }
         ensures stays { OnErr result ((log : List Accepted) → IsServerOn D.model self.old disk.old log → is_closed self.new ≡ false → IsServerOn D.model self.new disk.new log) }
+        ensures known { OnErr result ((log : List Accepted) → Knows self.old log → Knows self.new log) }
     {
         let latest = self.latest(client);
         if latest != parent {

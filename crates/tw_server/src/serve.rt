@@ -130,7 +130,7 @@ fn status_of(response: &Response) -> u16
 }
 
 // The response to a message that is no request, or that ends too early.
-fn refusal_of(error: HttpError) -> Response
+pub(crate) fn refusal_of(error: HttpError) -> Response
     ensures { result ≡ refusal_of error }
 {
     match error {
