@@ -197,3 +197,6 @@ fn bad_reply(kind: ReplyKind) -> SyncError
 {
     SyncError::Reply { kind }
 }
+
+#[cfg(test)]
+mod tests;
