@@ -1,6 +1,15 @@
 pub mod Reading
 pub mod Folds
 pub mod Places
+pub mod Fitting
+pub mod Standing
+pub mod Results
+pub mod Coming
+pub mod Turns
+pub mod Others
+pub mod Adding
+pub mod Begun
+pub mod Moved
 pub mod Steps
 pub mod Ends
 pub mod Replies

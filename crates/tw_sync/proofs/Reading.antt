@@ -1,6 +1,9 @@
 -- What segments are read as.
-use Rattle.std.proofs.Common.{◌≡◌, ℕ, List, [], ◌∷◌, ◌++◌, Some, refl, sym, ap, subst, ◌∙◌}
+use Rattle.std.proofs.Common.{◌≡◌, ℕ, List, [], ◌∷◌, ◌++◌, ◌≤◌, length, Some, None, arith, refl, sym, ap, subst, ◌∙◌}
 use Rattle.std.proofs.lemmas.List.{append-nil, append_assoc}
+use Rattle.json.specs.Json.{value}
+use Rattle.json.specs.Lex.{lex, punctuate}
+use Rattle.serde_json.specs.Read.{read}
 use Rattle.tw_model.specs.declared.SyncOp.{SyncOp}
 use Rattle.tw_protocol.specs.Chain.{Version}
 use Rattle.tw_segment.specs.Segment.{IsSegment, IsSegmentOf}
@@ -29,3 +32,12 @@ reads-append (u ∷ us) vs xs ys r s = (r.0, r.1 ++ ys, r.2, reads-append us vs 
 
 pub reads_last : (v : Version) (more : List SyncOp) → IsSegment v.segment more → Reads (v ∷ []) more
 reads_last v more s = (more, [], s, refl, sym (append-nil more))
+
+no_text : read [] ≡ None
+unfolding value punctuate lex
+no_text = refl
+
+-- no bytes are no segment
+pub segment_some : (bytes : List ℕ) (ops : List SyncOp) → IsSegment bytes ops → 1 ≤ length bytes
+segment_some [] ops s = let e : Some s.0 ≡ None = sym s.1.1 ∙ no_text in absurd cc
+segment_some (b ∷ bytes) ops s = omega arith

@@ -9,3 +9,7 @@ pub mod Answers
 pub mod Refused
 pub mod Sync
 pub mod Honest
+pub mod Place
+pub mod Progress
+pub mod Sending
+pub mod Keeping

@@ -1,12 +1,20 @@
-//! A sync of a replica with a server's chain: what it is, what is asked of the server, and where it ends.
-//! It promises laws of agreement and of a sync's ends, and that an answer is what the server says of its chain, or why there is none.
+//! A sync of a replica with a server's chain: versions are pulled, what is left of the pending operations is sent, and one record is written.
+//! It promises where a sync ends and what each refusal leaves, that agreement with the chain is kept, and that what was sent and comes back cancels.
 //! It stands on `tw_replica` and `tw_transform` for the replica's side, and on `tw_protocol`, `tw_segment` and `tw_http` for the chain's.
 #![tactic(auto)]
 
 mod ask;
+mod engine;
 mod error;
 pub mod laws;
+mod meeting;
+mod place;
+mod pulling;
+mod pushing;
 mod report;
+mod starting;
+mod taking;
 
+pub use engine::sync;
 pub use error::{ReplyKind, SyncError};
 pub use report::SyncReport;

@@ -1,0 +1,277 @@
+-- A replica is moved to the place where a sync ended.
+use Rattle.std.proofs.Common.{◌≡◌, ◌⊎◌, ℕ, ◌+◌, inl, inr, Bool, true, false, cond, length, List, [], ◌∷◌, ◌++◌, Option, Some, None, refl, sym, ap, subst, ◌∙◌, arith, length-append}
+use Rattle.std.proofs.lemmas.Bool.{true≢false}
+use Rattle.std.proofs.lemmas.Cmp.{nat_list_eq_equiv}
+use Rattle.tw_world.specs.Disk.{DiskModel}
+use Rattle.tw_model.specs.Ops.{apply_all, fit_part}
+use Rattle.tw_model.specs.LocalOps.{plain}
+use Rattle.tw_model.proofs.Ops.{apply_all-append}
+use Rattle.tw_protocol.specs.Chain.{Version, same_id, IsChain, IsBetween, HoldsAll}
+use Rattle.tw_protocol.proofs.Chains.{same_id_exact}
+use Rattle.tw_protocol.proofs.Between.{between_is_one}
+use Rattle.tw_journal.specs.Journal.{is_closed}
+use Rattle.tw_journal.specs.declared.journal.JournalError.{JournalError}
+use Rattle.tw_journal.specs.declared.journal.JournalError.TheVariants as journal
+use Rattle.tw_http.specs.Link.{LinkModel}
+use Rattle.tw_transform.specs.Grid.{grid}
+use Rattle.tw_replica.specs.Settle.{settled}
+use Rattle.tw_replica.specs.State.{State, synced}
+use Rattle.tw_replica.specs.Sound.{start_of}
+use Rattle.tw_replica.specs.Core.{state_of}
+use Rattle.tw_replica.specs.Replica.{IsReplicaOn, StepRefused}
+use Rattle.tw_replica.specs.declared.replica.Replica.{Replica}
+use Rattle.tw_sync.specs.Fold.{Reads}
+use Rattle.tw_sync.specs.End.{IsPulled, IsIdle, IsLeft, IsPushed, SyncEnd, MayHaveAdded, report_of}
+use Rattle.tw_sync.specs.Heard.{Heard}
+use Rattle.tw_sync.specs.Refused.{HeardRefused, JournalRefused, SyncRefused, IsUnchanged, MayAdd}
+use Rattle.tw_sync.specs.Sync.{told, record_body, record_size, RecordsOfSync, IsEndIn}
+use Rattle.tw_sync.specs.Honest.{HonestRefused, IsLongRecord}
+use Rattle.tw_sync.specs.Progress.{HasNothingLeft, HasSent, HasMet, IsCause}
+use Rattle.tw_sync.specs.Keeping.{moved_state, IsMovedTo, IsNotMoved}
+use Rattle.tw_sync.specs.declared.report.SyncReport.{SyncReport}
+use Rattle.tw_sync.specs.declared.place.Place.{Place}
+use Rattle.tw_sync.specs.declared.error.SyncError.{SyncError}
+use Rattle.tw_sync.specs.declared.error.SyncError.TheVariants as errors
+use Rattle.tw_sync.proofs.Reading.{reads-append, reads_last}
+use Rattle.tw_sync.proofs.Standing.{between_none, cut_before}
+
+abbrev pub made_report : Place → (dropped sent : ℕ) → SyncReport
+made_report place dropped sent = record { pulled = place.versions; dropped = dropped; pushed = sent; base = place.at }
+
+same_report : (place : Place) (dropped sent pulled dropped_is sent_is : ℕ) (base : List ℕ) → place.versions ≡ pulled → dropped ≡ dropped_is → sent ≡ sent_is → place.at ≡ base → made_report place dropped sent ≡ report_of pulled dropped_is sent_is base
+same_report place dropped sent pulled dropped_is sent_is base a b c d = λ i. record { pulled = a i; dropped = b i; pushed = c i; base = d i }
+
+-- no versions lie between a version and itself
+no_versions : (chain : List Version) (b h : List ℕ) (versions : List Version) → IsChain chain → IsBetween chain b h versions → h ≡ b → versions ≡ []
+no_versions chain b h versions whole btw same =
+    between_is_one chain b b versions [] whole (subst (λ x. IsBetween chain b x versions) same btw) (between_none chain b btw.front (versions ++ btw.back) (cut_before chain b h versions btw))
+
+no_push : (xs : List Version) (v : Version) → ¬ (xs ++ v ∷ [] ≡ [])
+no_push xs v e = let n : length (xs ++ v ∷ []) ≡ 0 = ap length e in let m : length (xs ++ v ∷ []) ≡ length xs + 1 = length-append xs (v ∷ []) in omega arith
+
+-- ---- the end of a sync
+
+module _ {L : Type 0} (m : LinkModel L) (state : State) (first now : L) (place : Place) (dropped sent : ℕ) (whole : IsChain (m.chain now)) (sum : dropped + sent ≡ length (plain state.pending)) where
+  idle : HasNothingLeft m state first now place sent → place.at ≡ state.base → IsIdle state state (told m first) (told m now) (made_report place dropped sent)
+  idle e same =
+      let none : e.stands.versions ≡ [] = no_versions (m.chain now) state.base place.at e.stands.versions whole e.stands.pulled.between same in
+      let reads : place.remote.items ≡ [] = subst (λ vs. Reads vs place.remote.items) none e.stands.pulled.reads in
+      let left : plain state.pending ≡ [] = subst (λ ops. (grid (fit_part (start_of state) ops) (plain state.pending)).1 ≡ place.left.items) reads e.stands.pulled.position ∙ e.none in
+      let count = e.stands.count ∙ ap length none in
+      let pending = ap length left in
+      let zero = e.sent_is in
+      record {
+        nothing = left;
+        same = refl;
+        last = subst (HoldsAll (m.chain first) (m.chain now)) same e.last;
+        mine = e.mine;
+        report_is = same_report place dropped sent 0 0 0 state.base count (omega (arith, sum, pending)) zero same;
+      }
+
+  nothing_left : HasNothingLeft m state first now place sent → ¬ (place.at ≡ state.base) → IsLeft state (synced place.at place.remote.items state) (told m first) (told m now) (made_report place dropped sent)
+  nothing_left e moved = record {
+    moved = moved;
+    versions = e.stands.versions;
+    ops = place.remote.items;
+    pulled = subst (IsPulled state (m.chain now) place.at e.stands.versions place.remote.items) e.none e.stands.pulled;
+    state = refl;
+    last = e.last;
+    mine = e.mine;
+    report_is = (let zero = e.sent_is in same_report place dropped sent (length e.stands.versions) (length (plain state.pending)) 0 place.at e.stands.count (omega (arith, sum, zero)) zero refl);
+  }
+
+  sent_moves : HasSent m state first now place sent → ¬ (place.at ≡ state.base)
+  sent_moves e same = no_push e.versions e.v (no_versions (m.chain now) state.base e.v.id (e.versions ++ e.v ∷ []) whole e.behind (sym e.at ∙ same))
+
+  pushed : HasSent m state first now place sent → IsPushed state (synced place.at place.remote.items state) (told m first) (told m now) (made_report place dropped sent)
+  pushed e =
+      let tasks : apply_all (start_of state) place.remote.items ≡ apply_all (apply_all (start_of state) e.ops) e.left = ap (apply_all (start_of state)) e.remote ∙ apply_all-append (start_of state) e.ops e.left in
+      record {
+        versions = e.versions;
+        ops = e.ops;
+        left = e.left;
+        some = e.some;
+        v = e.v;
+        pulled = e.pulled;
+        segment = e.segment;
+        reads_back = e.reads_back;
+        sent = e.behind;
+        state = λ i. record { base = e.at i; pending = []; tasks = tasks i; numbers = settled state.numbers (tasks i) };
+        last = e.last;
+        mine = e.mine;
+        dropped = dropped;
+        counted = (let n = e.sent_is in omega (arith, sum, n));
+        report_is = same_report place dropped sent (length e.versions) dropped (length e.left) e.v.id e.count refl e.sent_is e.at;
+      }
+
+-- the state after it
+abbrev pub IsStateAfter : Option State → (old new : State) → Type 0
+IsStateAfter None old new = new ≡ old
+IsStateAfter (Some next) old new = new ≡ next
+
+apart : (a b : List ℕ) → same_id a b ≡ false → ¬ (a ≡ b)
+apart a b e same = true≢false (sym (nat_list_eq_equiv.refl a) ∙ ap (λ x. same_id a x) same ∙ e)
+
+pub sync_end : {L : Type 0} (m : LinkModel L) (client : List ℕ) (state new : State) (first now : L) (place : Place) (dropped sent : ℕ) → HasMet m client state first now place sent → dropped + sent ≡ length (plain state.pending)
+    → IsStateAfter (moved_state place state) state new → SyncEnd state new (told m first) (told m now) (made_report place dropped sent)
+sync_end m client state new first now place dropped sent met sum after = (met.on.grows, by (same_id place.at state.base) refl met.end after)
+  where
+    moved : State
+    moved = synced place.at place.remote.items state
+
+    ends : (s : State) → Type 0
+    ends s = IsIdle state s (told m first) (told m now) (made_report place dropped sent) ⊎ IsLeft state s (told m first) (told m now) (made_report place dropped sent) ⊎ IsPushed state s (told m first) (told m now) (made_report place dropped sent)
+
+    by : (b : Bool) → same_id place.at state.base ≡ b → HasNothingLeft m state first now place sent ⊎ HasSent m state first now place sent → IsStateAfter (cond b None (Some moved)) state new → ends new
+    by true e (inl n) is = subst ends (sym is) (inl (idle m state first now place dropped sent met.on.whole sum n (same_id_exact place.at state.base e)))
+    by true e (inr s) is = absurd (sent_moves m state first now place dropped sent met.on.whole sum s (same_id_exact place.at state.base e))
+    by false e (inl n) is = subst ends (sym is) (inr (inl (nothing_left m state first now place dropped sent met.on.whole sum n (apart place.at state.base e))))
+    by false e (inr s) is = subst ends (sym is) (inr (inr (pushed m state first now place dropped sent met.on.whole sum s)))
+
+pub moved_to : {D : Type 0} (m : DiskModel D) (old new : Replica) (before after : D) (place : Place) (o : Option State) → IsMovedTo m old new before after place o → IsStateAfter o (state_of old.core) (state_of new.core)
+moved_to m old new before after place None same = same.state
+moved_to m old new before after place (Some next) moved = moved.0
+
+-- the one state that the disk may open to besides the old one
+pub end_in : {L : Type 0} (m : LinkModel L) (client : List ℕ) (state : State) (first now : L) (place : Place) (dropped sent : ℕ) → HasMet m client state first now place sent → dropped + sent ≡ length (plain state.pending) → IsEndIn state (told m first) (told m now) (moved_state place state)
+end_in m client state first now place dropped sent met sum = by (moved_state place state) (λ next after. sync_end m client state next first now place dropped sent met sum after)
+  where
+    by : (o : Option State) → ((next : State) → IsStateAfter o state next → SyncEnd state next (told m first) (told m now) (made_report place dropped sent)) → IsEndIn state (told m first) (told m now) o
+    by None end = tt
+    by (Some next) end = (made_report place dropped sent, end next refl)
+
+-- ---- its record
+
+pub records_are : {D : Type 0} (m : DiskModel D) (old new : Replica) (before after : D) (place : Place) → IsMovedTo m old new before after place (moved_state place (state_of old.core)) → (bodies : List (List ℕ)) → IsReplicaOn m old before bodies → RecordsOfSync m old new before after bodies
+records_are m old new before after place moved bodies on = by (same_id place.at old.core.base) refl moved
+  where
+    by : (b : Bool) → same_id place.at old.core.base ≡ b → IsMovedTo m old new before after place (cond b None (Some (synced place.at place.remote.items (state_of old.core)))) → RecordsOfSync m old new before after bodies
+    by true e same = inl (record { base = ap (λ s. s.base) same.state; same = same })
+    by false e there =
+        let base : new.core.base ≡ place.at = ap (λ s. s.base) there.0 in
+        inr (record {
+          moved = λ stays. apart place.at old.core.base e (sym base ∙ stays);
+          ops = place.remote.items;
+          on = subst (λ b. IsReplicaOn m new after (bodies ++ record_body b place.remote.items ∷ [])) (sym base) (there.1 bodies on);
+        })
+
+-- ---- refusals
+
+pub stopped_refused : {D L : Type 0} (m : DiskModel D) (links : LinkModel L) (old : Replica) (disk : D) (first last : L) (e : SyncError) → is_closed old.journal ≡ false → IsCause links first last e → SyncRefused m links old old disk disk first last e
+stopped_refused m links old disk first last e live cause = by e cause
+  where
+    same : IsUnchanged old old disk disk
+    same = record { same = record { state = refl; journal = refl; disk = refl }; is_open = live }
+
+    by : (x : SyncError) → IsCause links first last x → SyncRefused m links old old disk disk first last x
+    by errors.Link c = (c, same)
+    by (errors.Journal x) c = absurd c
+    by (errors.SegmentTooLong bytes) c = (c, same)
+    by (errors.PullTooLong bytes) c = (c, same)
+    by (errors.Reply kind) c = same
+    by (errors.Gone base) c = same
+    by (errors.Busy parent) c = same
+    by (errors.OutOfSync base parent) c = same
+    by (errors.Segment version) c = same
+    by errors.Memory c = same
+
+-- where the replica is not moved
+module _ {D L : Type 0} (m : DiskModel D) (links : LinkModel L) (client : List ℕ) (old new : Replica) (before after : D) (first last : L) (place : Place) (sent : ℕ) (live : is_closed old.journal ≡ false) where
+  journal_refused : (e : JournalError) → StepRefused m old new before after (length (record_body place.at place.remote.items)) e → JournalRefused m old new before after first last e
+  journal_refused journal.Disk r = (r.0.0, r.1, live, r.0.1)
+  journal_refused journal.Closed r = absurd (true≢false (sym r.0.0 ∙ live))
+  journal_refused (journal.TooLong bytes) r = (let a = r.0.0 in let b = r.0.1 in omega (arith, a, b), record { same = record { state = r.1; journal = r.0.3; disk = r.0.4 }; is_open = live })
+  journal_refused (journal.Damaged offset) r = absurd r.0
+  journal_refused journal.Memory r = absurd r.0
+
+  pub unmoved_refused : (e : SyncError) → IsNotMoved m old new before after place e → SyncRefused m links old new before after first last e
+  unmoved_refused (errors.Journal e) r = journal_refused e r
+  unmoved_refused errors.Memory r = record { same = r; is_open = live }
+  unmoved_refused errors.Link r = absurd r
+  unmoved_refused (errors.SegmentTooLong bytes) r = absurd r
+  unmoved_refused (errors.PullTooLong bytes) r = absurd r
+  unmoved_refused (errors.Reply kind) r = absurd r
+  unmoved_refused (errors.Gone base) r = absurd r
+  unmoved_refused (errors.Busy parent) r = absurd r
+  unmoved_refused (errors.OutOfSync base parent) r = absurd r
+  unmoved_refused (errors.Segment version) r = absurd r
+
+  long_record : (bytes : ℕ) → HasMet links client (state_of old.core) first last place sent → bytes ≡ record_size place.at place.remote.items → IsLongRecord (state_of old.core) (links.chain last) bytes
+  long_record bytes met len = by met.end
+    where
+      by : HasNothingLeft links (state_of old.core) first last place sent ⊎ HasSent links (state_of old.core) first last place sent → IsLongRecord (state_of old.core) (links.chain last) bytes
+      by (inl e) = record { h = place.at; versions = e.stands.versions; ops = place.remote.items; between = e.stands.pulled.between; reads = e.stands.pulled.reads; len = len }
+      by (inr e) = record {
+        h = place.at;
+        versions = e.versions ++ e.v ∷ [];
+        ops = place.remote.items;
+        between = subst (λ h. IsBetween (links.chain last) old.core.base h (e.versions ++ e.v ∷ [])) (sym e.at) e.behind;
+        reads = subst (Reads (e.versions ++ e.v ∷ [])) (sym e.remote) (reads-append e.versions (e.v ∷ []) e.ops e.left e.pulled.reads (reads_last e.v e.left e.reads_back));
+        len = len;
+      }
+
+  pub unmoved_honest : HasMet links client (state_of old.core) first last place sent → (e : SyncError) → IsNotMoved m old new before after place e → HonestRefused (state_of old.core) (told links first) (told links last) e
+  unmoved_honest met (errors.Journal journal.Disk) r = tt
+  unmoved_honest met (errors.Journal journal.Closed) r = tt
+  unmoved_honest met (errors.Journal (journal.TooLong bytes)) r = long_record bytes met r.0.0
+  unmoved_honest met (errors.Journal (journal.Damaged offset)) r = absurd r.0
+  unmoved_honest met (errors.Journal journal.Memory) r = absurd r.0
+  unmoved_honest met errors.Memory r = tt
+  unmoved_honest met errors.Link r = absurd r
+  unmoved_honest met (errors.SegmentTooLong bytes) r = absurd r
+  unmoved_honest met (errors.PullTooLong bytes) r = absurd r
+  unmoved_honest met (errors.Reply kind) r = absurd r
+  unmoved_honest met (errors.Gone base) r = absurd r
+  unmoved_honest met (errors.Busy parent) r = absurd r
+  unmoved_honest met (errors.OutOfSync base parent) r = absurd r
+  unmoved_honest met (errors.Segment version) r = absurd r
+
+  pub unmoved_may_add : (e : SyncError) → IsNotMoved m old new before after place e → MayAdd e
+  unmoved_may_add (errors.Journal journal.Disk) r = tt
+  unmoved_may_add (errors.Journal journal.Closed) r = absurd (true≢false (sym r.0.0 ∙ live))
+  unmoved_may_add (errors.Journal (journal.TooLong bytes)) r = tt
+  unmoved_may_add (errors.Journal (journal.Damaged offset)) r = absurd r.0
+  unmoved_may_add (errors.Journal journal.Memory) r = absurd r.0
+  unmoved_may_add errors.Memory r = tt
+  unmoved_may_add errors.Link r = absurd r
+  unmoved_may_add (errors.SegmentTooLong bytes) r = absurd r
+  unmoved_may_add (errors.PullTooLong bytes) r = absurd r
+  unmoved_may_add (errors.Reply kind) r = absurd r
+  unmoved_may_add (errors.Gone base) r = absurd r
+  unmoved_may_add (errors.Busy parent) r = absurd r
+  unmoved_may_add (errors.OutOfSync base parent) r = absurd r
+  unmoved_may_add (errors.Segment version) r = absurd r
+
+  -- its state is the old one
+  pub unmoved_state : (e : SyncError) → IsNotMoved m old new before after place e → state_of new.core ≡ state_of old.core
+  unmoved_state (errors.Journal e) r = r.1
+  unmoved_state errors.Memory r = r.state
+  unmoved_state errors.Link r = absurd r
+  unmoved_state (errors.SegmentTooLong bytes) r = absurd r
+  unmoved_state (errors.PullTooLong bytes) r = absurd r
+  unmoved_state (errors.Reply kind) r = absurd r
+  unmoved_state (errors.Gone base) r = absurd r
+  unmoved_state (errors.Busy parent) r = absurd r
+  unmoved_state (errors.OutOfSync base parent) r = absurd r
+  unmoved_state (errors.Segment version) r = absurd r
+
+  -- what it heard is no cause
+  pub unmoved_cause : (hs : List Heard) (e : SyncError) → IsNotMoved m old new before after place e → HeardRefused client hs e
+  unmoved_cause hs (errors.Journal e) r = tt
+  unmoved_cause hs errors.Memory r = tt
+  unmoved_cause hs errors.Link r = absurd r
+  unmoved_cause hs (errors.SegmentTooLong bytes) r = absurd r
+  unmoved_cause hs (errors.PullTooLong bytes) r = absurd r
+  unmoved_cause hs (errors.Reply kind) r = absurd r
+  unmoved_cause hs (errors.Gone base) r = absurd r
+  unmoved_cause hs (errors.Busy parent) r = absurd r
+  unmoved_cause hs (errors.OutOfSync base parent) r = absurd r
+  unmoved_cause hs (errors.Segment version) r = absurd r
+
+-- a sync that came to its end has added what was left, or nothing
+pub may_have_added : {L : Type 0} (m : LinkModel L) (client : List ℕ) (state : State) (first now : L) (place : Place) (sent : ℕ) → HasMet m client state first now place sent → MayHaveAdded state (told m first) (told m now)
+may_have_added m client state first now place sent met = by met.end
+  where
+    by : HasNothingLeft m state first now place sent ⊎ HasSent m state first now place sent → MayHaveAdded state (told m first) (told m now)
+    by (inl e) = inl e.mine
+    by (inr e) = inr (record { v = e.v; versions = e.versions; ops = e.ops; left = e.left; some = e.some; pulled = e.pulled; segment = e.segment; reads_back = e.reads_back; sent = e.behind; mine = e.mine })

@@ -1,0 +1,21 @@
+-- The last thing heard, and results that are handed on.
+use Rattle.std.proofs.Common.{◌≡◌, List, [], ◌∷◌, ◌++◌, Result, Ok, Err, refl, sym, subst}
+use Rattle.std.specs.Result.{OnOk, IfErr, IsErrAnd}
+use Rattle.tw_sync.specs.Heard.{Heard}
+use Rattle.tw_sync.specs.Refused.{EndedBy}
+
+pub ended_by : (hs : List Heard) (h : Heard) (P : Heard → Type 0) → P h → EndedBy (hs ++ h ∷ []) P
+ended_by hs h P p = (h, record { earlier = hs; split = refl }, p)
+
+-- an error that is handed on
+pub passed_on : {T E : Type 0} (r : Result T E) (e : E) (P : E → Type 0) → IsErrAnd r (λ x. x ≡ e) → P e → IfErr r P
+passed_on (Ok v) e P is has = tt
+passed_on (Err x) e P is has = subst P (sym is) has
+
+pub on_ok_map : {T E P Q : Type 0} (r : Result T E) → OnOk r P → (P → Q) → OnOk r Q
+on_ok_map (Ok v) p f = f p
+on_ok_map (Err x) p f = tt
+
+pub if_err_map : {T E : Type 0} (r : Result T E) (P Q : E → Type 0) → IfErr r P → ((x : E) → P x → Q x) → IfErr r Q
+if_err_map (Ok v) P Q p f = tt
+if_err_map (Err x) P Q p f = f x p

@@ -1,0 +1,14 @@
+use Rattle.std.proofs.Common.{◌≡◌, ◌-◌}
+use Rattle.tw_replica.specs.State.{State}
+use Rattle.tw_sync.specs.Refused.{max_pull}
+use Rattle.tw_sync.specs.Progress.{IsPulling}
+use Rattle.tw_sync.proofs.pulling.pull.Given as goal
+
+abbrev pub invariant-loop : goal.invariant-loop
+invariant-loop g l = record {
+  pulls : (state : State) (first : g.row.L.Denot) → IsPulling g.L.Link.model l.fn.client l.fn.host state first l.fn.link l.fn.place → IsPulling g.L.Link.model l.fn.client l.fn.host state first l.link l.place;
+  conflicts : l.place.conflicts ≡ l.fn.place.conflicts;
+}
+
+abbrev pub decreases-loop : goal.decreases-loop
+decreases-loop g l = max_pull - l.place.bytes

@@ -1,0 +1,79 @@
+-- Where a sync stands in a chain.
+use Rattle.std.specs.Prelude.{◌≡◌, ◌⊎◌, ℕ, ◌+◌, ◌<◌, List, [], ◌++◌, length}
+use Rattle.tw_model.specs.Ops.{apply_all, fit_part}
+use Rattle.tw_model.specs.LocalOps.{plain}
+use Rattle.tw_model.specs.declared.SyncOp.{SyncOp}
+use Rattle.tw_protocol.specs.Chain.{Version, IsCut}
+use Rattle.tw_segment.specs.Segment.{IsSegment}
+use Rattle.tw_segment.specs.Refusals.{IsUnread}
+use Rattle.tw_segment.specs.declared.error.SegmentError.{SegmentError}
+use Rattle.tw_segment.specs.declared.error.SegmentError.TheVariants as segments
+use Rattle.tw_transform.specs.Grid.{grid}
+use Rattle.tw_replica.specs.State.{State}
+use Rattle.tw_replica.specs.Sound.{start_of}
+use Rattle.tw_sync.specs.End.{IsPulled}
+use Rattle.tw_sync.specs.Refused.{max_pull}
+use Rattle.tw_sync.specs.Honest.{segments_len}
+use Rattle.tw_sync.specs.declared.place.Place.{Place}
+use Rattle.tw_sync.specs.declared.error.SyncError.{SyncError}
+use Rattle.tw_sync.specs.declared.error.SyncError.TheVariants as errors
+
+-- the place goes on to a version with this segment
+pub record TakesVersion (old new : Place) (id segment : List ℕ) : Type 0 where
+  pub ops : List SyncOp
+  pub reads : IsSegment segment ops
+  pub at : new.at ≡ id
+  pub left : new.left.items ≡ (grid (fit_part old.tasks ops) old.left.items).1
+  pub tasks : new.tasks ≡ apply_all old.tasks ops
+  pub remote : new.remote.items ≡ old.remote.items ++ ops
+  pub versions : new.versions ≡ old.versions + 1
+  pub bytes : new.bytes ≡ old.bytes + length segment
+  pub conflicts : new.conflicts ≡ old.conflicts
+
+-- a segment that is none
+pub record IsUnreadable (segment : List ℕ) : Type 0 where
+  pub error : SegmentError
+  pub unread : IsUnread segment error
+  pub other : ¬ (error ≡ segments.Memory)
+
+-- why a version is not taken
+abbrev pub IsNotTaken : Place → (id segment : List ℕ) → SyncError → Type 0
+IsNotTaken place id segment (errors.PullTooLong bytes) = (bytes ≡ place.bytes + length segment) × (max_pull < bytes)
+IsNotTaken place id segment (errors.Segment version) = (version ≡ id) × IsUnreadable segment
+IsNotTaken place id segment errors.Memory = Unit {0}
+IsNotTaken place id segment (errors.Journal e) = ⊥
+IsNotTaken place id segment errors.Link = ⊥
+IsNotTaken place id segment (errors.Reply kind) = ⊥
+IsNotTaken place id segment (errors.Gone base) = ⊥
+IsNotTaken place id segment (errors.Busy parent) = ⊥
+IsNotTaken place id segment (errors.OutOfSync base parent) = ⊥
+IsNotTaken place id segment (errors.SegmentTooLong bytes) = ⊥
+
+-- a sync of this state stands where it begins, and has pulled nothing
+pub record IsAtStart (state : State) (place : Place) : Type 0 where
+  pub at : place.at ≡ state.base
+  pub left : place.left.items ≡ plain state.pending
+  pub tasks : place.tasks ≡ start_of state
+  pub remote : place.remote.items ≡ []
+  pub versions : place.versions ≡ 0
+  pub bytes : place.bytes ≡ 0
+  pub conflicts : place.conflicts ≡ 0
+
+-- a sync of this state stands here in the chain
+pub record StandsIn (state : State) (chain : List Version) (place : Place) : Type 0 where
+  pub versions : List Version
+  pub pulled : IsPulled state chain place.at versions place.remote.items place.left.items
+  pub tasks : place.tasks ≡ apply_all (start_of state) place.remote.items
+  pub count : place.versions ≡ length versions
+  pub bytes : place.bytes ≡ segments_len versions
+
+-- it stands at the start, of which the chain may know nothing, or in the chain
+abbrev pub Stands : State → List Version → Place → Type 0
+Stands state chain place = IsAtStart state place ⊎ StandsIn state chain place
+
+-- versions stand behind this one
+pub record GoesFurther (chain : List Version) (v : List ℕ) : Type 0 where
+  pub front : List Version
+  pub back : List Version
+  pub cut : IsCut chain v front back
+  pub some : ¬ (back ≡ [])

@@ -1,0 +1,27 @@
+// Where a sync stands in the chain.
+ghost use Rattle.std.specs.Prelude.{◌≤◌};
+ghost use Rattle.tw_sync.specs.Refused.{max_pull};
+
+use tw_model::{SyncOp, Tasks};
+use uuid::Uuid;
+
+/// Where a sync stands: the chain folded to a version, what is left there of the local list, and what came on the way.
+#[derive(Drop)]
+pub struct Place {
+    /// The version.
+    pub at: Uuid,
+    /// The tasks that the chain makes up to it.
+    pub tasks: Tasks,
+    /// The local operations that are left there.
+    pub left: Vec<SyncOp>,
+    /// The operations of the versions that were pulled, also of those that did not fit.
+    pub remote: Vec<SyncOp>,
+    /// How many versions were pulled.
+    pub versions: u64,
+    /// How many bytes their segments have.
+    pub bytes: u64,
+    /// How often others had added a version before what was left came.
+    pub conflicts: u64,
+    ghost few: { versions ≤ bytes },
+    ghost within: { bytes ≤ max_pull },
+}

@@ -1,0 +1,84 @@
+// Pulling what stands behind a place.
+ghost use Rattle.std.specs.Prelude.{◌≡◌, ◌<◌, ◌≤◌, true, false, IfOk, OnOk, IfErr, List, ℕ};
+ghost use Rattle.tw_http.specs.Messages.{IsHost};
+ghost use Rattle.tw_replica.specs.State.{State};
+ghost use Rattle.tw_sync.specs.Progress.{IsPulling, HasPulled, PullsOn, IsLate, IsStopped};
+ghost use Rattle.tw_sync.specs.declared.error.SyncError.TheVariants as errors;
+
+use crate::ask::{ChildAnswer, ask_child};
+use crate::error::SyncError;
+use crate::place::Place;
+use std::alloc::Global;
+use tw_http::Link;
+use uuid::Uuid;
+
+/// Pulls until there is no version more.
+pub(crate) fn pull<L: Link>(
+    alloc: Global,
+    link: &mut L,
+    client: Uuid,
+    host: &str,
+    place: &mut Place,
+) -> Result<(), SyncError>
+    requires host { IsHost host.now }
+    ensures pulled { OnOk result ((state : State) (first : L) → IsPulling L.model client host.now state first link.old place.old → HasPulled L.model client host.now state first link.new place.new) }
+    ensures conflicts { OnOk result (place.new.conflicts ≡ place.old.conflicts) }
+    ensures stopped { IfErr result (λ e. (state : State) (first : L) → IsPulling L.model client host.now state first link.old place.old → IsStopped L.model client host.now state first link.new e) }
+{
+    while pull_one(alloc, link, client, host, place)? {}
+    Ok(())
+}
+
+// Goes on to the version behind the place, and answers whether there was one.
+fn pull_one<L: Link>(
+    alloc: Global,
+    link: &mut L,
+    client: Uuid,
+    host: &str,
+    place: &mut Place,
+) -> Result<bool, SyncError>
+    requires host { IsHost host.now }
+    ensures goes_on { IfOk result (λ more. (state : State) (first : L) → IsPulling L.model client host.now state first link.old place.old → PullsOn more L.model client host.now state first link.new place.new) }
+    ensures farther { IfOk result (λ more. more ≡ true → place.old.bytes < place.new.bytes) }
+    ensures conflicts { OnOk result (place.new.conflicts ≡ place.old.conflicts) }
+
+    // Where a version came too late, there is one more.
+    ensures late { IfOk result (λ more. more ≡ false → (state : State) (first : L) (last : List ℕ) → IsLate L.model client host.now state first link.old place.old last → IsStopped L.model client host.now state first link.new (errors.OutOfSync place.new.at last)) }
+    ensures stopped { IfErr result (λ e. (state : State) (first : L) → IsPulling L.model client host.now state first link.old place.old → IsStopped L.model client host.now state first link.new e) }
+{
+    match ask_child(alloc, link, client, host, place.at)? {
+        ChildAnswer::Found { id, segment } => {
+            place.take_version(alloc, id, segment.as_slice())?;
+            Ok(true)
+        }
+        ChildAnswer::UpToDate => Ok(false),
+        ChildAnswer::Gone => Err(SyncError::Gone { base: place.at }),
+    }
+}
+
+/// Pulls what others added before what was left came, which is at least the version `latest`.
+pub(crate) fn pull_late<L: Link>(
+    alloc: Global,
+    link: &mut L,
+    client: Uuid,
+    host: &str,
+    place: &mut Place,
+    latest: Uuid,
+) -> Result<(), SyncError>
+    requires host { IsHost host.now }
+    ensures pulled { OnOk result ((state : State) (first : L) → IsLate L.model client host.now state first link.old place.old latest → HasPulled L.model client host.now state first link.new place.new) }
+    ensures conflicts { OnOk result (place.new.conflicts ≡ place.old.conflicts) }
+    ensures few { OnOk result (place.new.conflicts ≤ 15) }
+    ensures stopped { IfErr result (λ e. (state : State) (first : L) → IsLate L.model client host.now state first link.old place.old latest → IsStopped L.model client host.now state first link.new e) }
+{
+    if place.conflicts > 15 {
+        return Err(SyncError::Busy { parent: latest });
+    }
+    if !pull_one(alloc, link, client, host, place)? {
+        return Err(SyncError::OutOfSync {
+            base: place.at,
+            parent: latest,
+        });
+    }
+    pull(alloc, link, client, host, place)
+}

@@ -1,0 +1,68 @@
+// Sending what is left at a place.
+ghost use Rattle.std.specs.Prelude.{◌≡◌, ◌≤◌, [], length, IfOk, IfErr};
+ghost use Rattle.tw_http.specs.Messages.{IsHost};
+ghost use Rattle.tw_segment.specs.Segment.{max_len, segment_text, IsSegment};
+ghost use Rattle.tw_replica.specs.State.{State};
+ghost use Rattle.tw_sync.specs.Progress.{HasPulled, IsStopped};
+ghost use Rattle.tw_sync.specs.Sending.{IsUnsent, Pushes, CountsConflict};
+
+use crate::ask::{AddAnswer, ask_add};
+use crate::error::SyncError;
+use crate::place::Place;
+use std::alloc::Global;
+use tw_http::Link;
+use tw_model::SyncOp;
+use tw_segment::{SegmentError, write_segment};
+use uuid::Uuid;
+
+/// What became of what was left.
+#[derive(Clone, Copy, Debug, PartialEq, Eq, Drop)]
+pub(crate) enum Sent {
+    /// It stands in the chain: so many operations.
+    Added { operations: u64 },
+    /// It came too late: the server's latest version is another.
+    Late { latest: Uuid },
+}
+
+/// Sends what is left, to stand behind the place. Where it was added the place goes on to it.
+pub(crate) fn push<L: Link>(
+    alloc: Global,
+    link: &mut L,
+    client: Uuid,
+    host: &str,
+    place: &mut Place,
+) -> Result<Sent, SyncError>
+    requires host { IsHost host.now }
+    requires some { ¬ (place.old.left.items ≡ []) }
+    requires tries { place.old.conflicts ≤ 15 }
+    ensures pushed { IfOk result (λ sent. (state : State) (first : L) → HasPulled L.model client host.now state first link.old place.old → Pushes sent L.model client host.now state first link.new place.new) }
+    ensures conflicts { IfOk result (λ sent. CountsConflict sent place.old place.new) }
+    ensures stopped { IfErr result (λ e. (state : State) (first : L) → HasPulled L.model client host.now state first link.old place.old → IsStopped L.model client host.now state first link.new e) }
+{
+    let segment = text_to_send(alloc, &place.left)?;
+    match ask_add(alloc, link, client, host, place.at, segment)? {
+        AddAnswer::Added { id } => {
+            let operations = place.left.len() as u64;
+            place.remote.append(&mut place.left)?;
+            place.at = id;
+            Ok(Sent::Added { operations })
+        }
+        AddAnswer::Conflict { latest } => {
+            place.conflicts += 1;
+            Ok(Sent::Late { latest })
+        }
+    }
+}
+
+fn text_to_send(alloc: Global, left: &Vec<SyncOp>) -> Result<Vec<u8>, SyncError>
+    ensures text { IfOk result (λ v. v.items ≡ segment_text left.now.items) }
+    ensures within { IfOk result (λ v. length v.items ≤ max_len) }
+    ensures reads_back { IfOk result (λ v. IsSegment v.items left.now.items) }
+    ensures refused { IfErr result (IsUnsent left.now.items) }
+{
+    match write_segment(alloc, left) {
+        Ok(text) => Ok(text),
+        Err(SegmentError::TooLong { bytes }) => Err(SyncError::SegmentTooLong { bytes }),
+        Err(_) => Err(SyncError::Memory),
+    }
+}
