@@ -36,6 +36,9 @@ use Rattle.tw_sync.proofs.Turns.{IsAsked, IsUnasked, asked_on, cause_on, no_repl
 at_end_holds : {L : Type 0} (m : LinkModel L) (client : List ℕ) (state : State) (first now : L) (p : Place) → IsAtEnd m client state first now p → HoldsAll (m.chain first) (m.chain now) p.at
 at_end_holds m client state first now p e = record { front = e.front; back = e.given.after.more; cut = record { split = e.given.after.joined; at = e.last }; holds = e.given.before }
 
+holds_grown : (old now later : List Version) (v : List ℕ) → HoldsAll old now v → Grows now later → HoldsAll old later v
+holds_grown old now later v h g = record { front = h.front; back = h.back ++ g.more; cut = cut_grows now later v h.front h.back h.cut g; holds = h.holds }
+
 -- the exchanges of a sync that ends are few
 few_at_end : (first now versions conflicts more : ℕ) → now ≤ first + (versions + 2 * conflicts + more) → more ≤ 2 → conflicts ≤ versions → conflicts ≤ 15 → now ≤ first + most_exchanges versions
 few_at_end first now versions conflicts more le two late tries = omega (arith, le, two, late, tries)
@@ -117,6 +120,7 @@ added m client host state first a b p q id segment sent s asked grows one some t
           some = some;
           v = version id p.at segment;
           pulled = sent_pulled m client state first a b p id segment e on o;
+          pulled_last = holds_grown (m.chain first) (m.chain a) (m.chain b) p.at (at_end_holds m client state first a p e) on.grows;
           segment = text;
           reads_back = back;
           behind = sent_behind m client state first a b p id segment e on o;

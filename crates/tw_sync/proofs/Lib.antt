@@ -10,6 +10,7 @@ pub mod Others
 pub mod Adding
 pub mod Begun
 pub mod Moved
+pub mod Resumed
 pub mod Steps
 pub mod Ends
 pub mod Replies

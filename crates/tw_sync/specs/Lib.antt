@@ -11,5 +11,6 @@ pub mod Sync
 pub mod Honest
 pub mod Place
 pub mod Progress
+pub mod Resuming
 pub mod Sending
 pub mod Keeping

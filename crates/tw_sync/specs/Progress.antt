@@ -103,6 +103,7 @@ pub record HasSent {L : Type 0} (m : LinkModel L) (state : State) (first now : L
   pub some : ¬ (left ≡ [])
   pub v : Version
   pub pulled : IsPulled state (m.chain now) v.parent versions ops left
+  pub pulled_last : HoldsAll (m.chain first) (m.chain now) v.parent
   pub segment : v.segment ≡ segment_text left
   pub reads_back : IsSegment v.segment left
   pub behind : IsBetween (m.chain now) state.base v.id (versions ++ v ∷ [])

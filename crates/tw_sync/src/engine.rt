@@ -14,6 +14,8 @@ ghost use Rattle.tw_sync.specs.Answers.{IsLinkKept};
 ghost use Rattle.tw_sync.specs.Refused.{HeardRefused, SyncRefused, MayAdd};
 ghost use Rattle.tw_sync.specs.Sync.{told, RecordsOfSync, LeavesEnd, HeardEnd};
 ghost use Rattle.tw_sync.specs.Honest.{HonestRefused, CanSync, IsWant};
+ghost use Rattle.tw_sync.specs.Resuming.{WasAdded, SendsLater};
+ghost use Rattle.tw_model.specs.declared.SyncOp.{SyncOp};
 ghost use Rattle.tw_sync.specs.Keeping.{moved_state, IsMovedTo, IsNotMoved};
 ghost use Rattle.tw_sync.specs.declared.error.SyncError.TheVariants as errors;
 
@@ -47,6 +49,9 @@ pub fn sync<D: Disk, L: Link>(
     ensures agrees { IsHonest L.model link.old client → Agrees (state_of replica.old.core) (L.model.chain link.old) → Agrees (state_of replica.new.core) (L.model.chain link.new) }
     ensures added { IfErr result (λ e. IsHonest L.model link.old client → MayHaveAdded (state_of replica.old.core) (told L.model link.old) (told L.model link.new)) }
     ensures added_only { IfErr result (λ e. IsHonest L.model link.old client → MayAdd e ⊎ (L.model.own link.new ≡ L.model.own link.old)) }
+
+    // What a refused sync sent is not sent again.
+    ensures cancels { IfOk result (λ report. IsHonest L.model link.old client → Agrees (state_of replica.old.core) (L.model.chain link.old) → (mine later : List SyncOp) (was : WasAdded (state_of replica.old.core) (L.model.chain link.old) mine later) → SendsLater (state_of replica.old.core) (told L.model link.old) (told L.model link.new) report mine later was) }
 
     ensures closed { is_closed replica.old.journal ≡ true → result ≡ Err (errors.Journal journal.Closed) }
     ensures refused { IfErr result (SyncRefused D.model L.model replica.old replica.new disk.old disk.new link.old link.new) }

@@ -13,6 +13,7 @@ use Rattle.tw_sync.proofs.Results.{passed_on}
 use Rattle.tw_sync.proofs.Complete.{can_sync}
 use Rattle.tw_sync.proofs.Begun.{starts}
 use Rattle.tw_sync.proofs.Moved.{made_report, sync_end, moved_to, end_in, records_are, stopped_refused, unmoved_refused, unmoved_honest, unmoved_may_add, unmoved_state, unmoved_cause, may_have_added}
+use Rattle.tw_sync.proofs.Resumed.{sends_later}
 use Rattle.tw_sync.proofs.engine.sync.Goals as goal
 
 -- ---- no place to begin at
@@ -411,6 +412,15 @@ returns-clause-agrees g c =
     let sum : (c.len-pending.result - c.in_ok-pushed.pushed) + c.in_ok-pushed.pushed ≡ length (plain c.args.replica.now.core.pending.items) = omega (arith, count, pending, few) in
     λ honest a. sync_end_agrees state (state_of new.core) (told m first) (told m now) (made_report place dropped sent) (met.come honest).on.whole a
     (sync_end m client state (state_of new.core) first now place dropped sent (met.come honest) sum (moved_to d old new before after place (moved_state place state) moved))
+
+pub returns-clause-cancels : goal.returns-clause-cancels
+returns-clause-cancels g c =
+    let m = g.L.Link.model in
+    let state = state_of c.args.replica.now.core in
+    let first = c.args.link.now in
+    let s = starts m c.args.client c.args.host.now state first c.in_ok-place.place (g.met.L.Link.tells_chain first) c.in_ok-place.ensures in
+    let met = c.in_ok-pushed.ensures.met state first s in
+    λ honest a mine later was. sends_later m c.args.client state first c.meet.new.link c.meet.new.place (c.len-pending.result - c.in_ok-pushed.pushed) c.in_ok-pushed.pushed mine later was a.sound (met.come honest)
 
 pub returns-clause-records : goal.returns-clause-records
 returns-clause-records g c =
