@@ -11,6 +11,7 @@ use Rattle.std.specs.BTreeMap.{insert_entry, is_at}
 use Rattle.std.specs.FinMap.{FinMap, get, insert, find, is_sorted, from_sorted, get-from_sorted}
 use Rattle.std.specs.FinMap.Entries.{below_all}
 use Rattle.tw_model.specs.Maps.{bytes_cmp, set_at, set_if_none, set_inside, set_property_at}
+use Rattle.tw_model.specs.LocalOps.{has_value}
 use Rattle.tw_model.proofs.Maps.{same_bytes_back, same_maps, get-set_at, set_at_back}
 use Rattle.tw_model.proofs.Sorted.{first, second, less, turned}
 
@@ -87,3 +88,15 @@ pub property_set : {X : Type 0} (es fs : List (List ℕ × FinMap bytes_cmp X)) 
     → ((q : List ℕ) → lookup (is_at (bytes_cmp q)) fs ≡ cond (is_at (bytes_cmp k) q) (Some new) (lookup (is_at (bytes_cmp q)) es))
     → Some old ≡ lookup (is_at (bytes_cmp k)) es → new ≡ set_at old p v → from_sorted {R = bytes_cmp} fs ≡ set_property_at (from_sorted es) k p v
 property_set es fs k p v old new h g u found is = updated es fs k (Some new) h g u ∙ ap (set_at (from_sorted es) k) (ap Some is ∙ ap (set_inside p v) (found ∙ lookup-get k es h))
+
+-- a tree of maps in which an inner key was set where its value was another
+pub property_exchanged : (es fs : List (List ℕ × FinMap bytes_cmp (List ℕ))) (k p : List ℕ) (b v : Option (List ℕ)) (old new : FinMap bytes_cmp (List ℕ)) → T (is_sorted bytes_cmp es) → T (is_sorted bytes_cmp fs)
+    → ((q : List ℕ) → lookup (is_at (bytes_cmp q)) fs ≡ cond (is_at (bytes_cmp k) q) (Some new) (lookup (is_at (bytes_cmp q)) es))
+    → Some old ≡ lookup (is_at (bytes_cmp k)) es → new ≡ cond (has_value p b (Some old)) (set_at old p v) old
+    → from_sorted {R = bytes_cmp} fs ≡ cond (has_value p b (get (from_sorted {R = bytes_cmp} es) k)) (set_property_at (from_sorted es) k p v) (from_sorted es)
+property_exchanged es fs k p b v old new h g u found is =
+    elim (has_value p b (Some old)) as (λ fit. new ≡ cond fit (set_at old p v) old → from_sorted {R = bytes_cmp} fs ≡ cond fit (set_property_at (from_sorted es) k p v) (from_sorted es)) [
+      | true ↦ λ e. property_set es fs k p v old new h g u found e
+      | false ↦ λ e. unchanged es k h fs old new g u found e
+    ] is
+    ∙ ap (λ o. cond (has_value p b o) (set_property_at (from_sorted es) k p v) (from_sorted es)) (found ∙ lookup-get k es h)

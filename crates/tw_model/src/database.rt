@@ -1,10 +1,10 @@
 // A task database: its uuids and their tasks.
-ghost use Rattle.std.specs.Prelude.{◌≡◌, ◌<◌, [], T, IfOk, OnOk, OnErr, None, is_some, is_none, slice_index_or};
+ghost use Rattle.std.specs.Prelude.{◌≡◌, ◌<◌, [], T, IfOk, OnOk, OnErr, None, cond, is_some, is_none, slice_index_or};
 ghost use Rattle.std.specs.Option.{option_copied};
 ghost use Rattle.std.specs.BTreeMap as tree;
-ghost use Rattle.std.specs.Map.Iter.{ShowsInOrder, deref_pair};
 ghost use Rattle.std.specs.FinMap as map;
 ghost use Rattle.tw_model.specs.Maps.{bytes_cmp, set_at, set_if_none, set_property_at};
+ghost use Rattle.tw_model.specs.LocalOps.{has_value};
 
 use crate::values::{as_str, is_same_value};
 use crate::{Op, SyncOp, TaskMap};
@@ -123,27 +123,33 @@ impl Tasks {
         ensures ok { OnOk result (self.new ≡ apply_local self.old op.now) }
         ensures err { OnErr result (self.new ≡ self.old) }
     {
-        if !self.fits_local(op) {
-            return Ok(false);
-        }
         match op {
-            Op::Create { uuid } => insert_task(&mut self.entries, *uuid, TaskMap::new(alloc))?,
-            Op::Delete { uuid, .. } => remove_task(&mut self.entries, uuid),
+            Op::Create { uuid } => { insert_task(&mut self.entries, *uuid, TaskMap::new(alloc)) }
+            Op::Delete { uuid, .. } => {
+                let is_there = self.fits_local(op);
+                if is_there {
+                    remove_task(&mut self.entries, uuid);
+                }
+                Ok(is_there)
+            }
             Op::Update {
                 uuid,
                 property,
+                before,
                 after,
                 ..
-            } => set_property(
-                &mut self.entries,
-                alloc,
-                uuid,
-                property.as_str(),
-                as_str(after),
-            )?,
-            Op::UndoPoint => true,
-        };
-        Ok(true)
+            } => {
+                exchange_property(
+                    &mut self.entries,
+                    alloc,
+                    uuid,
+                    property.as_str(),
+                    as_str(before),
+                    as_str(after),
+                )
+            }
+            Op::UndoPoint => Ok(true),
+        }
     }
 
     /// Takes back an operation of this replica. Where it fitted and these tasks are what it left, it leaves the tasks before it.
@@ -167,13 +173,9 @@ impl Tasks {
                 before,
                 ..
             } => {
-                let _ = set_property(
-                    &mut self.entries,
-                    alloc,
-                    uuid,
-                    property.as_str(),
-                    as_str(before),
-                )?;
+                let value = as_str(before);
+                let name = property.as_str();
+                let _ = set_property(&mut self.entries, alloc, uuid, name, value)?;
                 Ok(())
             }
             Op::UndoPoint => Ok(()),
@@ -259,7 +261,7 @@ fn copy_tasks(
     Ok(copies)
 }
 
-// Puts a task where its uuid has none, and answers whether it had none.
+// Puts a task where its uuid has none, and answers whether it had none. One that is there is put back.
 fn insert_task(
     entries: &mut BTreeMap<Uuid, TaskMap>,
     uuid: Uuid,
@@ -271,11 +273,13 @@ fn insert_task(
     ensures ok { OnOk result (map.from_sorted {R = bytes_cmp} entries.new.entries ≡ set_if_none (map.from_sorted entries.old.entries) uuid task) }
     ensures err { OnErr result (entries.new.entries ≡ entries.old.entries) }
 {
-    if entries.contains_key(&uuid) {
-        return Ok(false);
+    match entries.insert(uuid, task)? {
+        None => Ok(true),
+        Some(there) => {
+            let _ = entries.insert(uuid, there)?;
+            Ok(false)
+        }
     }
-    let _ = entries.insert(uuid, task)?;
-    Ok(true)
 }
 
 // Takes the task of a uuid out, and answers whether there was one.
@@ -307,6 +311,27 @@ fn set_property(
             task.set(alloc, property, value)?;
             Ok(true)
         }
+        None => Ok(false),
+    }
+}
+
+// Sets or removes a property of the task of a uuid where its value is `before`, and answers whether it is.
+fn exchange_property(
+    entries: &mut BTreeMap<Uuid, TaskMap>,
+    alloc: Global,
+    uuid: &Uuid,
+    property: &str,
+    before: Option<&str>,
+    after: Option<&str>,
+) -> Result<bool, Memory>
+    requires { T (map.is_sorted bytes_cmp entries.old.entries) }
+    ensures sorted { T (map.is_sorted bytes_cmp entries.new.entries) }
+    ensures fits { IfOk result (λ fitted. fitted ≡ has_value property.now (option_copied before.entry) (map.get (map.from_sorted {R = bytes_cmp} entries.old.entries) uuid.now)) }
+    ensures ok { OnOk result (map.from_sorted {R = bytes_cmp} entries.new.entries ≡ cond (has_value property.now (option_copied before.entry) (map.get (map.from_sorted {R = bytes_cmp} entries.old.entries) uuid.now)) (set_property_at (map.from_sorted entries.old.entries) uuid.now property.now (option_copied after.entry)) (map.from_sorted entries.old.entries)) }
+    ensures err { OnErr result (map.from_sorted {R = bytes_cmp} entries.new.entries ≡ map.from_sorted entries.old.entries) }
+{
+    match entries.get_mut(uuid) {
+        Some(task) => task.exchange(alloc, property, before, after),
         None => Ok(false),
     }
 }

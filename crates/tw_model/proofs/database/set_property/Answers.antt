@@ -1,7 +1,6 @@
 use Rattle.std.proofs.Common.{sym, ap, ◌∙◌, is_some, refl, subst}
 use Rattle.std.specs.Option.{option_copied, IsSome}
 use Rattle.std.specs.FinMap.{from_sorted}
-use Rattle.std.specs.BTreeMap.{BTreeMap}
 use Rattle.tw_model.proofs.Sorted.{on_err, unset_at_gap}
 use Rattle.tw_model.proofs.Trees.{ordered_sorted, lookup-get, unchanged, property_set}
 use Rattle.tw_model.proofs.database.set_property.Goals as goal
