@@ -5,6 +5,7 @@ ghost use Rattle.tw_journal.specs.Window.{IsWindowOn};
 ghost use Rattle.tw_journal.specs.Journal.{IsOpenOn, is_closed, journal_count, journal_end};
 ghost use Rattle.tw_replica.specs.State.{Stands, start, stepped, committed, undone, synced};
 ghost use Rattle.tw_replica.specs.Core.{state_of, StepIs};
+ghost use Rattle.tw_replica.specs.Settled.{IsSettledIn};
 ghost use Rattle.tw_replica.specs.Ready.{IsReady};
 ghost use Rattle.tw_replica.specs.Replica.{magic, TakingRefused, ReplayRefused};
 
@@ -167,6 +168,7 @@ pub(crate) fn replay<D: Disk>(
     requires open_now { is_closed journal.now ≡ false }
     requires length { D.model.len disk.old ≡ journal_end journal.now }
     ensures stands { IfOk result (λ core. (bodies : List (List ℕ)) → IsOpenOn D.model magic journal.now disk.old bodies → Stands bodies (state_of core)) }
+    ensures settled { IfOk result (λ core. IsSettledIn core.numbers.items core.tasks) }
     ensures untouched { Untouched D.model disk.old disk.new }
     ensures refused { IfErr result (λ e. ReplayRefused D.model disk.old disk.new journal.now e) }
 {
