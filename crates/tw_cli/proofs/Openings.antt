@@ -1,7 +1,6 @@
 -- What is known of a command once the replica is open, or could not be opened.
-use Rattle.std.proofs.Common.{◌≡◌, ◌⊎◌, inl, inr, ⊎_elim, ◌∙◌, ap, sym, subst, refl, List, ℕ, ◌∷◌, [], ◌++◌, ◌+◌, ◌≤◌, ◌<◌, ◌^◌, length, Bool, true, false, is_some, Option, Some, None, arith}
+use Rattle.std.proofs.Common.{◌≡◌, ◌⊎◌, inl, inr, ⊎_elim, ◌∙◌, ap, sym, subst, refl, List, ℕ, ◌∷◌, [], ◌++◌, ◌+◌, ◌≤◌, ◌<◌, ◌^◌, Bool, true, false, Option, Some, None, arith}
 use Rattle.std.proofs.lemmas.List.{append-nil}
-use Rattle.std.specs.FinMap.{get}
 use Rattle.tw_world.specs.Disk.{DiskModel, Tells, Settled, Rose, Kept, LeavesOnly}
 use Rattle.tw_world.proofs.Moments.{OnlyNow, started, joined, weaker}
 use Rattle.tw_journal.specs.Record.{rows, IsAtRest}
@@ -16,7 +15,6 @@ use Rattle.tw_replica.specs.declared.replica.Replica.{Replica}
 use Rattle.tw_replica.specs.declared.replica.ReplicaError.{ReplicaError}
 use Rattle.tw_replica.specs.declared.replica.ReplicaError.TheVariants as errors
 use Rattle.tw_cli.specs.declared.command.Command.{Command}
-use Rattle.tw_cli.specs.declared.cause.Cause.{Cause}
 use Rattle.tw_cli.specs.declared.cause.Cause.TheVariants.{Memory}
 use Rattle.tw_cli.specs.Command.{Allows, next_of, bodies_of, record_size, text_of}
 use Rattle.tw_cli.specs.Run.{HasMore, CarriedOut, Stays, Refused, CanBeCarriedOut, LeavesEither, cause_of}

@@ -1,12 +1,11 @@
 -- Why the steps of the commands are refused, and what a crash leaves then.
-use Rattle.std.proofs.Common.{◌≡◌, ◌∙◌, ap, sym, subst, refl, List, ℕ, ◌∷◌, [], ◌++◌, ◌+◌, ◌-◌, ◌≤◌, ◌<◌, ◌^◌, length, Bool, true, false, is_some, Option, Some, None, arith}
+use Rattle.std.proofs.Common.{◌≡◌, ap, sym, subst, refl, List, ℕ, ◌+◌, ◌-◌, ◌<◌, ◌^◌, length, true, false, is_some, Option, Some, None, arith}
 use Rattle.std.specs.FinMap.{get}
 use Rattle.tw_world.specs.declared.Moment.{Moment}
 use Rattle.tw_world.specs.Disk.{DiskModel, Tells, Kept, LeavesOnly}
 use Rattle.tw_journal.specs.Open.{IsImageThen}
 use Rattle.tw_journal.specs.declared.journal.JournalError.{JournalError}
 use Rattle.tw_journal.specs.declared.journal.JournalError.TheVariants as journal
-use Rattle.tw_model.specs.declared.Op.{Op}
 use Rattle.tw_replica.specs.Body.{body_of}
 use Rattle.tw_replica.specs.Body.Step.{Commit}
 use Rattle.tw_replica.specs.Reading.{◌>>=◌}
@@ -15,9 +14,7 @@ use Rattle.tw_replica.specs.Replica.{magic, OpensToEither, IsReplicaOn, IsOpened
 use Rattle.tw_replica.specs.declared.replica.Replica.{Replica}
 use Rattle.tw_replica.specs.declared.replica.ReplicaError.{ReplicaError}
 use Rattle.tw_replica.specs.declared.replica.ReplicaError.TheVariants as errors
-use Rattle.tw_cli.specs.declared.command.Command.{Command}
 use Rattle.tw_cli.specs.declared.command.Command.TheVariants.{Add, Undo}
-use Rattle.tw_cli.specs.declared.cause.Cause.{Cause}
 use Rattle.tw_cli.specs.declared.cause.Cause.TheVariants.{Memory}
 use Rattle.tw_cli.specs.Command.{add_ops}
 use Rattle.tw_cli.specs.Run.{Stays, IsTaken, Refused, CanBeCarriedOut, LeavesEither, HasNoMisfit, cause_of, reached}

@@ -1,5 +1,5 @@
 -- The step that a command makes of a replica, and what it prints.
-use Rattle.std.specs.Prelude.{◌≡◌, ℕ, ◌+◌, ◌-◌, true, false, is_some, List, [], ◌∷◌, ◌++◌, Option, Some, None, Result, Ok, Err, length, codes}
+use Rattle.std.specs.Prelude.{◌≡◌, ℕ, ◌+◌, ◌-◌, true, false, is_some, List, [], ◌∷◌, Option, Some, None, Result, Ok, Err, length, codes}
 use Rattle.std.specs.Fmt.{decimal}
 use Rattle.std.specs.FinMap.{get, insert, empty, len, keys}
 use Rattle.tw_world.specs.declared.Moment.{Moment}

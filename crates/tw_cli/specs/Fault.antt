@@ -1,6 +1,5 @@
 -- What is told of a command that did not end well, and the status of each end.
-use Rattle.std.specs.Prelude.{◌≡◌, ◌⊎◌, ℕ, List, [], ◌∷◌, ◌++◌, codes}
-use Rattle.std.specs.Fmt.{decimal}
+use Rattle.std.specs.Prelude.{◌≡◌, ◌⊎◌, ℕ, List, [], ◌++◌, codes}
 use Rattle.tw_world.specs.Disk.{Rose}
 use Rattle.tw_world.specs.Sink.{SinkModel, Got, GotPart}
 use Rattle.uuid.specs.Text.{hyphenated_text, lower}

@@ -1,7 +1,6 @@
 // Runs over a disk and streams in memory.
 
 use super::*;
-use crate::folder::data_folder;
 use crate::words::WordKind;
 use std::test::Fail;
 use tw_world::{MemoryDisk, MemorySink};
@@ -263,25 +262,6 @@ fn a_disk_that_fails_is_told_and_keeps_its_records(rt: HostRuntime) -> Result<()
             run(alloc, "count", &mut again)?.out.bytes(),
             counted.as_slice(),
             "call {failing}"
-        );
-    }
-    Ok(())
-}
-
-#[test]
-fn the_folder_is_found(rt: HostRuntime) -> Result<(), Fail> {
-    let alloc = rt.alloc();
-    let settings = Vec::new(alloc);
-    let rows = [
-        (Some("/data"), Some("/home/ann"), "/data"),
-        (Some("/data"), None, "/data"),
-        (None, Some("/home/ann"), "/home/ann/.task"),
-        (None, None, ".task"),
-    ];
-    for (taskdata, home, folder) in rows {
-        assert_eq!(rt;
-            data_folder(alloc, &settings, taskdata, home)?.as_str(),
-            folder
         );
     }
     Ok(())

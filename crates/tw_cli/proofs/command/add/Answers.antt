@@ -1,14 +1,14 @@
-use Rattle.std.proofs.Common.{◌≡◌, ◌∙◌, ap, sym, subst, refl, true, false, length, Some, None, ◌++◌, ◌∷◌, [], List, ℕ}
+use Rattle.std.proofs.Common.{◌≡◌, ◌∙◌, ap, sym, subst, true, false, length, Some, None, List, ℕ}
 use Rattle.std.specs.FinMap.{get}
 use Rattle.tw_world.specs.Disk.{LeavesOnly}
 use Rattle.tw_replica.specs.Body.{is_group, body_of}
 use Rattle.tw_replica.specs.Body.Step.{Commit}
-use Rattle.tw_replica.specs.State.{committed, misfit}
+use Rattle.tw_replica.specs.State.{committed}
 use Rattle.tw_replica.specs.Replica.{CommitRefused, bodies_after, IsReplicaOn, OpensToEither, held_state}
-use Rattle.tw_cli.specs.Command.{add_ops, next_of}
+use Rattle.tw_cli.specs.Command.{next_of}
 use Rattle.tw_cli.specs.Text.{created_text, printed_bytes}
 use Rattle.tw_cli.specs.declared.text.Printed.TheVariants.{Line}
-use Rattle.tw_cli.specs.Run.{Refused, LeavesEither, HasNoMisfit, reached}
+use Rattle.tw_cli.specs.Run.{Refused, LeavesEither, reached}
 use Rattle.tw_cli.specs.declared.command.Command.TheVariants.{Add}
 use Rattle.tw_cli.specs.declared.cause.Cause.TheVariants.{IdTaken}
 use Rattle.tw_cli.proofs.Fitting.{add_is_group, add_fits}

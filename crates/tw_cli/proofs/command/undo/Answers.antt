@@ -1,4 +1,4 @@
-use Rattle.std.proofs.Common.{◌≡◌, ◌∙◌, ap, sym, subst, refl, length}
+use Rattle.std.proofs.Common.{◌∙◌, ap, sym, subst, length}
 use Rattle.tw_cli.specs.Text.{undone_text, printed_bytes}
 use Rattle.tw_cli.specs.declared.text.Printed.TheVariants.{Line}
 use Rattle.tw_cli.specs.Command.{next_of}

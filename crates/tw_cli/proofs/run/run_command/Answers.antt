@@ -1,4 +1,4 @@
-use Rattle.std.proofs.Common.{◌≡◌, ◌∙◌, sym, subst}
+use Rattle.std.proofs.Common.{subst}
 use Rattle.tw_world.specs.Sink.{Got, GotPart}
 use Rattle.tw_cli.proofs.run.run_command.Goals as goal
 
