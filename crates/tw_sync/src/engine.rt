@@ -5,6 +5,7 @@ ghost use Rattle.tw_journal.specs.Journal.{is_closed};
 ghost use Rattle.tw_journal.specs.declared.journal.JournalError.TheVariants as journal;
 ghost use Rattle.tw_http.specs.Link.{IsHonest};
 ghost use Rattle.tw_http.specs.Messages.{IsHost};
+ghost use Rattle.tw_protocol.specs.Chain.{Grows};
 ghost use Rattle.tw_replica.specs.Core.{state_of};
 ghost use Rattle.tw_replica.specs.Replica.{IsLengthKept, IsReplicaOn, OpensToEither};
 ghost use Rattle.tw_sync.specs.Fold.{Agrees};
@@ -49,6 +50,8 @@ pub fn sync<D: Disk, L: Link>(
     ensures agrees { IsHonest L.model link.old client → Agrees (state_of replica.old.core) (L.model.chain link.old) → Agrees (state_of replica.new.core) (L.model.chain link.new) }
     ensures added { IfErr result (λ e. IsHonest L.model link.old client → MayHaveAdded (state_of replica.old.core) (told L.model link.old) (told L.model link.new)) }
     ensures added_only { IfErr result (λ e. IsHonest L.model link.old client → MayAdd e ⊎ (L.model.own link.new ≡ L.model.own link.old)) }
+
+    ensures grows { IsHonest L.model link.old client → Grows (L.model.chain link.old) (L.model.chain link.new) }
 
     // What a refused sync sent is not sent again.
     ensures cancels { IfOk result (λ report. IsHonest L.model link.old client → Agrees (state_of replica.old.core) (L.model.chain link.old) → (mine later : List SyncOp) (was : WasAdded (state_of replica.old.core) (L.model.chain link.old) mine later) → SendsLater (state_of replica.old.core) (told L.model link.old) (told L.model link.new) report mine later was) }
@@ -102,7 +105,9 @@ fn stand_at<D: Disk>(
     if place.at == replica.base() {
         return Ok(());
     }
-    match replica.finish_sync(alloc, disk, place.at, place.remote) {
+    let base = place.at;
+    let remote = place.into_remote();
+    match replica.finish_sync(alloc, disk, base, remote) {
         Ok(()) => Ok(()),
         Err(ReplicaError::Journal(error)) => Err(SyncError::Journal(error)),
         Err(_) => Err(SyncError::Memory),

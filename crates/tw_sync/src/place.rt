@@ -1,5 +1,5 @@
 // Where a sync stands in the chain.
-ghost use Rattle.std.specs.Prelude.{◌≤◌};
+ghost use Rattle.std.specs.Prelude.{◌≡◌, ◌≤◌};
 ghost use Rattle.tw_sync.specs.Refused.{max_pull};
 
 use tw_model::{SyncOp, Tasks};
@@ -24,4 +24,13 @@ pub struct Place {
     pub conflicts: u64,
     ghost few: { versions ≤ bytes },
     ghost within: { bytes ≤ max_pull },
+}
+
+impl Place {
+    /// The operations that were pulled. All else is let go.
+    pub fn into_remote(self) -> Vec<SyncOp>
+        ensures { result.items ≡ self.remote.items }
+    {
+        self.remote
+    }
 }

@@ -9,6 +9,7 @@ use Rattle.tw_sync.specs.Keeping.{moved_state}
 use Rattle.tw_sync.proofs.Folds.{agrees_is_kept}
 use Rattle.tw_sync.proofs.Ends.{sync_end_agrees}
 use Rattle.tw_sync.proofs.Hearing.{hears_until}
+use Rattle.tw_sync.proofs.Served.{grows_same}
 use Rattle.tw_sync.proofs.Results.{passed_on}
 use Rattle.tw_sync.proofs.Complete.{can_sync}
 use Rattle.tw_sync.proofs.Begun.{starts}
@@ -496,3 +497,38 @@ returns-clause-link_kept g c =
     let s = starts m client host state first c.in_ok-place.place (g.met.L.Link.tells_chain first) c.in_ok-place.ensures in
     let met = c.in_ok-pushed.ensures.met state first s in
     met.kept
+
+-- ---- the chain only grows
+
+pub returns-then-is_closed-clause-grows : goal.returns-then-is_closed-clause-grows
+returns-then-is_closed-clause-grows g c = λ honest. grows_same (g.L.Link.model.chain c.args.link.now)
+
+pub returns-in_err-place-clause-grows : goal.returns-in_err-place-clause-grows
+returns-in_err-place-clause-grows g c = λ honest. grows_same (g.L.Link.model.chain c.args.link.now)
+
+pub returns-in_err-pushed-clause-grows : goal.returns-in_err-pushed-clause-grows
+returns-in_err-pushed-clause-grows g c =
+    let m = g.L.Link.model in
+    let state = state_of c.args.replica.now.core in
+    let first = c.args.link.now in
+    let s = starts m c.args.client c.args.host.now state first c.in_ok-place.place (g.met.L.Link.tells_chain first) c.in_ok-place.ensures in
+    let st = c.in_err-pushed.ensures.stopped state first s in
+    λ honest. (st.come honest).grows
+
+pub returns-in_err-stand_at-clause-grows : goal.returns-in_err-stand_at-clause-grows
+returns-in_err-stand_at-clause-grows g c =
+    let m = g.L.Link.model in
+    let state = state_of c.args.replica.now.core in
+    let first = c.args.link.now in
+    let s = starts m c.args.client c.args.host.now state first c.in_ok-place.place (g.met.L.Link.tells_chain first) c.in_ok-place.ensures in
+    let met = c.in_ok-pushed.ensures.met state first s in
+    λ honest. (met.come honest).on.grows
+
+pub returns-clause-grows : goal.returns-clause-grows
+returns-clause-grows g c =
+    let m = g.L.Link.model in
+    let state = state_of c.args.replica.now.core in
+    let first = c.args.link.now in
+    let s = starts m c.args.client c.args.host.now state first c.in_ok-place.place (g.met.L.Link.tells_chain first) c.in_ok-place.ensures in
+    let met = c.in_ok-pushed.ensures.met state first s in
+    λ honest. (met.come honest).on.grows
