@@ -1,7 +1,8 @@
 // A server at the other end of a TCP connection as a link.
-ghost use Rattle.std.specs.Prelude.{◌≡◌, ◌⊎◌, ◌≤◌, ◌-◌, length, OnOk, OnErr};
+ghost use Rattle.std.specs.Prelude.{◌≡◌, ◌⊎◌, ◌≤◌, ◌-◌, length, OnOk, IsErrOf};
 ghost use Rattle.std.specs.Io.KnownBytes.{Consumes, IsAtEnd};
 ghost use Rattle.tw_world.specs.Disk.{Rose};
+ghost use Rattle.tw_http.specs.Link.{IsExchange, IsAnswered};
 
 use crate::connection::{Connection, Limits};
 use crate::stream::write_whole;
@@ -107,12 +108,58 @@ impl Link for TcpLink<'_> {
 
     ghost own_stand = { λ link tells. none_told tells };
 
-    fn exchange(&mut self, request: &[u8], reply: &mut Vec<u8>) -> Result<(), LinkError> {
+    fn exchange(&mut self, request: &[u8], reply: &mut Vec<u8>) -> Result<(), LinkError>
+        ensures exchanged { IsExchange tcp_model self.old self.new request.now reply.new.items result }
+        ensures answered { IsAnswered tcp_model self.old self.new request.now reply.new.items result }
+        ensures failed { IsErrOf result LinkError.Failed → Rose self.old.faults self.new.faults }
+
+        // No exchange that brings a reply counts a fault.
+        ensures well { OnOk result (self.new.faults ≡ self.old.faults) }
+    {
         self.exchanges = self.exchanges.saturating_add(1);
         let result = self.ask(request, reply);
         if let Err(LinkError::Failed) = result {
             self.faults = self.faults.saturating_add(1);
         }
         result
+    }
+}
+
+#[cfg(test)]
+mod tests {
+    use super::*;
+    use std::test::Fail;
+
+    #[test]
+    fn an_exchange_with_no_server_is_a_fault(rt: HostRuntime) -> Result<(), Fail> {
+        let alloc = rt.alloc();
+        let mut reply = Vec::new(alloc);
+        for host in ["127.0.0.1", "no such host"] {
+            let mut link = TcpLink::new(&rt, String::from_str(alloc, host)?, 1);
+            assert_eq!(rt;
+                link.exchange(b"request", &mut reply),
+                Err(LinkError::Failed)
+            );
+            assert_eq!(rt; link.faults, 1);
+            assert_eq!(rt; link.exchanges, 1);
+        }
+        Ok(())
+    }
+
+    #[test]
+    fn a_reply_is_read_to_its_end_and_no_further_than_the_longest(
+        rt: HostRuntime,
+    ) -> Result<(), Fail> {
+        let alloc = rt.alloc();
+        let mut reply = b"an old reply".to_vec(alloc)?;
+        assert_eq!(rt;
+            read_reply(&mut b"the reply".as_slice(), &mut reply),
+            Ok(())
+        );
+        assert_eq!(rt; reply.as_slice(), b"the reply".as_slice());
+        let long = vec![in alloc; b'x'; MAX_REPLY + 1]?;
+        assert_eq!(rt; read_reply(&mut long.as_slice(), &mut reply), Ok(()));
+        assert!(rt; reply.len() == MAX_REPLY);
+        Ok(())
     }
 }

@@ -9,6 +9,7 @@ mod file_disk;
 mod help;
 mod link;
 mod peer;
+mod placed_file;
 mod server;
 mod server_words;
 mod start;
@@ -34,7 +35,7 @@ fn run(rt: &HostRuntime, alloc: Global) -> Result<u8, StartError> {
         "--help" => Ok(print(rt, HELP)),
         "--version" => Ok(print(rt, VERSION)),
         "task" => run_task(rt, alloc, &words),
-        "server" => run_server(rt, alloc, words),
+        "server" => run_server(rt, alloc, &words),
         _ => Err(StartError::CommandLine),
     }
 }

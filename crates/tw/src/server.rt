@@ -5,7 +5,7 @@ ghost use Rattle.tw.specs.Served.{last_status, status_of_refusal};
 
 use crate::connection::{Connection, Limits};
 use crate::peer::StreamPeer;
-use crate::server_words::server_words;
+use crate::server_words::read_service;
 use crate::start::{StartError, seed};
 use crate::store::open_file;
 use std::alloc::Global;
@@ -24,16 +24,16 @@ const LIMITS: Limits = Limits {
 /// Serves the sync protocol on a port of 127.0.0.1, one connection after another, and gives the program's status:
 /// 0 after the last connection, 3 where the file failed, 4 where there was no memory to read it, 5 where the port
 /// can't be listened on, 7 where the file is damaged. The file is not touched before the port is taken.
-pub fn run_server(rt: &HostRuntime, alloc: Global, words: Vec<String>) -> Result<u8, StartError> {
-    let Some(asked) = server_words(words) else {
+pub fn run_server(rt: &HostRuntime, alloc: Global, words: &Vec<String>) -> Result<u8, StartError> {
+    let Some(service) = read_service(words) else {
         return Err(StartError::CommandLine);
     };
     let mut ids = IdWords::from_seed(seed(rt)?);
-    let Ok(listener) = TcpListener::bind(rt, (Ipv4Addr::LOCALHOST, asked.port)) else {
+    let Ok(listener) = TcpListener::bind(rt, (Ipv4Addr::LOCALHOST, service.port)) else {
         return Ok(5);
     };
-    match open_file(rt, asked.file.as_str()) {
-        Ok(mut disk) => Ok(serve_all(rt, alloc, &listener, &mut disk, &mut ids, asked.count)),
+    match open_file(rt, words[1].as_str()) {
+        Ok(mut disk) => Ok(serve_all(rt, alloc, &listener, &mut disk, &mut ids, service.count)),
         Err(error) if error.kind() == ErrorKind::OutOfMemory => Err(StartError::Memory),
         Err(_) => Ok(3),
     }

@@ -31,7 +31,7 @@ pub fn journal_path(alloc: Global, folder: &str) -> Result<String, StartError> {
 }
 
 /// A file that is a journal. What is not there is made, and stands when the machine stops.
-pub fn open_file(rt: &HostRuntime, path: &str) -> io::Result<FileDisk> {
+pub fn open_file(rt: &HostRuntime, path: &str) -> io::Result<FileDisk<File>> {
     match OpenOptions::new().read(true).write(true).open(rt, path) {
         Ok(file) => FileDisk::new(file),
         Err(error) if error.kind() == io::ErrorKind::NotFound => match Path::new(path).parent() {

@@ -1,6 +1,8 @@
 // The standard streams as sinks.
-ghost use Rattle.std.specs.Prelude.{IsTrue};
+ghost use Rattle.std.specs.Prelude.{◌≡◌, IsTrue, OnOk, OnErr};
 ghost use Rattle.std.specs.Io.KnownBytes.{Appends};
+ghost use Rattle.tw_world.specs.Disk.{Rose};
+ghost use Rattle.tw_world.specs.Sink.{SinkKept, Got, GotPart};
 
 use crate::start::StartError;
 use std::io::Write;
@@ -39,7 +41,16 @@ impl<W: Write> Sink for Stream<W> {
 
     ghost model = { stream_model };
 
-    fn write_all(&mut self, bytes: &[u8]) -> Result<(), StreamError> {
+    fn write_all(&mut self, bytes: &[u8]) -> Result<(), StreamError>
+        ensures written { OnOk result (Got stream_model self.old self.new bytes.now) }
+        ensures part { OnErr result (GotPart stream_model self.old self.new bytes.now) }
+        ensures kept { SinkKept stream_model self.old self.new }
+        ensures failed { OnErr result (Rose self.old.faults self.new.faults) }
+
+        // No call that ends well counts a fault, and the writer has each byte then, where it says what it has.
+        ensures whole { OnOk result (Appends (W.contents self.old.writer) (W.contents self.new.writer) bytes.now) }
+        ensures well { OnOk result (self.new.faults ≡ self.old.faults) }
+    {
         if write_whole(&mut self.writer, bytes) {
             return Ok(());
         }
