@@ -1,5 +1,6 @@
 // `tw task`.
 
+use crate::failing_link::FailingLink;
 use crate::start::{StartError, moment, seed};
 use crate::store::{folder, journal_path, open_file};
 use crate::stream::Stream;
@@ -15,14 +16,16 @@ pub fn run_task(rt: &HostRuntime, alloc: Global, words: &Vec<String>) -> Result<
     let path = journal_path(alloc, folder.as_str())?;
     let now = moment(rt)?;
     let mut ids = IdWords::from_seed(seed(rt)?);
+    let settings = Vec::new(alloc);
+    let mut link = FailingLink::new();
     let mut out = Stream::new(rt.stdout());
     let mut err = Stream::new(rt.stderr());
     let outcome = match open_file(rt, path.as_str()) {
-        Ok(mut disk) => task_run(alloc, words, now, &mut ids, &mut disk, &mut out, &mut err),
+        Ok(mut disk) => task_run(alloc, words, &settings, now, &mut ids, &mut disk, &mut link, &mut out, &mut err),
         Err(error) if error.kind() == ErrorKind::OutOfMemory => return Err(StartError::Memory),
         Err(_) => {
             let mut disk = FailingDisk::new();
-            task_run(alloc, words, now, &mut ids, &mut disk, &mut out, &mut err)
+            task_run(alloc, words, &settings, now, &mut ids, &mut disk, &mut link, &mut out, &mut err)
         }
     };
     Ok(outcome.status)

@@ -39,7 +39,7 @@ one_state : (bodies : List (List ℕ)) (a b : State) → Stands bodies a → Sta
 one_state bodies a b x y = let e : Some a ≡ Some b = sym x ∙ y in cc
 
 module _ {D : Type 0} (m : DiskModel D) where
-  records_of : (d : D) (bodies : List (List ℕ)) → IsAtRest m d (magic ∷ bodies) → Records magic (m.seen d) bodies
+  pub records_of : (d : D) (bodies : List (List ℕ)) → IsAtRest m d (magic ∷ bodies) → Records magic (m.seen d) bodies
   records_of d bodies rest = inl (record { tail = []; split = rest.file ∙ sym (append-nil (rows (magic ∷ bodies))); lengths = rest.lengths; closed = tt })
 
   -- a replica that was opened holds the state that the disk's bytes open to
@@ -83,10 +83,10 @@ module _ {D : Type 0} (m : DiskModel D) where
   unfolding carried_out
   shows command d0 mid d1 r0 r1 shown opened allows step stands is = (carried_out command d0 mid d1 r0 r1 opened allows step stands, is)
 
-  rose_later : (a b c : ℕ) → a ≤ b → Rose b c → Rose a c
+  pub rose_later : (a b c : ℕ) → a ≤ b → Rose b c → Rose a c
   rose_later a b c le rose = omega (arith, le, rose)
 
-  no_longer : (x : Bool) → x ≡ true → x ≡ false → ⊥
+  pub no_longer : (x : Bool) → x ≡ true → x ≡ false → ⊥
   no_longer x t f = absurd (cc)
 
   -- why a step behind an opening is refused is why the command is not carried out

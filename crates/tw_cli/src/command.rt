@@ -36,8 +36,8 @@ pub(crate) enum Command {
     Export,
 }
 
-// The cause that the error of a replica becomes.
-fn as_cause(error: ReplicaError) -> Cause
+/// The cause that the error of a replica becomes.
+pub(crate) fn as_cause(error: ReplicaError) -> Cause
     requires { HasNoMisfit error }
     ensures { result ≡ cause_of error }
 {

@@ -1,56 +1,30 @@
 // One command line over a disk and streams.
-ghost use Rattle.std.specs.Prelude.{◌≡◌, ◌⊎◌, map, string_bytes, Ok, IfOk, OnOk, OnErr};
+ghost use Rattle.std.specs.Prelude.{◌≡◌, ◌⊎◌, map, string_bytes, Ok, OnOk, OnErr};
 ghost use Rattle.tw_world.specs.Ids.{id_bytes};
 ghost use Rattle.tw_world.specs.Disk.{Kept, Rose};
 ghost use Rattle.tw_world.specs.Sink.{Got, GotPart};
+ghost use Rattle.tw_http.specs.Messages.{IsHost};
+ghost use Rattle.tw_sync.specs.Answers.{IsLinkKept};
+ghost use Rattle.tw_sync.specs.declared.error.ReplyKind.TheVariants.{Status};
 ghost use Rattle.tw_cli.specs.Words.{line_of};
 ghost use Rattle.tw_cli.specs.Text.{printed_bytes};
-ghost use Rattle.tw_cli.specs.Command.{drawn_for, command_of, next_of, next_asked};
+ghost use Rattle.tw_cli.specs.Command.{next_of};
 ghost use Rattle.tw_cli.specs.Fault.{Told, status_of};
-ghost use Rattle.tw_cli.specs.Run.{Gives, CanEnd, LeavesEither, reached, HasDrawn, Draws};
+ghost use Rattle.tw_cli.specs.Jobs.{asked_in, Draws};
+ghost use Rattle.tw_cli.specs.Run.{Gives, CanEnd, LeavesEither, reached};
+ghost use Rattle.tw_cli.specs.Syncing.{SyncGives, CanBeSynced, LeavesSync};
+ghost use Rattle.tw_cli.specs.Whole.{RunGives, EndsWell, IsDoneOrWant, RunLeaves};
 
 use crate::cause::{Cause, Outcome, status_of};
 use crate::command::{Command, carry_out};
 use crate::fault::tell;
+use crate::job::{Job, asked};
+use crate::server::Server;
+use crate::syncing::sync_with;
 use crate::text::Printed;
-use crate::words::{BadWord, Line, read_words};
 use std::alloc::Global;
-use tw_world::{Disk, IdWords, Memory, Moment, Sink, StreamError};
-use uuid::Uuid;
-
-// The command that a line asks for. One that adds a task draws its uuid.
-fn drawn(line: Line, now: Moment, ids: &mut IdWords) -> Command
-    ensures command { result ≡ drawn_for (id_bytes ids.old.start) now line }
-    ensures ids { HasDrawn (Ok line) ids.old ids.new }
-{
-    match line {
-        Line::Add { description } => Command::Add {
-            uuid: Uuid::from_bytes(ids.next()),
-            description,
-            now,
-        },
-        Line::Undo => Command::Undo,
-        Line::Count => Command::Count,
-        Line::Export => Command::Export,
-    }
-}
-
-// The command that the words ask for, or the first word that is wrong.
-fn asked(
-    alloc: Global,
-    words: &Vec<String>,
-    now: Moment,
-    ids: &mut IdWords,
-) -> Result<Result<Command, BadWord>, Memory>
-    ensures asked { IfOk result (λ asked. asked ≡ command_of (id_bytes ids.old.start) now (line_of (map string_bytes words.now.items))) }
-    ensures ids { OnOk result (HasDrawn (line_of (map string_bytes words.now.items)) ids.old ids.new) }
-    ensures undrawn { OnErr result (ids.new ≡ ids.old) }
-{
-    match read_words(alloc, words)? {
-        Ok(line) => Ok(Ok(drawn(line, now, ids))),
-        Err(bad) => Ok(Err(bad)),
-    }
-}
+use tw_http::Link;
+use tw_world::{Disk, IdWords, Moment, Sink, StreamError};
 
 fn print<O: Sink>(out: &mut O, text: &Printed) -> Result<(), StreamError>
     ensures written { OnOk result (Got O.model out.old out.new (printed_bytes text.now)) }
@@ -67,8 +41,8 @@ fn run_command<D: Disk, O: Sink>(
     disk: &mut D,
     out: &mut O,
 ) -> Cause
-    ensures gives { Gives D.model O.model (Ok command.now) disk.old disk.new out.old out.new result }
-    ensures complete { CanEnd D.model O.model (Ok command.now) disk.old disk.new out.old out.new → (result ≡ Cause.Done) ⊎ (result ≡ Cause.Memory) }
+    ensures gives { Gives D.model O.model command.now disk.old disk.new out.old out.new result }
+    ensures complete { CanEnd D.model O.model command.now disk.old disk.new out.old out.new → IsDoneOrWant result }
     ensures any_moment { LeavesEither D.model (reached result (next_of command.now)) disk.old disk.new }
     ensures kept { Kept D.model disk.old disk.new }
 {
@@ -82,49 +56,82 @@ fn run_command<D: Disk, O: Sink>(
     Cause::Done
 }
 
+// Syncs with a server, and prints what that did.
+fn run_sync<D: Disk, L: Link, O: Sink>(
+    alloc: Global,
+    server: &Server,
+    disk: &mut D,
+    link: &mut L,
+    out: &mut O,
+) -> Cause
+    requires host { IsHost server.now.host }
+    ensures gives { SyncGives D.model O.model L.model server.now disk.old disk.new out.old out.new link.old link.new result }
+    ensures complete { CanBeSynced D.model L.model server.now disk.old disk.new link.old link.new → (Rose (O.model.faults out.old) (O.model.faults out.new) → ⊥) → IsDoneOrWant result ⊎ (result ≡ Cause.BadReply (Status 500)) }
+    ensures any_moment { LeavesSync D.model L.model server.now disk.old disk.new link.old link.new }
+    ensures kept { Kept D.model disk.old disk.new }
+    ensures link_kept { IsLinkKept L.model link.old link.new }
+{
+    let shown = match sync_with(alloc, server, disk, link) {
+        Ok(shown) => shown,
+        Err(cause) => return cause,
+    };
+    match print(out, &shown) {
+        Ok(()) => Cause::Done,
+        Err(_) => Cause::OutFault,
+    }
+}
+
 // Runs a command line, and tells of nothing.
-fn run_words<D: Disk, O: Sink>(
+fn run_words<D: Disk, L: Link, O: Sink>(
     alloc: Global,
     words: &Vec<String>,
+    settings: &[u8],
     now: Moment,
     ids: &mut IdWords,
     disk: &mut D,
+    link: &mut L,
     out: &mut O,
 ) -> Cause
-    ensures gives { Gives D.model O.model (command_of (id_bytes ids.old.start) now (line_of (map string_bytes words.now.items))) disk.old disk.new out.old out.new result }
-    ensures complete { CanEnd D.model O.model (command_of (id_bytes ids.old.start) now (line_of (map string_bytes words.now.items))) disk.old disk.new out.old out.new → (result ≡ Cause.Done) ⊎ (result ≡ Cause.Memory) }
-    ensures any_moment { LeavesEither D.model (reached result (next_asked (command_of (id_bytes ids.old.start) now (line_of (map string_bytes words.now.items))))) disk.old disk.new }
-    ensures ids { Draws (line_of (map string_bytes words.now.items)) result ids.old ids.new }
+    ensures gives { RunGives D.model O.model L.model (asked_in settings.now (id_bytes ids.old.start) now (line_of (map string_bytes words.now.items))) disk.old disk.new out.old out.new link.old link.new result }
+    ensures complete { EndsWell D.model O.model L.model (asked_in settings.now (id_bytes ids.old.start) now (line_of (map string_bytes words.now.items))) disk.old disk.new out.old out.new link.old link.new result }
+    ensures any_moment { RunLeaves D.model L.model (asked_in settings.now (id_bytes ids.old.start) now (line_of (map string_bytes words.now.items))) disk.old disk.new link.old link.new result }
+    ensures ids { Draws (asked_in settings.now (id_bytes ids.old.start) now (line_of (map string_bytes words.now.items))) result ids.old ids.new }
     ensures kept { Kept D.model disk.old disk.new }
+    ensures link_kept { IsLinkKept L.model link.old link.new }
 {
-    match asked(alloc, words, now, ids) {
-        Ok(Ok(command)) => run_command(alloc, &command, disk, out),
-        Ok(Err(BadWord { word, kind })) => Cause::BadWords { word, kind },
+    match asked(alloc, words, settings, now, ids) {
+        Ok(Ok(Job::Local(command))) => run_command(alloc, &command, disk, out),
+        Ok(Ok(Job::Sync(server))) => run_sync(alloc, &server, disk, link, out),
+        Ok(Err(cause)) => cause,
         Err(_) => Cause::Memory,
     }
 }
 
-/// Does what `tw task` does with these words, at this moment: reads the words, opens the replica that
-/// the disk holds, writes at most one record, prints to `out`, and tells of any other end than
-/// `Done` on `err`. The record is written before anything is printed.
-pub fn task_run<D: Disk, O: Sink, E: Sink>(
+/// Does what `tw task` does with these words and settings, at this moment: reads the settings and the
+/// words, opens the replica that the disk holds, writes at most one record, prints to `out`, and tells of
+/// any other end than `Done` on `err`. The record is written before anything is printed. Only `sync` uses
+/// the link.
+pub fn task_run<D: Disk, L: Link, O: Sink, E: Sink>(
     alloc: Global,
     words: &Vec<String>,
+    settings: &Vec<u8>,
     now: Moment,
     ids: &mut IdWords,
     disk: &mut D,
+    link: &mut L,
     out: &mut O,
     err: &mut E,
 ) -> Outcome
-    ensures gives { Gives D.model O.model (command_of (id_bytes ids.old.start) now (line_of (map string_bytes words.now.items))) disk.old disk.new out.old out.new result.cause }
-    ensures complete { CanEnd D.model O.model (command_of (id_bytes ids.old.start) now (line_of (map string_bytes words.now.items))) disk.old disk.new out.old out.new → (result.cause ≡ Cause.Done) ⊎ (result.cause ≡ Cause.Memory) }
-    ensures any_moment { LeavesEither D.model (reached result.cause (next_asked (command_of (id_bytes ids.old.start) now (line_of (map string_bytes words.now.items))))) disk.old disk.new }
-    ensures ids { Draws (line_of (map string_bytes words.now.items)) result.cause ids.old ids.new }
+    ensures gives { RunGives D.model O.model L.model (asked_in settings.now.items (id_bytes ids.old.start) now (line_of (map string_bytes words.now.items))) disk.old disk.new out.old out.new link.old link.new result.cause }
+    ensures complete { EndsWell D.model O.model L.model (asked_in settings.now.items (id_bytes ids.old.start) now (line_of (map string_bytes words.now.items))) disk.old disk.new out.old out.new link.old link.new result.cause }
+    ensures any_moment { RunLeaves D.model L.model (asked_in settings.now.items (id_bytes ids.old.start) now (line_of (map string_bytes words.now.items))) disk.old disk.new link.old link.new result.cause }
+    ensures ids { Draws (asked_in settings.now.items (id_bytes ids.old.start) now (line_of (map string_bytes words.now.items))) result.cause ids.old ids.new }
     ensures told { Told E.model err.old err.new result.cause }
     ensures status { result.status ≡ status_of result.cause }
     ensures kept { Kept D.model disk.old disk.new }
+    ensures link_kept { IsLinkKept L.model link.old link.new }
 {
-    let cause = run_words(alloc, words, now, ids, disk, out);
+    let cause = run_words(alloc, words, settings.as_slice(), now, ids, disk, link, out);
     tell(err, cause);
     Outcome {
         status: status_of(&cause),

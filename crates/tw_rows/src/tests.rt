@@ -3,7 +3,9 @@
 use std::alloc::Global;
 use std::test::Fail;
 use tw_cli::{Cause, task_run};
+use tw_server::MemoryLink;
 use tw_world::{IdWords, MemoryDisk, MemorySink, Moment};
+use uuid::Uuid;
 
 // Where the three records of a store of two added tasks begin, by the format of the journal: the magic has 13 bytes, and the
 // commit of a task `Buy milk` 250.
@@ -29,7 +31,9 @@ fn run(
     };
     let mut out = MemorySink::new(alloc, Vec::new(alloc), Vec::new(alloc))?;
     let mut err = MemorySink::new(alloc, Vec::new(alloc), Vec::new(alloc))?;
-    let outcome = task_run(alloc, &words, now, &mut ids, disk, &mut out, &mut err);
+    let settings = Vec::new(alloc);
+    let mut link = MemoryLink::new(alloc, Uuid::nil(), IdWords { start: 0, step: 1 }, Vec::new(alloc))?;
+    let outcome = task_run(alloc, &words, &settings, now, &mut ids, disk, &mut link, &mut out, &mut err);
     Ok((outcome.cause, out))
 }
 
