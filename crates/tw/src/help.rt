@@ -9,6 +9,7 @@ usage:
   tw task undo          take the last command back that changed something
   tw task count         print how many tasks there are
   tw task export        print the tasks as JSON
+  tw task sync          exchange changes with the server that the settings name
   tw server PORT FILE [COUNT]
                         serve syncs on a port of 127.0.0.1, with the history of
                         all clients in a file; end after COUNT connections
@@ -16,14 +17,19 @@ usage:
   tw --version          print the version
 
 The tasks lie in the file replica.journal, in the folder that the variable
-TASKDATA names; without it in .task of the folder that HOME names. A folder
-that is not there is made, and so is the server's file.
+TASKDATA names, or the setting data.location; without them in .task of the
+folder that HOME names. A folder that is not there is made, and so is the
+server's file. Settings are read from the file that TASKRC names; without it
+from .taskrc in the folder that HOME names:
+
+  sync.server.url=http://HOST:PORT
+  sync.server.client_id=UUID
 
 status:
-  0 done                    4 out of memory
-  1 nothing to do           5 the port cannot be listened on
-  2 a word is wrong         6 the output failed
-  3 the journal failed      7 the journal is damaged
+  0 done                        4 out of memory
+  1 nothing to do               5 the server or the port failed
+  2 a word or setting is wrong  6 the output failed
+  3 the journal failed          7 the journal is damaged
 ";
 
 /// The program's name and version.

@@ -9,6 +9,7 @@ use crate::stream::write_whole;
 use std::io::Read;
 use std::net::{SocketAddr, TcpStream, ToSocketAddrs};
 use std::time::Duration;
+use tw_cli::Address;
 use tw_http::{Link, LinkError};
 
 // A server that is silent, or not done in time, counts as a fault.
@@ -29,19 +30,17 @@ const PIECE: usize = 65_536;
 #[derive(Drop)]
 pub struct TcpLink<'a> {
     rt: &'a HostRuntime,
-    host: String,
-    port: u16,
+    address: Address,
     exchanges: u64,
     faults: u64,
 }
 
 impl<'a> TcpLink<'a> {
     /// A link that was asked for no exchange.
-    pub fn new(rt: &'a HostRuntime, host: String, port: u16) -> TcpLink<'a> {
+    pub fn new(rt: &'a HostRuntime, address: Address) -> TcpLink<'a> {
         TcpLink {
             rt,
-            host,
-            port,
+            address,
             exchanges: 0,
             faults: 0,
         }
@@ -64,7 +63,7 @@ impl<'a> TcpLink<'a> {
     // A connection to the first of the host's addresses that takes one.
     fn connect(&self) -> Option<TcpStream> {
         let limit = Duration::from_secs(CONNECT_SECONDS);
-        let addresses = (self.host.as_str(), self.port)
+        let addresses = (self.address.host.as_str(), self.address.port)
             .to_socket_addrs(self.rt)
             .ok()?;
         for address in addresses {
@@ -129,13 +128,15 @@ impl Link for TcpLink<'_> {
 mod tests {
     use super::*;
     use std::test::Fail;
+    use tw_world::Text;
 
     #[test]
     fn an_exchange_with_no_server_is_a_fault(rt: HostRuntime) -> Result<(), Fail> {
         let alloc = rt.alloc();
         let mut reply = Vec::new(alloc);
         for host in ["127.0.0.1", "no such host"] {
-            let mut link = TcpLink::new(&rt, String::from_str(alloc, host)?, 1);
+            let host = Text::from_str(alloc, host)?;
+            let mut link = TcpLink::new(&rt, Address { host, port: 1 });
             assert_eq!(rt;
                 link.exchange(b"request", &mut reply),
                 Err(LinkError::Failed)

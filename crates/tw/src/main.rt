@@ -12,6 +12,7 @@ mod peer;
 mod placed_file;
 mod server;
 mod server_words;
+mod settings;
 mod start;
 mod store;
 mod stream;

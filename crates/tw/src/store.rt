@@ -8,11 +8,11 @@ use std::path::Path;
 use std::{fs, io};
 use tw_cli::data_folder;
 
-/// The folder of the tasks.
-pub fn folder(rt: &HostRuntime, alloc: Global) -> Result<String, StartError> {
+/// The folder of the tasks, with these settings.
+pub fn folder(rt: &HostRuntime, alloc: Global, settings: &Vec<u8>) -> Result<String, StartError> {
     let taskdata = variable(rt, "TASKDATA")?;
     let home = variable(rt, "HOME")?;
-    match data_folder(alloc, &Vec::new(alloc), as_str(&taskdata), as_str(&home)) {
+    match data_folder(alloc, settings, as_str(&taskdata), as_str(&home)) {
         Ok(folder) => Ok(folder),
         Err(_) => Err(StartError::Memory),
     }

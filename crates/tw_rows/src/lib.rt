@@ -1,9 +1,13 @@
 //! Tests over the top call of the program that no clause says, and that cross its crates.
 //! It has no code of its own and promises nothing beside them.
-//! It stands on `tw_cli`, and on the objects in memory of `tw_world`.
+//! It stands on `tw_cli`, and on the objects in memory of `tw_world` and `tw_server`.
 #![tactic(auto)]
 
 #[cfg(test)]
-mod sync_tests;
+mod damage;
 #[cfg(test)]
-mod tests;
+mod machine;
+#[cfg(test)]
+mod merges;
+#[cfg(test)]
+mod syncs;

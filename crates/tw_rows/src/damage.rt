@@ -1,41 +1,16 @@
 // Runs of command lines over damaged stores.
 
+use crate::machine::{link, run_from};
 use std::alloc::Global;
 use std::test::Fail;
-use tw_cli::{Cause, task_run};
-use tw_server::MemoryLink;
-use tw_world::{IdWords, MemoryDisk, MemorySink, Moment};
-use uuid::Uuid;
+use tw_cli::Cause;
+use tw_world::MemoryDisk;
+
+const SECOND: u64 = 1_700_000_000;
 
 // Where the three records of a store of two added tasks begin, by the format of the journal: the magic has 13 bytes, and the
 // commit of a task `Buy milk` 250.
 const RECORDS: [u64; 3] = [0, 13, 263];
-
-// Runs a line of words that are parted by bars, with identifiers from `first` on, and answers how it ended and what it printed.
-fn run(
-    alloc: Global,
-    first: u128,
-    line: &str,
-    disk: &mut MemoryDisk,
-) -> Result<(Cause, MemorySink), Fail> {
-    let mut words = Vec::new(alloc);
-    for word in line.split('|') {
-        words.push(String::from_str(alloc, word)?)?;
-    }
-    let Some(now) = Moment::new(1_700_000_000, 0) else {
-        return Err(Fail::new("no moment"));
-    };
-    let mut ids = IdWords {
-        start: first,
-        step: 1,
-    };
-    let mut out = MemorySink::new(alloc, Vec::new(alloc), Vec::new(alloc))?;
-    let mut err = MemorySink::new(alloc, Vec::new(alloc), Vec::new(alloc))?;
-    let settings = Vec::new(alloc);
-    let mut link = MemoryLink::new(alloc, Uuid::nil(), IdWords { start: 0, step: 1 }, Vec::new(alloc))?;
-    let outcome = task_run(alloc, &words, &settings, now, &mut ids, disk, &mut link, &mut out, &mut err);
-    Ok((outcome.cause, out))
-}
 
 fn disk_of(alloc: Global, bytes: Vec<u8>) -> Result<MemoryDisk, Fail> {
     if bytes.len() >= 1 << 20 {
@@ -61,9 +36,10 @@ fn damage_at(place: u64) -> u64 {
 #[test]
 fn a_byte_of_255_is_damage_at_its_record_or_changes_no_task(rt: HostRuntime) -> Result<(), Fail> {
     let alloc = rt.alloc();
+    let mut line = link(alloc, Vec::new(alloc))?;
     let mut whole = disk_of(alloc, Vec::new(alloc))?;
-    let _ = run(alloc, 1, "add|Buy|milk", &mut whole)?;
-    let _ = run(alloc, 2, "add|Buy|milk", &mut whole)?;
+    let _ = run_from(alloc, 1, "add|Buy|milk", SECOND, &mut whole, &mut line)?;
+    let _ = run_from(alloc, 2, "add|Buy|milk", SECOND, &mut whole, &mut line)?;
     assert_eq!(rt; whole.bytes().len(), 513);
     let mut taken: u64 = 0;
     for place in 0..whole.bytes().len() {
@@ -72,12 +48,13 @@ fn a_byte_of_255_is_damage_at_its_record_or_changes_no_task(rt: HostRuntime) -> 
             bytes[place] = 255;
         }
         let mut disk = disk_of(alloc, bytes)?;
-        match run(alloc, 3, "count", &mut disk)? {
-            (Cause::Done, out) => {
+        let (outcome, out) = run_from(alloc, 3, "count", SECOND, &mut disk, &mut line)?;
+        match outcome.cause {
+            Cause::Done => {
                 assert_eq!(rt; out.bytes(), b"2\n".as_slice(), "byte {place}");
                 taken = u64::saturating_add(taken, 1);
             }
-            (Cause::Damaged { offset }, _) => assert_eq!(rt;
+            Cause::Damaged { offset } => assert_eq!(rt;
                 offset,
                 damage_at(place as u64),
                 "byte {place}"
