@@ -1,6 +1,6 @@
 // Changes of one task on two machines, by commits where no command makes them yet.
-ghost use Rattle.std.specs.Prelude.{◌≡◌, true, IfOk};
-ghost use Rattle.tw_replica.specs.Body.{is_group};
+ghost use Rattle.std.specs.Prelude.{◌≡◌, true, false, IfOk};
+ghost use Rattle.tw_replica.specs.Body.{is_group, is_undo_point};
 
 use crate::machine::{link, machine, moment, run, step};
 use std::alloc::Global;
@@ -26,7 +26,9 @@ fn update(
     before: Option<&str>,
     after: &str,
     at: Moment,
-) -> Result<Op, Memory> {
+) -> Result<Op, Memory>
+    ensures { IfOk result (λ op. is_undo_point op ≡ false) }
+{
     let before = match before {
         Some(text) => Some(Text::from_str(alloc, text)?),
         None => None,

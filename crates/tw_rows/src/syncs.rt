@@ -83,8 +83,12 @@ fn machines_agree_once_a_sync_ends_whatever_was_lost(rt: HostRuntime) -> Result<
             let mut script = Vec::new(alloc);
             for number in 0..3 {
                 let ends = if number == lost { fate } else { Fate::Deliver };
-                let others: &[&str] = if number == 0 { &[NOTHING] } else { &[] };
-                script.push(step(alloc, others, ends)?)?;
+                let then = if number == 0 {
+                    step(alloc, &[NOTHING], ends)?
+                } else {
+                    step(alloc, &[], ends)?
+                };
+                script.push(then)?;
             }
             let mut line = link(alloc, script)?;
             let mut desk = machine(alloc)?;
