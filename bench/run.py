@@ -1,10 +1,12 @@
 #!/usr/bin/env python3
 """Times `tw task` beside Taskwarrior's `task` on the same tasks, and compares their peak memory.
 
-    bench/run.py [--tw PATH] [--task PATH] [--sizes 1000,10000,50000] [--runs 9] [--per-record 1]
+    bench/run.py [--tw PATH] [--task PATH] [--sizes 1000,10000,50000] [--runs 9] [--per-record 1] [--synced]
 
-For each number of tasks it builds a store for each program: a journal, in the format that
-docs/FORMATS.md gives, with `--per-record` tasks in each record, and Taskwarrior's `pending.data`.
+For each number of tasks it builds a store for each program, as that many `add`s leave it: a journal,
+in the format that docs/FORMATS.md gives, with `--per-record` tasks in each record, and Taskwarrior's
+`pending.data`, `undo.data` and `backlog.data`. With `--synced` the tasks came from a server, and there
+is nothing to undo: a journal of one sync, and Taskwarrior's `pending.data` alone.
 The runs of the two programs alternate. Each line gives the median of the wall time in milliseconds,
 the peak of resident memory of one more run in megabytes, and how many times less `tw` takes of each.
 Memory is measured by GNU time (Debian's package time), and left out where that is not there.
@@ -12,6 +14,7 @@ Without `task` on the machine (Debian's package taskwarrior), it measures `tw` a
 """
 
 import argparse
+import json
 import os
 import random
 import shutil
@@ -56,8 +59,25 @@ def operations(uuid, second, description):
     ]
 
 
+def synced_operations(uuid, second, description):
+    values = [("description", description), ("entry", str(second)), ("modified", str(second)), ("status", "pending")]
+    return [b"\x01" + uuid] + [
+        b"\x03" + uuid + text(name) + b"\x01" + text(value) + struct.pack(">QI", second, 0)
+        for name, value in values
+    ]
+
+
 def record(body):
     return b"\x01" + struct.pack(">I", len(body)) + body
+
+
+def write_synced(folder, number):
+    """The store of `tw` after a first sync: the magic, and one record of a sync."""
+    os.makedirs(folder)
+    group = [operation for task in tasks(number) for operation in synced_operations(*task)]
+    with open(os.path.join(folder, "replica.journal"), "wb") as file:
+        file.write(record(b"TWREPL01"))
+        file.write(record(b"\x03" + bytes(range(16)) + struct.pack(">I", len(group)) + b"".join(group)))
 
 
 def write_journal(folder, number, per_record):
@@ -85,17 +105,36 @@ def hyphenated(uuid):
     return "-".join([digits[:8], digits[8:12], digits[12:16], digits[16:20], digits[20:]])
 
 
-def write_pending(folder, number):
-    """The store of Taskwarrior 2: one line a task."""
+def composed(uuid, second, description):
+    """A task as Taskwarrior's data files have it."""
+    return (
+        f'[description:"{description}" entry:"{second}" modified:"{second}"'
+        f' status:"pending" uuid:"{hyphenated(uuid)}"]'
+    )
+
+
+def exported(uuid, second, description):
+    """A task as Taskwarrior's backlog has it."""
+    moment = time.strftime("%Y%m%dT%H%M%SZ", time.gmtime(second))
+    return json.dumps(
+        {"description": description, "entry": moment, "modified": moment, "status": "pending", "uuid": hyphenated(uuid)},
+        separators=(",", ":"),
+    )
+
+
+def write_lines(folder, name, lines):
+    with open(os.path.join(folder, name), "w", encoding="utf-8") as file:
+        file.writelines(line + "\n" for line in lines)
+
+
+def write_data(folder, number, with_history):
+    """The store of Taskwarrior 2, and what its `add`s keep for `undo` and `sync`."""
     os.makedirs(folder)
-    with open(os.path.join(folder, "pending.data"), "w", encoding="utf-8") as file:
-        for uuid, second, description in tasks(number):
-            file.write(
-                f'[description:"{description}" entry:"{second}" modified:"{second}"'
-                f' status:"pending" uuid:"{hyphenated(uuid)}"]\n'
-            )
-    for name in ["completed.data", "undo.data", "backlog.data"]:
-        open(os.path.join(folder, name), "w", encoding="utf-8").close()
+    kept = list(tasks(number)) if with_history else []
+    write_lines(folder, "pending.data", (composed(*task) for task in tasks(number)))
+    write_lines(folder, "completed.data", [])
+    write_lines(folder, "undo.data", (f"time {task[1]}\nnew {composed(*task)}\n---" for task in kept))
+    write_lines(folder, "backlog.data", (exported(*task) for task in kept))
 
 
 class Program:
@@ -142,11 +181,14 @@ class Program:
 def programs(arguments, folder, number):
     base = {"PATH": os.environ.get("PATH", ""), "HOME": folder, "LANG": "C.UTF-8", "TZ": ""}
     tw_store = os.path.join(folder, "tw")
-    write_journal(tw_store, number, arguments.per_record)
+    if arguments.synced:
+        write_synced(tw_store, number)
+    else:
+        write_journal(tw_store, number, arguments.per_record)
     found = [Program([arguments.tw, "task"], dict(base, TASKDATA=tw_store))]
     if arguments.task:
         task_store = os.path.join(folder, "task")
-        write_pending(task_store, number)
+        write_data(task_store, number, not arguments.synced)
         settings = os.path.join(folder, "taskrc")
         with open(settings, "w", encoding="utf-8") as file:
             file.write("confirmation=no\n")
@@ -186,6 +228,7 @@ def main():
     parser.add_argument("--sizes", default="1000,10000,50000", help="numbers of tasks")
     parser.add_argument("--runs", type=int, default=9, help="runs of each command")
     parser.add_argument("--per-record", type=int, default=1, help="tasks in a record")
+    parser.add_argument("--synced", action="store_true", help="stores after a first sync")
     parser.add_argument("--commands", default=",".join(COMMANDS), help="commands to run")
     arguments = parser.parse_args()
     arguments.commands = arguments.commands.split(",")
