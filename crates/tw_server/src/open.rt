@@ -2,6 +2,7 @@
 ghost use Rattle.std.specs.Prelude.{◌≡◌, ◌<◌, ◌+◌, false, if◌then◌else◌, All, List, ℕ, IfOk, IfErr, OnOk, Some, None};
 ghost use Rattle.tw_world.specs.Disk.{Tells, LeavesOnly, Kept, Untouched};
 ghost use Rattle.tw_journal.specs.Journal.{IsOpenOn, journal_count};
+ghost use Rattle.tw_journal.specs.Window.{IsWindowOn};
 ghost use Rattle.tw_journal.specs.Open.{IsImageThen};
 ghost use Rattle.tw_server.specs.Log.{Accepted, follows, is_next_entry, entry_of, accepted_in};
 ghost use Rattle.tw_server.specs.Server.{magic, Knows, IsReadTo, IsOpenedOn, TakeRefused, IsBadBody, ServerOpenRefused, is_closed, server_end};
@@ -10,7 +11,7 @@ use crate::entry::{Entry, read_entry};
 use crate::server::{Server, ServerError};
 use crate::versions::Versions;
 use std::alloc::Global;
-use tw_journal::{Journal, JournalError};
+use tw_journal::{Journal, JournalError, Window};
 use tw_world::Disk;
 use uuid::Uuid;
 
@@ -37,26 +38,35 @@ impl Server {
             journal,
             versions: Versions::new(alloc),
         };
+        let mut window = Window::on(alloc, &*disk);
         for n in 0..count {
-            server.take_body(alloc, disk, n)?;
+            server.take_body(alloc, &mut window, disk, n)?;
         }
         Ok(server)
     }
 
     // Takes the version of the record with this number.
-    fn take_body<D: Disk>(&mut self, alloc: Global, disk: &mut D, n: u64) -> Result<(), ServerError>
+    fn take_body<D: Disk>(
+        &mut self,
+        alloc: Global,
+        window: &mut Window,
+        disk: &mut D,
+        n: u64,
+    ) -> Result<(), ServerError>
         requires inside { n < journal_count self.old.journal }
         requires open { is_closed self.old ≡ false }
         requires length { D.model.len disk.old ≡ server_end self.old }
+        requires window { IsWindowOn D.model disk.old window.old }
 
         ensures taken { OnOk result ((bodies : List (List ℕ)) → IsOpenOn D.model magic self.old.journal disk.old bodies → IsReadTo self.old bodies n → IsReadTo self.new bodies (n + 1)) }
         ensures journal { self.new.journal ≡ self.old.journal }
+        ensures window { OnOk result (IsWindowOn D.model disk.new window.new) }
         ensures untouched { Untouched D.model disk.old disk.new }
 
         ensures refused { IfErr result (TakeRefused D.model disk.old disk.new) }
         ensures damaged { IfErr result (λ e. (bodies : List (List ℕ)) → IsOpenOn D.model magic self.old.journal disk.old bodies → IsReadTo self.old bodies n → IsBadBody bodies n e) }
     {
-        let body = self.journal.body(alloc, disk, n)?;
+        let body = self.journal.body_through(alloc, window, disk, n)?;
         let Some(entry) = self.next_entry(body.as_slice()) else {
             let offset = self.journal.offset(disk, n)?;
             return Err(ServerError::Journal(JournalError::Damaged { offset }));

@@ -14,6 +14,7 @@ loop-n-init g c = record {
   read = λ bodies on. record { log = []; entries = c.new.ensures; same = refl; sound = nothing_sound };
   open_now = c.in_ok-journal.ensures.length.1;
   len = c.in_ok-journal.ensures.length.0;
+  window = c.on-window.ensures;
   count = c.count-count.ensures;
 }
 
@@ -27,6 +28,7 @@ loop-n-preserved g c =
       read = λ bodies on. c.in_ok-take_body.ensures.taken bodies (open_now m c.in_ok-journal.journal c.loop-n.server.journal c.open.new.disk c.loop-n.disk bodies so_far.same so_far.untouched on) (so_far.read bodies on);
       open_now = ap (λ j. is_closed j) c.take_body.ensures.journal ∙ so_far.open_now;
       len = c.take_body.ensures.untouched.len ∙ so_far.len ∙ ap (λ j. journal_end j) (sym c.take_body.ensures.journal);
+      window = c.in_ok-take_body.ensures.window;
       count = so_far.count;
     }
 

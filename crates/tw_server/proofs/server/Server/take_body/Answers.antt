@@ -14,13 +14,13 @@ pub returns-in_err-body-clause-damaged : goal.returns-in_err-body-clause-damaged
 returns-in_err-body-clause-damaged g c =
     let m = g.D.Disk.model in
     from_fault (λ (e : ServerError). (bodies : List (List ℕ)) → IsOpenOn m magic c.args.self.now.journal c.args.disk.now bodies → IsReadTo c.args.self.now bodies c.args.n → IsBadBody bodies c.args.n e) c.from_residual.result (error_of c.in_err-body.field-0.0) c.from_residual.ensures.1
-    (λ bodies on read. read_not_bad m c.args.self.now.journal c.args.disk.now c.body.new.disk bodies c.args.n c.in_err-body.field-0.0 c.in_err-body.ensures.refused on)
+    (λ bodies on read. read_not_bad m c.args.self.now.journal c.args.disk.now c.body_through.new.disk bodies c.args.n c.in_err-body.field-0.0 c.in_err-body.ensures.refused on)
 
 pub returns-in_err-offset-clause-damaged : goal.returns-in_err-offset-clause-damaged
 returns-in_err-offset-clause-damaged g c =
     let m = g.D.Disk.model in
     from_fault (λ (e : ServerError). (bodies : List (List ℕ)) → IsOpenOn m magic c.args.self.now.journal c.args.disk.now bodies → IsReadTo c.args.self.now bodies c.args.n → IsBadBody bodies c.args.n e) c.from_residual-in_err-offset.result (error_of c.in_err-offset.field-0.0) c.from_residual-in_err-offset.ensures.1
-    (λ bodies on read. read_not_bad m c.args.self.now.journal c.body.new.disk c.offset.new.disk bodies c.args.n c.in_err-offset.field-0.0 c.in_err-offset.ensures.refused (open_stays m c.args.self.now.journal c.args.disk.now c.body.new.disk bodies c.in_ok-body.ensures.untouched on))
+    (λ bodies on read. read_not_bad m c.args.self.now.journal c.body_through.new.disk c.offset.new.disk bodies c.args.n c.in_err-offset.field-0.0 c.in_err-offset.ensures.refused (open_stays m c.args.self.now.journal c.args.disk.now c.body_through.new.disk bodies c.in_ok-body.ensures.untouched on))
 
 pub returns-in_default-clause-damaged : goal.returns-in_default-clause-damaged
 returns-in_default-clause-damaged g c bodies on read =
@@ -32,7 +32,7 @@ returns-in_default-clause-damaged g c bodies on read =
       sound = read.sound;
       inside = let n = c.requires.inside in let k = on.count in omega (arith, n, k);
       bad = subst (λ b. follows read.log b ≡ false) is (none_false (follows read.log c.as_slice.result.now) (entry_of (accepted_in c.as_slice.result.now)) (sym c.in_default.is ∙ c.next_entry.ensures.next read.log read.entries));
-      place = c.in_ok-offset.ensures.place magic bodies (open_stays m c.args.self.now.journal c.args.disk.now c.body.new.disk bodies c.in_ok-body.ensures.untouched on);
+      place = c.in_ok-offset.ensures.place magic bodies (open_stays m c.args.self.now.journal c.args.disk.now c.body_through.new.disk bodies c.in_ok-body.ensures.untouched on);
     }
 
 pub returns-clause-taken : goal.returns-clause-taken
