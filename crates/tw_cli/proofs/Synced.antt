@@ -36,17 +36,18 @@ pub record WhatIsTold {L : Type 0} (links : LinkModel L) (server : Server) (l0 l
   pub added_only : IsHonest links l0 server.client → MayAdd e ⊎ (links.own l1 ≡ links.own l0)
 
 module _ {D L : Type 0} (m : DiskModel D) (links : LinkModel L) (server : Server) where
-  has_synced : (d0 mid d1 : D) (r0 r1 : Replica) → Tells m d0 → (Tells m d0 → IsOpenedReplica m d0 mid r0) → (o : IsOpenedReplica m d0 mid r0) → RecordsOfSync m r0 r1 mid d1 o.bodies → HasSynced m d0 d1 (held_state r0) (held_state r1)
-  has_synced d0 mid d1 r0 r1 tells opened o (inl nothing) = record {
+  has_synced : (d0 mid d1 : D) (r0 r1 : Replica) (honest : Type 0) (chain : List Version) → Tells m d0 → (Tells m d0 → IsOpenedReplica m d0 mid r0) → (o : IsOpenedReplica m d0 mid r0) → RecordsOfSync m r0 r1 mid d1 honest chain o.bodies
+      → HasSynced m d0 d1 (held_state r0) (held_state r1) honest chain
+  has_synced d0 mid d1 r0 r1 honest chain tells opened o (inl nothing) = record {
     bodies = [];
     writes = inl (nothing.same.state, refl);
     more = subst (λ d. HasMore (m.seen d0) (m.seen d) [] (held_state r0) (held_state r1)) (sym nothing.same.disk)
         (subst (λ s. HasMore (m.seen d0) (m.seen mid) [] (held_state r0) s) (sym nothing.same.state) (stays_open m d0 mid r0 opened tells));
     settled = subst (Settled m) (sym nothing.same.disk) o.now.open_on.rest.settled;
   }
-  has_synced d0 mid d1 r0 r1 tells opened o (inr one) = record {
+  has_synced d0 mid d1 r0 r1 honest chain tells opened o (inr one) = record {
     bodies = record_body r1.core.base one.ops ∷ [];
-    writes = inr (one.moved, (one.ops, refl));
+    writes = inr (one.moved, (one.ops, one.read, refl));
     more = record {
       bodies = o.bodies;
       had = o.records;
@@ -59,11 +60,11 @@ module _ {D L : Type 0} (m : DiskModel D) (links : LinkModel L) (server : Server
 
   pub synced : (d0 mid d1 : D) (r0 r1 : Replica) (l0 l1 : L) (report : SyncReport) → (Tells m d0 → IsOpenedReplica m d0 mid r0)
       → (IsHonest links l0 server.client → SyncEnd (held_state r0) (held_state r1) (told links l0) (told links l1) report)
-      → ((bodies : List (List ℕ)) → IsReplicaOn m r0 mid bodies → RecordsOfSync m r0 r1 mid d1 bodies) → HeardAll links server l0 l1 report → Synced m links server d0 d1 l0 l1 report
+      → ((bodies : List (List ℕ)) → IsReplicaOn m r0 mid bodies → RecordsOfSync m r0 r1 mid d1 (IsHonest links l0 server.client) (links.chain l1) bodies) → HeardAll links server l0 l1 report → Synced m links server d0 d1 l0 l1 report
   synced d0 mid d1 r0 r1 l0 l1 report opened ended records heard = record {
     old = held_state r0;
     new = held_state r1;
-    disk = λ tells. has_synced d0 mid d1 r0 r1 tells opened (opened tells) (records (opened tells).bodies (opened tells).now);
+    disk = λ tells. has_synced d0 mid d1 r0 r1 (IsHonest links l0 server.client) (links.chain l1) tells opened (opened tells) (records (opened tells).bodies (opened tells).now);
     ended = ended;
     heard = heard;
   }

@@ -10,7 +10,7 @@ use Rattle.tw_segment.specs.Segment.{max_len}
 use Rattle.tw_replica.specs.State.{State}
 use Rattle.tw_replica.specs.Replica.{magic, OpensTo, OpensToEither, IsNoStepAt}
 use Rattle.tw_protocol.specs.Chain.{IsBetween, Version}
-use Rattle.tw_sync.specs.Fold.{Agrees}
+use Rattle.tw_sync.specs.Fold.{ReadsBetween, Agrees}
 use Rattle.tw_sync.specs.End.{SyncEnd, MayHaveAdded}
 use Rattle.tw_sync.specs.Heard.{Heard, Hears, HearsUntil, brought, most_exchanges}
 use Rattle.tw_sync.specs.Refused.{HeardRefused, MayAdd, max_pull}
@@ -26,14 +26,14 @@ use Rattle.tw_cli.specs.declared.cause.Cause.{Cause}
 use Rattle.tw_cli.specs.declared.cause.Cause.TheVariants.{Done, NothingToUndo, BadWords, BadSetting, NoServer, IdTaken, DiskFault, RecordTooLong, Memory, LinkFault, BadReply, Gone, Busy, OutOfSync, BadSegment, SegmentTooLong, PullTooLong, OutFault, Damaged}
 
 -- the bodies of the records that a sync writes: none where the base stays, else one, of the new base and the operations of all versions since the old one
-abbrev pub WritesSync : (old new : State) → List (List ℕ) → Type 0
-WritesSync old new bodies =
-    ((new ≡ old) × (bodies ≡ [])) ⊎ (¬ (new.base ≡ old.base) × ((ops : List SyncOp) × (bodies ≡ record_body new.base ops ∷ [])))
+abbrev pub WritesSync : (old new : State) (honest : Type 0) (chain : List Version) → List (List ℕ) → Type 0
+WritesSync old new honest chain bodies =
+    ((new ≡ old) × (bodies ≡ [])) ⊎ (¬ (new.base ≡ old.base) × ((ops : List SyncOp) × (honest → ReadsBetween chain old.base new.base ops) × (bodies ≡ record_body new.base ops ∷ [])))
 
 -- the records that stand behind those before a sync
-pub record HasSynced {D : Type 0} (m : DiskModel D) (d0 d1 : D) (old new : State) : Type 0 where
+pub record HasSynced {D : Type 0} (m : DiskModel D) (d0 d1 : D) (old new : State) (honest : Type 0) (chain : List Version) : Type 0 where
   pub bodies : List (List ℕ)
-  pub writes : WritesSync old new bodies
+  pub writes : WritesSync old new honest chain bodies
   pub more : HasMore (m.seen d0) (m.seen d1) bodies old new
   pub settled : Settled m d1
 
@@ -47,7 +47,7 @@ HeardAll links server l0 l1 report =
 pub record Synced {D L : Type 0} (m : DiskModel D) (links : LinkModel L) (server : Server) (d0 d1 : D) (l0 l1 : L) (report : SyncReport) : Type 0 where
   pub old : State
   pub new : State
-  pub disk : Tells m d0 → HasSynced m d0 d1 old new
+  pub disk : Tells m d0 → HasSynced m d0 d1 old new (IsHonest links l0 server.client) (links.chain l1)
   pub ended : IsHonest links l0 server.client → SyncEnd old new (told links l0) (told links l1) report
   pub heard : HeardAll links server l0 l1 report
 

@@ -73,6 +73,9 @@ module _ {L : Type 0} (m : LinkModel L) (client : List ℕ) (state : State) (fir
   pub sent_behind : IsBetween (m.chain b) state.base id (e.stands.versions ++ v ∷ [])
   sent_behind = between_joins (m.chain b) state.base p.at id e.stands.versions (v ∷ []) on.whole sent_pulled.between sent_next
 
+  pub sent_pulled_last : HoldsAll (m.chain first) (m.chain b) p.at
+  sent_pulled_last = holds_grown (m.chain first) (m.chain a) (m.chain b) p.at (at_end_holds m client state first a p e) on.grows
+
   pub sent_last : HoldsAll (m.chain first) (m.chain b) id
   sent_last = record {
     front = one.at ++ v ∷ [];
@@ -95,6 +98,7 @@ module _ {L : Type 0} (m : LinkModel L) (client : List ℕ) (state : State) (fir
     segment = text;
     reads_back = back;
     sent = sent_behind;
+    pulled_last = sent_pulled_last;
     mine = sent_mine;
   }
 
@@ -120,7 +124,7 @@ added m client host state first a b p q id segment sent s asked grows one some t
           some = some;
           v = version id p.at segment;
           pulled = sent_pulled m client state first a b p id segment e on o;
-          pulled_last = holds_grown (m.chain first) (m.chain a) (m.chain b) p.at (at_end_holds m client state first a p e) on.grows;
+          pulled_last = sent_pulled_last m client state first a b p id segment e on o;
           segment = text;
           reads_back = back;
           behind = sent_behind m client state first a b p id segment e on o;

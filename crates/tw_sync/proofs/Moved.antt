@@ -20,7 +20,7 @@ use Rattle.tw_replica.specs.Sound.{start_of}
 use Rattle.tw_replica.specs.Core.{state_of}
 use Rattle.tw_replica.specs.Replica.{IsReplicaOn, StepRefused}
 use Rattle.tw_replica.specs.declared.replica.Replica.{Replica}
-use Rattle.tw_sync.specs.Fold.{Reads}
+use Rattle.tw_sync.specs.Fold.{Reads, ReadsBetween}
 use Rattle.tw_sync.specs.End.{IsPulled, IsIdle, IsLeft, IsPushed, SyncEnd, MayHaveAdded, report_of}
 use Rattle.tw_sync.specs.Heard.{Heard}
 use Rattle.tw_sync.specs.Refused.{HeardRefused, JournalRefused, SyncRefused, IsUnchanged, MayAdd}
@@ -97,6 +97,7 @@ module _ {L : Type 0} (m : LinkModel L) (state : State) (first now : L) (place :
         reads_back = e.reads_back;
         sent = e.behind;
         state = λ i. record { base = e.at i; pending = []; tasks = tasks i; numbers = settled state.numbers (tasks i) };
+        pulled_last = e.pulled_last;
         last = e.last;
         mine = e.mine;
         dropped = dropped;
@@ -142,16 +143,30 @@ end_in m client state first now place dropped sent met sum = by (moved_state pla
 
 -- ---- its record
 
-pub records_are : {D : Type 0} (m : DiskModel D) (old new : Replica) (before after : D) (place : Place) → IsMovedTo m old new before after place (moved_state place (state_of old.core)) → (bodies : List (List ℕ)) → IsReplicaOn m old before bodies → RecordsOfSync m old new before after bodies
-records_are m old new before after place moved bodies on = by (same_id place.at old.core.base) refl moved
+-- what was pulled and sent is what the versions since the old base are read as
+read_since : {L : Type 0} (m : LinkModel L) (client : List ℕ) (state : State) (first now : L) (place : Place) (sent : ℕ) → HasMet m client state first now place sent → ReadsBetween (m.chain now) state.base place.at place.remote.items
+read_since m client state first now place sent met = by met.end
   where
-    by : (b : Bool) → same_id place.at old.core.base ≡ b → IsMovedTo m old new before after place (cond b None (Some (synced place.at place.remote.items (state_of old.core)))) → RecordsOfSync m old new before after bodies
+    by : HasNothingLeft m state first now place sent ⊎ HasSent m state first now place sent → ReadsBetween (m.chain now) state.base place.at place.remote.items
+    by (inl e) = record { versions = e.stands.versions; between = e.stands.pulled.between; reads = e.stands.pulled.reads }
+    by (inr e) = record {
+      versions = e.versions ++ e.v ∷ [];
+      between = subst (λ h. IsBetween (m.chain now) state.base h (e.versions ++ e.v ∷ [])) (sym e.at) e.behind;
+      reads = subst (Reads (e.versions ++ e.v ∷ [])) (sym e.remote) (reads-append e.versions (e.v ∷ []) e.ops e.left e.pulled.reads (reads_last e.v e.left e.reads_back));
+    }
+
+pub records_are : {D L : Type 0} (m : DiskModel D) (links : LinkModel L) (client : List ℕ) (old new : Replica) (before after : D) (first last : L) (place : Place) (sent : ℕ) (honest : Type 0) → (honest → HasMet links client (state_of old.core) first last place sent)
+    → IsMovedTo m old new before after place (moved_state place (state_of old.core)) → (bodies : List (List ℕ)) → IsReplicaOn m old before bodies → RecordsOfSync m old new before after honest (links.chain last) bodies
+records_are m links client old new before after first last place sent honest met moved bodies on = by (same_id place.at old.core.base) refl moved
+  where
+    by : (b : Bool) → same_id place.at old.core.base ≡ b → IsMovedTo m old new before after place (cond b None (Some (synced place.at place.remote.items (state_of old.core)))) → RecordsOfSync m old new before after honest (links.chain last) bodies
     by true e same = inl (record { base = ap (λ s. s.base) same.state; same = same })
     by false e there =
         let base : new.core.base ≡ place.at = ap (λ s. s.base) there.0 in
         inr (record {
           moved = λ stays. apart place.at old.core.base e (sym base ∙ stays);
           ops = place.remote.items;
+          read = λ is. subst (λ b. ReadsBetween (links.chain last) old.core.base b place.remote.items) (sym base) (read_since links client (state_of old.core) first last place sent (met is));
           on = subst (λ b. IsReplicaOn m new after (bodies ++ record_body b place.remote.items ∷ [])) (sym base) (there.1 bodies on);
         })
 
@@ -197,18 +212,9 @@ module _ {D L : Type 0} (m : DiskModel D) (links : LinkModel L) (client : List �
   unmoved_refused (errors.Segment version) r = absurd r
 
   long_record : (bytes : ℕ) → HasMet links client (state_of old.core) first last place sent → bytes ≡ record_size place.at place.remote.items → IsLongRecord (state_of old.core) (links.chain last) bytes
-  long_record bytes met len = by met.end
-    where
-      by : HasNothingLeft links (state_of old.core) first last place sent ⊎ HasSent links (state_of old.core) first last place sent → IsLongRecord (state_of old.core) (links.chain last) bytes
-      by (inl e) = record { h = place.at; versions = e.stands.versions; ops = place.remote.items; between = e.stands.pulled.between; reads = e.stands.pulled.reads; len = len }
-      by (inr e) = record {
-        h = place.at;
-        versions = e.versions ++ e.v ∷ [];
-        ops = place.remote.items;
-        between = subst (λ h. IsBetween (links.chain last) old.core.base h (e.versions ++ e.v ∷ [])) (sym e.at) e.behind;
-        reads = subst (Reads (e.versions ++ e.v ∷ [])) (sym e.remote) (reads-append e.versions (e.v ∷ []) e.ops e.left e.pulled.reads (reads_last e.v e.left e.reads_back));
-        len = len;
-      }
+  long_record bytes met len =
+      let r = read_since links client (state_of old.core) first last place sent met in
+      record { h = place.at; versions = r.versions; ops = place.remote.items; between = r.between; reads = r.reads; len = len }
 
   pub unmoved_honest : HasMet links client (state_of old.core) first last place sent → (e : SyncError) → IsNotMoved m old new before after place e → HonestRefused (state_of old.core) (told links first) (told links last) e
   unmoved_honest met (errors.Journal journal.Disk) r = tt
@@ -274,4 +280,4 @@ may_have_added m client state first now place sent met = by met.end
   where
     by : HasNothingLeft m state first now place sent ⊎ HasSent m state first now place sent → MayHaveAdded state (told m first) (told m now)
     by (inl e) = inl e.mine
-    by (inr e) = inr (record { v = e.v; versions = e.versions; ops = e.ops; left = e.left; some = e.some; pulled = e.pulled; segment = e.segment; reads_back = e.reads_back; sent = e.behind; mine = e.mine })
+    by (inr e) = inr (record { v = e.v; versions = e.versions; ops = e.ops; left = e.left; some = e.some; pulled = e.pulled; segment = e.segment; reads_back = e.reads_back; sent = e.behind; pulled_last = e.pulled_last; mine = e.mine })

@@ -49,7 +49,7 @@ pub record IsLeft (old new : State) (before after : Told) (report : SyncReport) 
   pub mine : after.own ≡ before.own
   pub report_is : report ≡ report_of (length versions) (length (plain old.pending)) 0 new.base
 
--- what was left is sent, and stands behind what was pulled
+-- what was left is sent, and stands behind what was pulled. All that the chain held before is pulled
 pub record IsPushed (old new : State) (before after : Told) (report : SyncReport) : Type 0 where
   pub versions : List Version
   pub ops : List SyncOp
@@ -61,6 +61,7 @@ pub record IsPushed (old new : State) (before after : Told) (report : SyncReport
   pub reads_back : IsSegment v.segment left
   pub sent : IsBetween after.chain old.base v.id (versions ++ v ∷ [])
   pub state : new ≡ stands_at old v.id (apply_all (apply_all (start_of old) ops) left)
+  pub pulled_last : HoldsAll before.chain after.chain v.parent
   pub last : HoldsAll before.chain after.chain v.id
   pub mine : after.own ≡ before.own ++ v ∷ []
   pub dropped : ℕ
@@ -71,7 +72,7 @@ pub record IsPushed (old new : State) (before after : Told) (report : SyncReport
 abbrev pub SyncEnd : (old new : State) (before after : Told) (report : SyncReport) → Type 0
 SyncEnd old new before after report = Grows before.chain after.chain × (IsIdle old new before after report ⊎ IsLeft old new before after report ⊎ IsPushed old new before after report)
 
--- one version was added: what was left of what is pending at its parent
+-- one version was added behind all that the chain held before: what was left of what is pending at its parent
 pub record AddedOne (old : State) (before after : Told) : Type 0 where
   pub v : Version
   pub versions : List Version
@@ -82,6 +83,7 @@ pub record AddedOne (old : State) (before after : Told) : Type 0 where
   pub segment : v.segment ≡ segment_text left
   pub reads_back : IsSegment v.segment left
   pub sent : IsBetween after.chain old.base v.id (versions ++ v ∷ [])
+  pub pulled_last : HoldsAll before.chain after.chain v.parent
   pub mine : after.own ≡ before.own ++ v ∷ []
 
 -- a refused sync has added no version, or one

@@ -3,6 +3,7 @@ use Rattle.std.specs.Prelude.{◌≡◌, ◌⊎◌, ℕ, ◌+◌, ◌≤◌, Lis
 use Rattle.std.specs.List.{AllByRecursion}
 use Rattle.tw_world.specs.Disk.{DiskModel, LeavesOnly}
 use Rattle.tw_model.specs.declared.SyncOp.{SyncOp}
+use Rattle.tw_protocol.specs.Chain.{Version}
 use Rattle.tw_http.specs.Link.{LinkModel}
 use Rattle.tw_http.specs.declared.message.Request.TheVariants as asks
 use Rattle.tw_http.specs.declared.message.Response.TheVariants as replies
@@ -11,6 +12,7 @@ use Rattle.tw_replica.specs.Body.Step.{Sync}
 use Rattle.tw_replica.specs.State.{State}
 use Rattle.tw_replica.specs.Replica.{IsReplicaOn, IsSame, OpensToEither}
 use Rattle.tw_replica.specs.declared.replica.Replica.{Replica}
+use Rattle.tw_sync.specs.Fold.{ReadsBetween}
 use Rattle.tw_sync.specs.End.{Told, SyncEnd}
 use Rattle.tw_sync.specs.Heard.{Heard, brought, conflicts}
 use Rattle.tw_sync.specs.Refused.{EndedBy, IsWelcome}
@@ -33,14 +35,15 @@ pub record WritesNothing {D : Type 0} (m : DiskModel D) (old new : Replica) (bef
   pub same : IsSame old new before after
 
 -- a sync that moves the base writes one record: the new base, and the operations of all versions since the old one
-pub record WritesOne {D : Type 0} (m : DiskModel D) (old new : Replica) (after : D) (bodies : List (List ℕ)) : Type 0 where
+pub record WritesOne {D : Type 0} (m : DiskModel D) (old new : Replica) (after : D) (honest : Type 0) (chain : List Version) (bodies : List (List ℕ)) : Type 0 where
   pub moved : ¬ (new.core.base ≡ old.core.base)
   pub ops : List SyncOp
+  pub read : honest → ReadsBetween chain old.core.base new.core.base ops
   pub on : IsReplicaOn m new after (bodies ++ record_body new.core.base ops ∷ [])
 
 -- the records after a sync
-abbrev pub RecordsOfSync : {D : Type 0} → DiskModel D → (old new : Replica) (before after : D) → List (List ℕ) → Type 0
-RecordsOfSync m old new before after bodies = WritesNothing m old new before after bodies ⊎ WritesOne m old new after bodies
+abbrev pub RecordsOfSync : {D : Type 0} → DiskModel D → (old new : Replica) (before after : D) (honest : Type 0) (chain : List Version) → List (List ℕ) → Type 0
+RecordsOfSync m old new before after honest chain bodies = WritesNothing m old new before after bodies ⊎ WritesOne m old new after honest chain bodies
 
 -- the end that a sync has led to, if it has come so far
 abbrev pub IsEndIn : (old : State) (before after : Told) → Option State → Type 0

@@ -61,7 +61,7 @@ pub fn sync<D: Disk, L: Link>(
     ensures honest { IfErr result (λ e. IsHonest L.model link.old client → HonestRefused (state_of replica.old.core) (told L.model link.old) (told L.model link.new) e) }
     ensures complete { IfErr result (λ e. CanSync D.model L.model replica.old disk.old disk.new link.old link.new client → IsWant e) }
 
-    ensures records { (bodies : List (List ℕ)) → IsReplicaOn D.model replica.old disk.old bodies → IfOk result (λ report. RecordsOfSync D.model replica.old replica.new disk.old disk.new bodies) }
+    ensures records { (bodies : List (List ℕ)) → IsReplicaOn D.model replica.old disk.old bodies → IfOk result (λ report. RecordsOfSync D.model replica.old replica.new disk.old disk.new (IsHonest L.model link.old client) (L.model.chain link.new) bodies) }
     ensures any_moment { (bodies : List (List ℕ)) → IsReplicaOn D.model replica.old disk.old bodies → LeavesEnd D.model disk.old disk.new (state_of replica.old.core) (IsHonest L.model link.old client) (told L.model link.old) (told L.model link.new) }
     ensures length { IsLengthKept D.model replica.new disk.new }
     ensures disk_kept { Kept D.model disk.old disk.new }

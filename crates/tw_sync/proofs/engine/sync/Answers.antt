@@ -3,6 +3,7 @@ use Rattle.tw_journal.specs.Journal.{is_closed}
 use Rattle.tw_model.specs.LocalOps.{plain}
 use Rattle.tw_replica.specs.Core.{state_of}
 use Rattle.tw_replica.proofs.Standing.{nothing_written}
+use Rattle.tw_http.specs.Link.{IsHonest}
 use Rattle.tw_sync.specs.Fold.{Agrees}
 use Rattle.tw_sync.specs.Sync.{told}
 use Rattle.tw_sync.specs.Keeping.{moved_state}
@@ -425,15 +426,17 @@ returns-clause-cancels g c =
 
 pub returns-clause-records : goal.returns-clause-records
 returns-clause-records g c =
+    let m = g.L.Link.model in
     let d = g.D.Disk.model in
     let old = c.args.replica.now in
-    let new = c.stand_at.new.replica in
-    let before = c.args.disk.now in
-    let after = c.stand_at.new.disk in
+    let state = state_of c.args.replica.now.core in
+    let first = c.args.link.now in
+    let now = c.meet.new.link in
+    let client = c.args.client in
+    let s = starts m client c.args.host.now state first c.in_ok-place.place (g.met.L.Link.tells_chain first) c.in_ok-place.ensures in
+    let met = c.in_ok-pushed.ensures.met state first s in
     let place = c.meet.new.place in
-    let sent = c.in_ok-pushed.pushed in
-    let moved = c.in_ok-stand_at.ensures.moved in
-    λ bodies on. records_are d old new before after place moved bodies on
+    λ bodies on. records_are d m client old c.stand_at.new.replica c.args.disk.now c.stand_at.new.disk first now place c.in_ok-pushed.pushed (IsHonest m first client) met.come c.in_ok-stand_at.ensures.moved bodies on
 
 pub returns-clause-any_moment : goal.returns-clause-any_moment
 returns-clause-any_moment g c =
