@@ -1,12 +1,8 @@
 -- What a run of a command line gives, whatever it asks for.
-use Rattle.std.specs.Prelude.{◌≡◌, ◌⊎◌, ℕ, List, Result, Ok, Err}
-use Rattle.tw_world.specs.Disk.{DiskModel, Tells, Rose, LeavesOnly}
+use Rattle.std.specs.Prelude.{◌≡◌, ◌⊎◌, Result, Ok, Err}
+use Rattle.tw_world.specs.Disk.{DiskModel, Rose}
 use Rattle.tw_world.specs.Sink.{SinkModel}
-use Rattle.tw_http.specs.Link.{LinkModel, IsHonest}
-use Rattle.tw_protocol.specs.Chain.{Version}
-use Rattle.tw_replica.specs.State.{State}
-use Rattle.tw_replica.specs.Replica.{OpensTo}
-use Rattle.tw_sync.specs.Fold.{Agrees}
+use Rattle.tw_http.specs.Link.{LinkModel}
 use Rattle.tw_sync.specs.declared.error.ReplyKind.TheVariants.{Status}
 use Rattle.tw_cli.specs.Command.{next_of}
 use Rattle.tw_cli.specs.Run.{Gives, CanEnd, LeavesEither, nowhere, reached}
@@ -41,20 +37,3 @@ abbrev pub RunLeaves : {D L : Type 0} → DiskModel D → LinkModel L → (asked
 RunLeaves m links (Ok (Local command)) d0 d1 l0 l1 cause = LeavesEither m (reached cause (next_of command)) d0 d1
 RunLeaves m links (Ok (Sync server)) d0 d1 l0 l1 cause = LeavesSync m links server d0 d1 l0 l1
 RunLeaves m links (Err refusal) d0 d1 l0 l1 cause = LeavesEither m nowhere d0 d1
-
--- ---- agreement
-
--- the link is honest, where a sync uses it
-abbrev pub IsHonestFor : {L : Type 0} → LinkModel L → Result Job Cause → L → Type 0
-IsHonestFor links (Ok (Sync server)) link = IsHonest links link server.client
-IsHonestFor links (Ok (Local command)) link = Unit {0}
-IsHonestFor links (Err refusal) link = Unit {0}
-
--- a file opens to a replica that agrees with the chain
-abbrev pub OpensAgreeing : List Version → List ℕ → Type 0
-OpensAgreeing chain file = (state : State) × OpensTo file state × Agrees state chain
-
--- Where a replica agrees with the chain, each replica that a crash leaves agrees with it, whatever the outcome, but for an image that a crash could leave before.
-abbrev pub AgreementStays : {D L : Type 0} → DiskModel D → LinkModel L → (asked : Result Job Cause) → (d0 d1 : D) (l0 l1 : L) → Type 0
-AgreementStays m links asked d0 d1 l0 l1 = Tells m d0 → (state : State) → OpensTo (m.seen d0) state → Agrees state (links.chain l0) → IsHonestFor links asked l0
-    → LeavesOnly m d0 d1 (λ file. m.leaves d0 file ⊎ OpensAgreeing (links.chain l1) file)

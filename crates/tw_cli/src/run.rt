@@ -1,9 +1,11 @@
 // One command line over a disk and streams.
 ghost use Rattle.std.specs.Prelude.{◌≡◌, ◌⊎◌, map, string_bytes, Ok, OnOk, OnErr};
 ghost use Rattle.tw_world.specs.Ids.{id_bytes};
-ghost use Rattle.tw_world.specs.Disk.{Kept, Rose};
+ghost use Rattle.tw_world.specs.Disk.{Kept, Rose, Tells};
 ghost use Rattle.tw_world.specs.Sink.{Got, GotPart};
+ghost use Rattle.tw_http.specs.Link.{IsHonest};
 ghost use Rattle.tw_http.specs.Messages.{IsHost};
+ghost use Rattle.tw_protocol.specs.Chain.{Grows};
 ghost use Rattle.tw_sync.specs.Answers.{IsLinkKept};
 ghost use Rattle.tw_sync.specs.declared.error.ReplyKind.TheVariants.{Status};
 ghost use Rattle.tw_cli.specs.Words.{line_of};
@@ -14,6 +16,7 @@ ghost use Rattle.tw_cli.specs.Jobs.{asked_in, Draws};
 ghost use Rattle.tw_cli.specs.Run.{Gives, CanEnd, LeavesEither, reached};
 ghost use Rattle.tw_cli.specs.Syncing.{SyncGives, CanBeSynced, LeavesSync};
 ghost use Rattle.tw_cli.specs.Whole.{RunGives, EndsWell, IsDoneOrWant, RunLeaves};
+ghost use Rattle.tw_cli.specs.Agreement.{IsHonestFor, AgreementStays};
 
 use crate::cause::{Cause, Outcome, status_of};
 use crate::command::{Command, carry_out};
@@ -68,6 +71,7 @@ fn run_sync<D: Disk, L: Link, O: Sink>(
     ensures gives { SyncGives D.model O.model L.model server.now disk.old disk.new out.old out.new link.old link.new result }
     ensures complete { CanBeSynced D.model L.model server.now disk.old disk.new link.old link.new → (Rose (O.model.faults out.old) (O.model.faults out.new) → ⊥) → IsDoneOrWant result ⊎ (result ≡ Cause.BadReply (Status 500)) }
     ensures any_moment { LeavesSync D.model L.model server.now disk.old disk.new link.old link.new }
+    ensures grows { IsHonest L.model link.old server.now.client → Grows (L.model.chain link.old) (L.model.chain link.new) }
     ensures kept { Kept D.model disk.old disk.new }
     ensures link_kept { IsLinkKept L.model link.old link.new }
 {
@@ -95,6 +99,7 @@ fn run_words<D: Disk, L: Link, O: Sink>(
     ensures gives { RunGives D.model O.model L.model (asked_in settings.now (id_bytes ids.old.start) now (line_of (map string_bytes words.now.items))) disk.old disk.new out.old out.new link.old link.new result }
     ensures complete { EndsWell D.model O.model L.model (asked_in settings.now (id_bytes ids.old.start) now (line_of (map string_bytes words.now.items))) disk.old disk.new out.old out.new link.old link.new result }
     ensures any_moment { RunLeaves D.model L.model (asked_in settings.now (id_bytes ids.old.start) now (line_of (map string_bytes words.now.items))) disk.old disk.new link.old link.new result }
+    ensures grows { IsHonestFor L.model (asked_in settings.now (id_bytes ids.old.start) now (line_of (map string_bytes words.now.items))) link.old → Grows (L.model.chain link.old) (L.model.chain link.new) }
     ensures ids { Draws (asked_in settings.now (id_bytes ids.old.start) now (line_of (map string_bytes words.now.items))) result ids.old ids.new }
     ensures kept { Kept D.model disk.old disk.new }
     ensures link_kept { IsLinkKept L.model link.old link.new }
@@ -125,6 +130,11 @@ pub fn task_run<D: Disk, L: Link, O: Sink, E: Sink>(
     ensures gives { RunGives D.model O.model L.model (asked_in settings.now.items (id_bytes ids.old.start) now (line_of (map string_bytes words.now.items))) disk.old disk.new out.old out.new link.old link.new result.cause }
     ensures complete { EndsWell D.model O.model L.model (asked_in settings.now.items (id_bytes ids.old.start) now (line_of (map string_bytes words.now.items))) disk.old disk.new out.old out.new link.old link.new result.cause }
     ensures any_moment { RunLeaves D.model L.model (asked_in settings.now.items (id_bytes ids.old.start) now (line_of (map string_bytes words.now.items))) disk.old disk.new link.old link.new result.cause }
+
+    // A replica that agrees with the server's chain agrees with it after each run.
+    ensures agrees { Tells D.model disk.old → IsHonestFor L.model (asked_in settings.now.items (id_bytes ids.old.start) now (line_of (map string_bytes words.now.items))) link.old → AgreementStays D.model L.model disk.old disk.new link.old link.new result.cause }
+    ensures grows { IsHonestFor L.model (asked_in settings.now.items (id_bytes ids.old.start) now (line_of (map string_bytes words.now.items))) link.old → Grows (L.model.chain link.old) (L.model.chain link.new) }
+
     ensures ids { Draws (asked_in settings.now.items (id_bytes ids.old.start) now (line_of (map string_bytes words.now.items))) result.cause ids.old ids.new }
     ensures told { Told E.model err.old err.new result.cause }
     ensures status { result.status ≡ status_of result.cause }

@@ -1,7 +1,9 @@
 // `sync`, over the replica that a disk holds.
 ghost use Rattle.std.specs.Prelude.{◌≡◌, ◌⊎◌, IfOk, IfErr};
 ghost use Rattle.tw_world.specs.Disk.{Kept};
+ghost use Rattle.tw_http.specs.Link.{IsHonest};
 ghost use Rattle.tw_http.specs.Messages.{IsHost};
+ghost use Rattle.tw_protocol.specs.Chain.{Grows};
 ghost use Rattle.tw_sync.specs.Answers.{IsLinkKept};
 ghost use Rattle.tw_cli.specs.Text.{printed_bytes};
 ghost use Rattle.tw_cli.specs.Syncing.{ShowsSync, SyncFails, CanBeSynced, LeavesSync, sync_cause};
@@ -62,6 +64,7 @@ pub(crate) fn sync_with<D: Disk, L: Link>(
     ensures refused { IfErr result (SyncFails D.model L.model server.now disk.old disk.new link.old link.new) }
     ensures complete { IfErr result (λ cause. CanBeSynced D.model L.model server.now disk.old disk.new link.old link.new → (cause ≡ Cause.Memory) ⊎ (cause ≡ Cause.BadReply (Status 500))) }
     ensures any_moment { LeavesSync D.model L.model server.now disk.old disk.new link.old link.new }
+    ensures grows { IsHonest L.model link.old server.now.client → Grows (L.model.chain link.old) (L.model.chain link.new) }
     ensures kept { Kept D.model disk.old disk.new }
     ensures link_kept { IsLinkKept L.model link.old link.new }
 {
