@@ -1,11 +1,13 @@
 // A task database: its uuids and their tasks.
-ghost use Rattle.std.specs.Prelude.{◌≡◌, ◌<◌, [], T, IfOk, OnOk, OnErr, None, cond, is_some, is_none, slice_index_or};
+ghost use Rattle.std.specs.Prelude.{◌≡◌, ◌<◌, [], IfOk, OnOk, OnErr, None, Some, true, false, is_some, is_none, slice_index_or};
 ghost use Rattle.std.specs.Option.{option_copied};
-ghost use Rattle.std.specs.BTreeMap as tree;
 ghost use Rattle.std.specs.FinMap as map;
-ghost use Rattle.tw_model.specs.Maps.{bytes_cmp, set_at, set_if_none, set_property_at};
-ghost use Rattle.tw_model.specs.LocalOps.{has_value};
+ghost use Rattle.tw_model.specs.Maps.{set_at, set_if_none};
 
+use crate::entries::{
+    copy_tasks, exchange_property, insert_task, nth_uuid, remove_task, set_property, swap_task,
+    uuids_of,
+};
 use crate::values::{as_str, is_same_value};
 use crate::{Op, SyncOp, TaskMap};
 use std::alloc::Global;
@@ -92,6 +94,34 @@ impl Tasks {
         Ok(Tasks {
             entries: copy_tasks(alloc, &self.entries)?,
         })
+    }
+
+    /// Puts a task where its uuid has none, and answers whether it had none.
+    pub fn insert(&mut self, uuid: Uuid, task: TaskMap) -> Result<bool, Memory>
+        ensures fits { IfOk result (λ fitted. fitted ≡ is_none (map.get self.old uuid)) }
+        ensures ok { OnOk result (self.new ≡ set_if_none self.old uuid task) }
+        ensures err { OnErr result (self.new ≡ self.old) }
+    {
+        insert_task(&mut self.entries, uuid, task)
+    }
+
+    /// Takes the task of a uuid out. It takes no memory.
+    pub fn remove(&mut self, uuid: Uuid) -> Option<TaskMap>
+        ensures value { result ≡ map.get self.old uuid }
+        ensures left { self.new ≡ set_at self.old uuid None }
+    {
+        remove_task(&mut self.entries, &uuid)
+    }
+
+    /// Exchanges the task of a uuid with another, and answers whether there is one. It takes no memory.
+    pub fn swap(&mut self, uuid: Uuid, task: &mut TaskMap) -> bool
+        ensures there { result ≡ is_some (map.get self.old uuid) }
+        ensures swapped { result ≡ true → self.new ≡ set_at self.old uuid (Some task.old) }
+        ensures taken { result ≡ true → Some task.new ≡ map.get self.old uuid }
+        ensures kept { result ≡ false → self.new ≡ self.old }
+        ensures returned { result ≡ false → task.new ≡ task.old }
+    {
+        swap_task(&mut self.entries, &uuid, task)
     }
 
     /// Whether an operation of this replica fits: its task is there or not, and what it says stood there does.
@@ -204,7 +234,7 @@ impl Tasks {
             SyncOp::Create { uuid } => {
                 insert_task(&mut self.entries, *uuid, TaskMap::new(alloc))
             }
-            SyncOp::Delete { uuid } => Ok(remove_task(&mut self.entries, uuid)),
+            SyncOp::Delete { uuid } => Ok(remove_task(&mut self.entries, uuid).is_some()),
             SyncOp::Update {
                 uuid,
                 property,
@@ -220,118 +250,5 @@ impl Tasks {
                 )
             }
         }
-    }
-}
-
-fn uuids_of(alloc: Global, entries: &BTreeMap<Uuid, TaskMap>) -> Result<Vec<Uuid>, Memory>
-    ensures { IfOk result (λ uuids. uuids.items ≡ tree.keys entries.now) }
-{
-    let mut uuids = Vec::with_capacity(alloc, entries.len())?;
-    for uuid in entries.keys() {
-        uuids.push(*uuid)?;
-    }
-    Ok(uuids)
-}
-
-fn nth_uuid(entries: &BTreeMap<Uuid, TaskMap>, n: u64) -> Uuid
-    requires { n < tree.btree_map_len entries.now }
-    ensures { result ≡ slice_index_or (tree.keys entries.now) n [] }
-{
-    let mut left = n;
-    for uuid in entries.keys() {
-        if left == 0 {
-            return *uuid;
-        }
-        left -= 1;
-    }
-    Uuid::nil()
-}
-
-fn copy_tasks(
-    alloc: Global,
-    entries: &BTreeMap<Uuid, TaskMap>,
-) -> Result<BTreeMap<Uuid, TaskMap>, Memory>
-    requires { T (map.is_sorted bytes_cmp entries.now.entries) }
-    ensures { IfOk result (λ copies. copies.entries ≡ entries.now.entries) }
-{
-    let mut copies = BTreeMap::new(alloc);
-    for (uuid, task) in entries {
-        copies.insert(*uuid, task.copy(alloc)?)?;
-    }
-    Ok(copies)
-}
-
-// Puts a task where its uuid has none, and answers whether it had none. One that is there is put back.
-fn insert_task(
-    entries: &mut BTreeMap<Uuid, TaskMap>,
-    uuid: Uuid,
-    task: TaskMap,
-) -> Result<bool, Memory>
-    requires { T (map.is_sorted bytes_cmp entries.old.entries) }
-    ensures sorted { T (map.is_sorted bytes_cmp entries.new.entries) }
-    ensures fits { IfOk result (λ fitted. fitted ≡ is_none (map.get (map.from_sorted {R = bytes_cmp} entries.old.entries) uuid)) }
-    ensures ok { OnOk result (map.from_sorted {R = bytes_cmp} entries.new.entries ≡ set_if_none (map.from_sorted entries.old.entries) uuid task) }
-    ensures err { OnErr result (entries.new.entries ≡ entries.old.entries) }
-{
-    match entries.insert(uuid, task)? {
-        None => Ok(true),
-        Some(there) => {
-            let _ = entries.insert(uuid, there)?;
-            Ok(false)
-        }
-    }
-}
-
-// Takes the task of a uuid out, and answers whether there was one.
-fn remove_task(entries: &mut BTreeMap<Uuid, TaskMap>, uuid: &Uuid) -> bool
-    requires { T (map.is_sorted bytes_cmp entries.old.entries) }
-    ensures sorted { T (map.is_sorted bytes_cmp entries.new.entries) }
-    ensures fits { result ≡ is_some (map.get (map.from_sorted {R = bytes_cmp} entries.old.entries) uuid.now) }
-    ensures left { map.from_sorted {R = bytes_cmp} entries.new.entries ≡ set_at (map.from_sorted entries.old.entries) uuid.now None }
-{
-    entries.remove(uuid).is_some()
-}
-
-// Sets or removes a property of the task of a uuid, and answers whether there is one.
-fn set_property(
-    entries: &mut BTreeMap<Uuid, TaskMap>,
-    alloc: Global,
-    uuid: &Uuid,
-    property: &str,
-    value: Option<&str>,
-) -> Result<bool, Memory>
-    requires { T (map.is_sorted bytes_cmp entries.old.entries) }
-    ensures sorted { T (map.is_sorted bytes_cmp entries.new.entries) }
-    ensures fits { IfOk result (λ fitted. fitted ≡ is_some (map.get (map.from_sorted {R = bytes_cmp} entries.old.entries) uuid.now)) }
-    ensures ok { OnOk result (map.from_sorted {R = bytes_cmp} entries.new.entries ≡ set_property_at (map.from_sorted entries.old.entries) uuid.now property.now (option_copied value.entry)) }
-    ensures err { OnErr result (map.from_sorted {R = bytes_cmp} entries.new.entries ≡ map.from_sorted entries.old.entries) }
-{
-    match entries.get_mut(uuid) {
-        Some(task) => {
-            task.set(alloc, property, value)?;
-            Ok(true)
-        }
-        None => Ok(false),
-    }
-}
-
-// Sets or removes a property of the task of a uuid where its value is `before`, and answers whether it is.
-fn exchange_property(
-    entries: &mut BTreeMap<Uuid, TaskMap>,
-    alloc: Global,
-    uuid: &Uuid,
-    property: &str,
-    before: Option<&str>,
-    after: Option<&str>,
-) -> Result<bool, Memory>
-    requires { T (map.is_sorted bytes_cmp entries.old.entries) }
-    ensures sorted { T (map.is_sorted bytes_cmp entries.new.entries) }
-    ensures fits { IfOk result (λ fitted. fitted ≡ has_value property.now (option_copied before.entry) (map.get (map.from_sorted {R = bytes_cmp} entries.old.entries) uuid.now)) }
-    ensures ok { OnOk result (map.from_sorted {R = bytes_cmp} entries.new.entries ≡ cond (has_value property.now (option_copied before.entry) (map.get (map.from_sorted {R = bytes_cmp} entries.old.entries) uuid.now)) (set_property_at (map.from_sorted entries.old.entries) uuid.now property.now (option_copied after.entry)) (map.from_sorted entries.old.entries)) }
-    ensures err { OnErr result (map.from_sorted {R = bytes_cmp} entries.new.entries ≡ map.from_sorted entries.old.entries) }
-{
-    match entries.get_mut(uuid) {
-        Some(task) => task.exchange(alloc, property, before, after),
-        None => Ok(false),
     }
 }

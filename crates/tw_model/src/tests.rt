@@ -238,3 +238,25 @@ fn pairs_out_of_order_are_no_task(rt: HostRuntime) -> Result<(), Fail> {
     }
     Ok(())
 }
+
+#[test]
+fn a_task_is_put_in_exchanged_and_taken_out(rt: HostRuntime) -> Result<(), Fail> {
+    let alloc = rt.alloc();
+    let (uuid, other) = (Uuid::from_u128(7), Uuid::from_u128(8));
+    let mut tasks = Tasks::new(alloc);
+    assert!(rt; tasks.insert(uuid, task_of(alloc, &[("status", "pending")])?)?);
+    assert!(rt; !tasks.insert(uuid, TaskMap::new(alloc))?);
+    assert!(rt; tasks.len() == 1 && holds(tasks.get(uuid), &[("status", "pending")]));
+
+    let mut task = task_of(alloc, &[("status", "completed")])?;
+    assert!(rt; !tasks.swap(other, &mut task));
+    assert!(rt; tasks.swap(uuid, &mut task));
+    assert!(rt; holds(Some(&task), &[("status", "pending")]));
+    assert!(rt; holds(tasks.get(uuid), &[("status", "completed")]));
+
+    assert!(rt; tasks.remove(other).is_none());
+    let taken = tasks.remove(uuid);
+    assert!(rt; holds(taken.as_ref(), &[("status", "completed")]));
+    assert!(rt; tasks.len() == 0 && tasks.get(uuid).is_none());
+    Ok(())
+}
