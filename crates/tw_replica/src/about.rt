@@ -1,7 +1,8 @@
 // The tasks that operations are about.
-ghost use Rattle.std.specs.Prelude.{◌≡◌, ◌||◌, List, ℕ, drop, IfOk, OnOk};
+ghost use Rattle.std.specs.Prelude.{◌≡◌, ◌||◌, List, ℕ, true, drop, IfOk, OnOk};
 ghost use Rattle.std.specs.BTreeSet as set;
 ghost use Rattle.tw_model.specs.Maps.{bytes_cmp, same_bytes};
+ghost use Rattle.tw_replica.specs.Settle.{has_uuid};
 ghost use Rattle.tw_replica.specs.Settled.{is_about, is_touched, is_about_synced, is_touched_by_synced};
 
 use std::alloc::Global;
@@ -17,14 +18,57 @@ fn add_uuid(touched: &mut BTreeSet<Uuid>, uuid: &Uuid) -> Result<(), Memory>
     Ok(())
 }
 
-fn add_touched(touched: &mut BTreeSet<Uuid>, op: &Op) -> Result<(), Memory>
-    ensures { OnOk result ((u : List ℕ) → set.contains bytes_cmp touched.new u ≡ (set.contains bytes_cmp touched.old u || is_about u op.now)) }
+// The uuid of the task that an operation is about.
+fn task_of(op: &Op) -> Option<Uuid>
+    ensures { (u : List ℕ) → has_uuid u result ≡ is_about u op.now }
 {
     match op {
-        Op::Create { uuid } => add_uuid(touched, uuid),
-        Op::Delete { uuid, .. } => add_uuid(touched, uuid),
-        Op::Update { uuid, .. } => add_uuid(touched, uuid),
-        Op::UndoPoint => Ok(()),
+        Op::Create { uuid } => Some(*uuid),
+        Op::Delete { uuid, .. } => Some(*uuid),
+        Op::Update { uuid, .. } => Some(*uuid),
+        Op::UndoPoint => None,
+    }
+}
+
+fn is_that(last: Option<Uuid>, uuid: Uuid) -> bool
+    ensures { result ≡ has_uuid uuid last }
+{
+    match last {
+        Some(last) => last == uuid,
+        None => false,
+    }
+}
+
+// Puts the uuid of a task beside others, where it is not the one that was put there last.
+fn add_next(
+    touched: &mut BTreeSet<Uuid>,
+    last: &mut Option<Uuid>,
+    uuid: Uuid,
+) -> Result<(), Memory>
+    requires { (u : List ℕ) → has_uuid u last.old ≡ true → set.contains bytes_cmp touched.old u ≡ true }
+    ensures added { OnOk result ((u : List ℕ) → set.contains bytes_cmp touched.new u ≡ (set.contains bytes_cmp touched.old u || same_bytes u uuid)) }
+    ensures last { OnOk result ((u : List ℕ) → has_uuid u last.new ≡ true → set.contains bytes_cmp touched.new u ≡ true) }
+{
+    if is_that(*last, uuid) {
+        return Ok(());
+    }
+    add_uuid(touched, &uuid)?;
+    *last = Some(uuid);
+    Ok(())
+}
+
+fn add_touched(
+    touched: &mut BTreeSet<Uuid>,
+    last: &mut Option<Uuid>,
+    op: &Op,
+) -> Result<(), Memory>
+    requires { (u : List ℕ) → has_uuid u last.old ≡ true → set.contains bytes_cmp touched.old u ≡ true }
+    ensures added { OnOk result ((u : List ℕ) → set.contains bytes_cmp touched.new u ≡ (set.contains bytes_cmp touched.old u || is_about u op.now)) }
+    ensures last { OnOk result ((u : List ℕ) → has_uuid u last.new ≡ true → set.contains bytes_cmp touched.new u ≡ true) }
+{
+    match task_of(op) {
+        Some(uuid) => add_next(touched, last, uuid),
+        None => Ok(()),
     }
 }
 
@@ -37,27 +81,22 @@ pub(crate) fn touched_uuids(
     ensures { IfOk result (λ touched. (u : List ℕ) → set.contains bytes_cmp touched u ≡ is_touched (drop from ops.now.items) u) }
 {
     let mut touched = BTreeSet::new(alloc);
+    let mut last = None;
     let mut at = from;
     while at < ops.len() {
-        add_touched(&mut touched, &ops[at])?;
+        add_touched(&mut touched, &mut last, &ops[at])?;
         at += 1;
     }
     Ok(touched)
-}
-
-fn add_synced(touched: &mut BTreeSet<Uuid>, op: &SyncOp) -> Result<(), Memory>
-    ensures { OnOk result ((u : List ℕ) → set.contains bytes_cmp touched.new u ≡ (set.contains bytes_cmp touched.old u || is_about_synced u op.now)) }
-{
-    let uuid = op.uuid();
-    add_uuid(touched, &uuid)
 }
 
 /// Puts the uuids of the tasks that operations of versions are about beside others.
 pub(crate) fn add_all_synced(touched: &mut BTreeSet<Uuid>, ops: &Vec<SyncOp>) -> Result<(), Memory>
     ensures { OnOk result ((u : List ℕ) → set.contains bytes_cmp touched.new u ≡ (set.contains bytes_cmp touched.old u || is_touched_by_synced ops.now.items u)) }
 {
+    let mut last = None;
     for op in ops {
-        add_synced(touched, op)?;
+        add_next(touched, &mut last, op.uuid())?;
     }
     Ok(())
 }
