@@ -6,7 +6,9 @@ ghost use Rattle.tw_replica.specs.Body.Step.{Sync};
 ghost use Rattle.tw_replica.specs.Views.{step_view};
 ghost use Rattle.tw_replica.specs.Reading.{Gives, many_at, sync_create_at, sync_delete_at, sync_update_at, sync_op_at, sync_of};
 
-use crate::reading::{Read, ReadError, read_moment, read_option, read_text, read_uuid, u32_at};
+use crate::reading::{
+    Read, ReadError, read_moment, read_option, read_text, read_uuid, room_for, u32_at,
+};
 use crate::writing::{put_count, put_moment, put_option, put_text, put_uuid};
 use std::alloc::Global;
 use tw_model::SyncOp;
@@ -73,7 +75,7 @@ fn read_sync_op(alloc: Global, bytes: &[u8]) -> Result<(SyncOp, &[u8]), ReadErro
 fn read_sync_ops(alloc: Global, count: u32, bytes: &[u8]) -> Result<(Vec<SyncOp>, &[u8]), ReadError>
     ensures { Gives (λ x. (x.0.items, x.1.now)) result (many_at sync_op_at count bytes.now) }
 {
-    let mut ops = Vec::new(alloc);
+    let mut ops = Vec::with_capacity(alloc, room_for(count, bytes))?;
     let mut rest = bytes;
     for _ in 0..count {
         let (op, after) = read_sync_op(alloc, rest)?;
