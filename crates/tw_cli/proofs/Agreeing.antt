@@ -3,6 +3,7 @@ use Rattle.std.proofs.Common.{◌≡◌, ◌⊎◌, inl, inr, ⊎_elim, ◌∙�
 use Rattle.tw_world.specs.Disk.{DiskModel, Tells, LeavesOnly}
 use Rattle.tw_world.specs.Sink.{SinkModel}
 use Rattle.tw_world.proofs.Moments.{CountsNow, weaker}
+use Rattle.tw_journal.specs.Open.{Records, IsImageThen}
 use Rattle.tw_journal.proofs.Unique.{one_records}
 use Rattle.tw_protocol.specs.Chain.{Version, Grows}
 use Rattle.tw_http.specs.Link.{LinkModel, IsHonest, IsChainOf, IsServedChain}
@@ -16,9 +17,11 @@ use Rattle.tw_sync.proofs.Folds.{agrees_is_kept}
 use Rattle.tw_sync.proofs.Steps.{commit_agrees, undo_agrees}
 use Rattle.tw_sync.proofs.Ends.{sync_end_agrees}
 use Rattle.tw_cli.specs.Command.{add_ops, next_of, bodies_of}
-use Rattle.tw_cli.specs.Run.{HasMore, CarriedOut, reached}
+use Rattle.tw_cli.specs.Run.{HasMore, CarriedOut}
+use Rattle.tw_cli.specs.Crash.{LeavesRecords, IsStepOf, LeavesBy, LeavesOneEnd}
 use Rattle.tw_cli.specs.Syncing.{Synced}
 use Rattle.tw_cli.specs.Whole.{NothingDone, RunGives, RunLeaves}
+use Rattle.tw_cli.proofs.Openings.{leaves_either}
 use Rattle.tw_cli.specs.Agreement.{IsHonestFor, OpensAgreeing, AllAgree, AgreementStays}
 use Rattle.tw_cli.specs.declared.job.Job.{Job}
 use Rattle.tw_cli.specs.declared.job.Job.TheVariants.{Local, Sync}
@@ -26,7 +29,7 @@ use Rattle.tw_cli.specs.declared.command.Command.{Command}
 use Rattle.tw_cli.specs.declared.command.Command.TheVariants.{Add, Undo, Count, Export}
 use Rattle.tw_cli.specs.declared.server.Server.{Server}
 use Rattle.tw_cli.specs.declared.cause.Cause.{Cause}
-use Rattle.tw_cli.specs.declared.cause.Cause.TheVariants.{Done, NothingToUndo, BadWords, BadSetting, NoServer, IdTaken, DiskFault, RecordTooLong, Memory, LinkFault, BadReply, Gone, Busy, OutOfSync, BadSegment, SegmentTooLong, PullTooLong, OutFault, Damaged}
+use Rattle.tw_cli.specs.declared.cause.Cause.TheVariants.{Done, OutFault}
 
 some_is : (a b : State) → Some a ≡ Some b → a ≡ b
 some_is a b e = cc
@@ -44,27 +47,6 @@ command_agrees (Add u text now) old chain a = λ new e. commit_agrees false (add
 command_agrees Undo old chain a = λ new e. undo_agrees old new chain a e
 command_agrees Count old chain a = λ new e. subst (λ s. Agrees s chain) (some_is old new e) a
 command_agrees Export old chain a = λ new e. subst (λ s. Agrees s chain) (some_is old new e) a
-
-reached_agrees : (cause : Cause) (next : State → Option State) (old : State) (chain : List Version) → LeadsAgreeing chain (next old) → LeadsAgreeing chain (reached cause next old)
-reached_agrees Done next old chain leads = leads
-reached_agrees NothingToUndo next old chain leads = λ s e. absurd (no_state s e)
-reached_agrees (BadWords word kind) next old chain leads = λ s e. absurd (no_state s e)
-reached_agrees (BadSetting line) next old chain leads = λ s e. absurd (no_state s e)
-reached_agrees NoServer next old chain leads = λ s e. absurd (no_state s e)
-reached_agrees (IdTaken uuid) next old chain leads = λ s e. absurd (no_state s e)
-reached_agrees DiskFault next old chain leads = leads
-reached_agrees (RecordTooLong bytes) next old chain leads = λ s e. absurd (no_state s e)
-reached_agrees Memory next old chain leads = λ s e. absurd (no_state s e)
-reached_agrees LinkFault next old chain leads = λ s e. absurd (no_state s e)
-reached_agrees (BadReply kind) next old chain leads = λ s e. absurd (no_state s e)
-reached_agrees (Gone base) next old chain leads = λ s e. absurd (no_state s e)
-reached_agrees (Busy parent) next old chain leads = λ s e. absurd (no_state s e)
-reached_agrees (OutOfSync base parent) next old chain leads = λ s e. absurd (no_state s e)
-reached_agrees (BadSegment version) next old chain leads = λ s e. absurd (no_state s e)
-reached_agrees (SegmentTooLong bytes) next old chain leads = λ s e. absurd (no_state s e)
-reached_agrees (PullTooLong bytes) next old chain leads = λ s e. absurd (no_state s e)
-reached_agrees OutFault next old chain leads = leads
-reached_agrees (Damaged offset) next old chain leads = λ s e. absurd (no_state s e)
 
 either_agrees : (chain : List Version) (state : State) (next : Option State) (file : List ℕ) → Agrees state chain → LeadsAgreeing chain next → OpensToEither state next file → OpensAgreeing chain file
 either_agrees chain state next file a leads (inl same) = (state, same, a)
@@ -90,35 +72,37 @@ module _ {D L : Type 0} (m : DiskModel D) (links : LinkModel L) (d0 d1 : D) (l0 
   end_agrees server state None chain a end = λ s e. absurd (no_state s e)
   end_agrees server state (Some next) chain a end = λ s e. subst (λ t. Agrees t (links.chain l1)) (some_is next s e) (sync_end_agrees state next (told links l0) (told links l1) end.0 chain.whole a end.1)
 
-  -- a state before the run and one that the run may lead to, which agree with the chain after it
-  record MayLead (state : State) : Type 0 where
-    before : Agrees state (links.chain l1)
-    next : Option State
-    leads : LeadsAgreeing (links.chain l1) next
-    leaves : LeavesOnly m d0 d1 (λ file. m.leaves d0 file ⊎ OpensToEither state next file)
+  module _ (here : OpensAgreeing (links.chain l0) (m.seen d0)) (grows : Grows (links.chain l0) (links.chain l1)) where
+    still : Agrees here.0 (links.chain l1)
+    still = agrees_is_kept here.0 (links.chain l0) (links.chain l1) here.2 grows
 
-  may_lead : ((link : L) → IsChainOf links link) → IsLinkKept links l0 l1 → (asked : Result Job Cause) (cause : Cause) → RunLeaves m links asked d0 d1 l0 l1 cause → Tells m d0 → IsHonestFor links asked l0 → Grows (links.chain l0) (links.chain l1)
-      → (state : State) → OpensTo (m.seen d0) state → Agrees state (links.chain l0) → MayLead state
-  may_lead tells_chain kept (Ok (Local command)) cause run tells honest grows state opens a =
-      let now : Agrees state (links.chain l1) = agrees_is_kept state (links.chain l0) (links.chain l1) a grows in
-      record { before = now; next = reached cause (next_of command) state; leads = reached_agrees cause (next_of command) state (links.chain l1) (command_agrees command state (links.chain l1) now); leaves = run tells state opens }
-  may_lead tells_chain kept (Ok (Sync server)) cause run tells honest grows state opens a =
-      let r = run tells state opens in
-      record {
-        before = agrees_is_kept state (links.chain l0) (links.chain l1) a grows;
-        next = r.0;
-        leads = end_agrees server state r.0 (whole_chain server.client tells_chain kept honest) a (r.1 honest);
-        leaves = r.2;
-      }
-  may_lead tells_chain kept (Err refusal) cause run tells honest grows state opens a =
-      record { before = agrees_is_kept state (links.chain l0) (links.chain l1) a grows; next = None; leads = λ s e. absurd (no_state s e); leaves = run tells state opens }
+    image_agrees : (file : List ℕ) → IsImageThen m d0 magic file → m.leaves d0 file ⊎ OpensAgreeing (links.chain l1) file
+    image_agrees file (inl was) = inl was
+    image_agrees file (inr same) =
+        let bodies : here.1.bodies ≡ same.0 = one_records magic (m.seen d0) here.1.bodies same.0 here.1.records same.1 in
+        inr (here.0, record { bodies = here.1.bodies; records = subst (Records magic file) (sym bodies) same.2; stands = here.1.stands }, still)
 
-  unsettled : ((link : L) → IsChainOf links link) → IsLinkKept links l0 l1 → (asked : Result Job Cause) (cause : Cause) → RunLeaves m links asked d0 d1 l0 l1 cause → Tells m d0 → IsHonestFor links asked l0 → Grows (links.chain l0) (links.chain l1)
-      → OpensAgreeing (links.chain l0) (m.seen d0) → LeavesOnly m d0 d1 (λ file. m.leaves d0 file ⊎ OpensAgreeing (links.chain l1) file)
-  unsettled tells_chain kept asked cause run tells honest grows here =
-      let may : MayLead here.0 = may_lead tells_chain kept asked cause run tells honest grows here.0 here.1 here.2 in
-      weaker m d0 d1 (λ file. m.leaves d0 file ⊎ OpensToEither here.0 may.next file) (λ file. m.leaves d0 file ⊎ OpensAgreeing (links.chain l1) file) may.leaves
-      (λ file left. ⊎_elim (λ was. inl was) (λ either. inr (either_agrees (links.chain l1) here.0 may.next file may.before may.leads either)) left)
+    step_agrees : (next : State → Option State) → LeadsAgreeing (links.chain l1) (next here.0) → (file : List ℕ) → IsStepOf (m.seen d0) next file → OpensAgreeing (links.chain l1) file
+    step_agrees next leads file step =
+        let is : step.state ≡ here.0 = opens_one (m.seen d0) step.state here.0 step.opened here.1 in
+        either_agrees (links.chain l1) here.0 (next here.0) file still leads (subst (λ s. OpensToEither s (next s) file) is step.opens)
+
+    -- what a crash leaves: an image that it could leave before, or a replica that agrees
+    records_agree : LeavesRecords m d0 d1 → Tells m d0 → LeavesOnly m d0 d1 (λ file. m.leaves d0 file ⊎ OpensAgreeing (links.chain l1) file)
+    records_agree run tells = weaker m d0 d1 (IsImageThen m d0 magic) (λ file. m.leaves d0 file ⊎ OpensAgreeing (links.chain l1) file) (run tells) image_agrees
+
+    by_cause : (next : State → Option State) → LeadsAgreeing (links.chain l1) (next here.0) → (cause : Cause) → LeavesBy m next d0 d1 cause → Tells m d0 → LeavesOnly m d0 d1 (λ file. m.leaves d0 file ⊎ OpensAgreeing (links.chain l1) file)
+    by_cause next leads cause run tells =
+        weaker m d0 d1 (λ file. IsImageThen m d0 magic file ⊎ IsStepOf (m.seen d0) next file) (λ file. m.leaves d0 file ⊎ OpensAgreeing (links.chain l1) file) (leaves_either m next d0 d1 cause run tells)
+        (λ file left. ⊎_elim (image_agrees file) (λ step. inr (step_agrees next leads file step)) left)
+
+    unsettled : ((link : L) → IsChainOf links link) → IsLinkKept links l0 l1 → (asked : Result Job Cause) (cause : Cause) → RunLeaves m links asked d0 d1 l0 l1 cause → Tells m d0 → IsHonestFor links asked l0
+        → LeavesOnly m d0 d1 (λ file. m.leaves d0 file ⊎ OpensAgreeing (links.chain l1) file)
+    unsettled tells_chain kept (Ok (Local command)) cause run tells honest = by_cause (next_of command) (command_agrees command here.0 (links.chain l1) still) cause run tells
+    unsettled tells_chain kept (Ok (Sync server)) cause run tells honest =
+        let r : LeavesOneEnd m links server d0 d1 l0 l1 cause = run tells in
+        by_cause (λ state. r.next) (end_agrees server here.0 r.next (whole_chain server.client tells_chain kept honest) here.2 (r.end honest here.0 here.1)) cause r.leaves tells
+    unsettled tells_chain kept (Err refusal) cause run tells honest = records_agree run tells
 
   -- the records that a run has left stand for a state that agrees with the chain
   more_agrees : (more : List (List ℕ)) (state old new : State) → OpensTo (m.seen d0) state → Agrees state (links.chain l0) → HasMore (m.seen d0) (m.seen d1) more old new → (Agrees old (links.chain l0) → Agrees new (links.chain l1)) → OpensAgreeing (links.chain l1) (m.seen d1)
@@ -142,8 +126,8 @@ module _ {D L : Type 0} (m : DiskModel D) (links : LinkModel L) (d0 d1 : D) (l0 
       → (cause ≡ Done) ⊎ (cause ≡ OutFault) → OpensAgreeing (links.chain l0) (m.seen d0) → OpensAgreeing (links.chain l1) (m.seen d1)
   done_agrees s o0 o1 tells_chain kept asked cause gives tells honest which here = ⊎_elim (λ done. at_done asked (subst (RunGives m s links asked d0 d1 o0 o1 l0 l1) done gives) honest) (λ fault. at_fault asked (subst (RunGives m s links asked d0 d1 o0 o1 l0 l1) fault gives) honest) which
     where
-      nothing : (refusal now : Cause) → NothingDone d0 d1 o0 o1 l0 l1 refusal now → OpensAgreeing (links.chain l1) (m.seen d1)
-      nothing refusal now none = subst (λ l. OpensAgreeing (links.chain l) (m.seen d1)) (sym none.3) (subst (λ d. OpensAgreeing (links.chain l0) (m.seen d)) (sym none.1) here)
+      nothing : (refusal ended : Cause) → NothingDone d0 d1 o0 o1 l0 l1 refusal ended → OpensAgreeing (links.chain l1) (m.seen d1)
+      nothing refusal ended none = subst (λ l. OpensAgreeing (links.chain l) (m.seen d1)) (sym none.3) (subst (λ d. OpensAgreeing (links.chain l0) (m.seen d)) (sym none.1) here)
 
       at_done : (asked : Result Job Cause) → RunGives m s links asked d0 d1 o0 o1 l0 l1 Done → IsHonestFor links asked l0 → OpensAgreeing (links.chain l1) (m.seen d1)
       at_done (Ok (Local command)) run h = carried_out_agrees command run.0.0 run.1 tells here
@@ -168,7 +152,7 @@ module _ {D L : Type 0} (m : DiskModel D) (links : LinkModel L) (d0 d1 : D) (l0 
       grows = chain_grows honest
 
       from_bytes : OpensAgreeing (links.chain l0) (m.seen d0) → LeavesOnly m d0 d1 (λ file. m.leaves d0 file ⊎ OpensAgreeing (links.chain l1) file)
-      from_bytes = unsettled tells_chain kept asked cause run tells honest grows
+      from_bytes here = unsettled here grows tells_chain kept asked cause run tells honest
 
       always : AllAgree m (links.chain l0) d0 → LeavesOnly m d0 d1 (OpensAgreeing (links.chain l1))
       always all = weaker m d0 d1 (λ file. m.leaves d0 file ⊎ OpensAgreeing (links.chain l1) file) (OpensAgreeing (links.chain l1)) (from_bytes (all (m.seen d0) (seen_may_stay d0 tells)))

@@ -13,8 +13,9 @@ ghost use Rattle.tw_cli.specs.Text.{printed_bytes};
 ghost use Rattle.tw_cli.specs.Command.{next_of};
 ghost use Rattle.tw_cli.specs.Fault.{Told, status_of};
 ghost use Rattle.tw_cli.specs.Jobs.{asked_in, Draws};
-ghost use Rattle.tw_cli.specs.Run.{Gives, CanEnd, LeavesEither, reached};
-ghost use Rattle.tw_cli.specs.Syncing.{SyncGives, CanBeSynced, LeavesSync};
+ghost use Rattle.tw_cli.specs.Run.{Gives, CanEnd};
+ghost use Rattle.tw_cli.specs.Syncing.{SyncGives, CanBeSynced};
+ghost use Rattle.tw_cli.specs.Crash.{LeavesBy, LeavesSync};
 ghost use Rattle.tw_cli.specs.Whole.{RunGives, EndsWell, IsDoneOrWant, RunLeaves};
 ghost use Rattle.tw_cli.specs.Agreement.{IsHonestFor, AgreementStays};
 
@@ -46,7 +47,7 @@ fn run_command<D: Disk, O: Sink>(
 ) -> Cause
     ensures gives { Gives D.model O.model command.now disk.old disk.new out.old out.new result }
     ensures complete { CanEnd D.model O.model command.now disk.old disk.new out.old out.new → IsDoneOrWant result }
-    ensures any_moment { LeavesEither D.model (reached result (next_of command.now)) disk.old disk.new }
+    ensures any_moment { LeavesBy D.model (next_of command.now) disk.old disk.new result }
     ensures kept { Kept D.model disk.old disk.new }
 {
     let shown = match carry_out(alloc, command, disk) {
@@ -70,7 +71,7 @@ fn run_sync<D: Disk, L: Link, O: Sink>(
     requires host { IsHost server.now.host }
     ensures gives { SyncGives D.model O.model L.model server.now disk.old disk.new out.old out.new link.old link.new result }
     ensures complete { CanBeSynced D.model L.model server.now disk.old disk.new link.old link.new → (Rose (O.model.faults out.old) (O.model.faults out.new) → ⊥) → IsDoneOrWant result ⊎ (result ≡ Cause.BadReply (Status 500)) }
-    ensures any_moment { LeavesSync D.model L.model server.now disk.old disk.new link.old link.new }
+    ensures any_moment { LeavesSync D.model L.model server.now disk.old disk.new link.old link.new result }
     ensures grows { IsHonest L.model link.old server.now.client → Grows (L.model.chain link.old) (L.model.chain link.new) }
     ensures kept { Kept D.model disk.old disk.new }
     ensures link_kept { IsLinkKept L.model link.old link.new }
