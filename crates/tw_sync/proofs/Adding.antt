@@ -1,8 +1,7 @@
 -- What is left at a place is sent.
-use Rattle.std.proofs.Common.{◌≡◌, ℕ, ◌+◌, ◌*◌, ◌≤◌, inl, inr, length, List, [], ◌∷◌, ◌++◌, Ok, refl, sym, ap, subst, ◌∙◌, arith, length-append}
-use Rattle.std.proofs.lemmas.List.{append-nil}
+use Rattle.std.proofs.Common.{◌≡◌, ℕ, ◌+◌, ◌*◌, ◌≤◌, inl, inr, length, List, [], ◌∷◌, ◌++◌, Ok, refl, sym, ap, subst, ◌∙◌, arith}
 use Rattle.uuid.specs.Parts.{zero_bytes}
-use Rattle.tw_protocol.specs.Chain.{Version, latest, IsBetween, Grows, HoldsAll}
+use Rattle.tw_protocol.specs.Chain.{Version, IsBetween, Grows, HoldsAll}
 use Rattle.tw_protocol.specs.Answer.{version}
 use Rattle.tw_protocol.proofs.Chains.{last_from-append}
 use Rattle.tw_protocol.proofs.Between.{between_joins}
@@ -10,26 +9,24 @@ use Rattle.tw_http.specs.Link.{LinkModel, IsHonest}
 use Rattle.tw_http.specs.declared.message.Response.TheVariants as replies
 use Rattle.tw_segment.specs.Segment.{segment_text, IsSegment}
 use Rattle.tw_replica.specs.State.{State}
-use Rattle.tw_replica.specs.Sound.{start_of}
-use Rattle.tw_model.specs.Ops.{apply_all}
 use Rattle.tw_sync.specs.End.{IsPulled, AddedOne}
 use Rattle.tw_sync.specs.Heard.{Heard, Hears, HearsUntil, conflicts, most_exchanges}
-use Rattle.tw_sync.specs.Answers.{GrowsOn, IsAddedOne, IsRefusedOne, add_heard, NoReply, AddRefused}
-use Rattle.tw_sync.specs.Refused.{EndedBy, IsWelcome, IsConflict, HeardRefused, MayAdd}
+use Rattle.tw_sync.specs.Answers.{GrowsOn, IsAddedOne, add_heard, HeardUnasked, NoReply, AddRefused}
+use Rattle.tw_sync.specs.Refused.{EndedBy, GoesOnFrom, HeardRefused, MayAdd}
 use Rattle.tw_sync.specs.Sync.{told, IsLastReply}
 use Rattle.tw_sync.specs.Honest.{HonestRefused}
-use Rattle.tw_sync.specs.Place.{StandsIn, GoesFurther}
-use Rattle.tw_sync.specs.Progress.{HeardSoFar, IsUpToDate, IsAtEnd, HasPulled, IsLate, HeardAll, IsMet, IsCause, HeardToStop, StopsTruly, IsStopped}
+use Rattle.tw_sync.specs.Progress.{HeardSoFar, IsUpToDate, IsAtEnd, HasPulled, HeardAll, IsMet, IsCause, HeardToStop, StopsTruly, IsStopped}
 use Rattle.tw_sync.specs.Sending.{IsUnsent}
-use Rattle.tw_sync.specs.declared.ask.AddAnswer.TheVariants.{Added, Conflict}
+use Rattle.tw_sync.specs.declared.ask.AddAnswer.TheVariants.{Added}
 use Rattle.tw_sync.specs.declared.place.Place.{Place}
 use Rattle.tw_sync.specs.declared.error.SyncError.{SyncError}
 use Rattle.tw_sync.specs.declared.error.SyncError.TheVariants as errors
-use Rattle.tw_sync.proofs.Standing.{cut_grows, pulled_grows, stands_grown}
-use Rattle.tw_sync.proofs.Hearing.{kept_on, growing_on, hears_on, hears_until, hears_until_on, refused_on, all-append, brought-append, conflicts-append}
+use Rattle.tw_sync.proofs.Standing.{cut_grows, pulled_grows}
+use Rattle.tw_sync.proofs.Hearing.{kept_on, growing_on, hears_on, hears_until, hears_until_on, brought-append}
+use Rattle.tw_sync.proofs.GoingOn.{goes_on_past, goes_on_so_far, refused_on}
 use Rattle.tw_sync.proofs.Results.{ended_by}
 use Rattle.tw_sync.proofs.Served.{grows_on}
-use Rattle.tw_sync.proofs.Turns.{IsAsked, IsUnasked, asked_on, cause_on, no_reply_says, stops_here}
+use Rattle.tw_sync.proofs.Turns.{IsAsked, IsUnasked, cause_on, no_reply_says, stops_here}
 
 -- ---- nothing is left
 
@@ -47,7 +44,7 @@ pub nothing_left : {L : Type 0} (m : LinkModel L) (client host : List ℕ) (stat
 nothing_left m client host state first now p s none = record {
   fewer = omega arith;
   kept = s.asked.kept;
-  heard = λ tells. (let t = s.asked.heard tells in record { hs = t.hs; hears = t.hears; ended = (t.so.0, t.so.1, inl t.so.2); brought_is = t.brought_is; few = (let n = t.conflicts_are in let o = s.tries in omega (arith, n, o)); welcome = t.welcome });
+  heard = λ tells. (let t = s.asked.heard tells in record { hs = t.hs; hears = t.hears; ended = (t.so.0, t.so.1, inl t.so.2); brought_is = t.brought_is; goes_on = goes_on_so_far m client host first now p _ t s.tries });
   come = λ honest. (
       let e = s.come honest in
       record {
@@ -147,8 +144,7 @@ added m client host state first a b p q id segment sent s asked grows one some t
       hears = hears_on m client host first a b t.hs (h ∷ []) t.hears more;
       ended = ended_by t.hs h (IsLastReply client q.at) (inr (ap (λ (i : List ℕ). Ok (replies.Added i)) (sym at)));
       brought_is = (let f = brought-append t.hs (h ∷ []) in let n = t.brought_is in omega (arith, f, n, versions));
-      few = (let f = conflicts-append t.hs (h ∷ []) in let n = t.conflicts_are in let o = s.tries in omega (arith, f, n, o));
-      welcome = all-append IsWelcome t.hs (h ∷ []) t.welcome (asked.welcome, tt);
+      goes_on = goes_on_past t.hs h (goes_on_so_far m client host first a p _ t s.tries) asked.welcome refl refl;
     }
 
 -- ---- a refusal
@@ -157,14 +153,14 @@ added m client host state first a b p q id segment sent s asked grows one some t
 pub unsent : {L : Type 0} (m : LinkModel L) (client host : List ℕ) (state : State) (first now : L) (p : Place) (e : SyncError) → HasPulled m client host state first now p → IsUnsent p.left.items e → IsStopped m client host state first now e
 unsent m client host state first now p e s not = by e not
   where
-    stop : (x : SyncError) → IsCause m first now x → ((hs : List Heard) → HeardRefused client hs x) → (IsHonest m first client → HonestRefused state (told m first) (told m now) x) → IsStopped m client host state first now x
+    stop : (x : SyncError) → IsCause m first now x → ((hs : List Heard) → GoesOnFrom hs → HeardRefused client hs x) → (IsHonest m first client → HonestRefused state (told m first) (told m now) x) → IsStopped m client host state first now x
     stop x cause refused says = record {
       kept = s.asked.kept;
       cause = cause;
       heard = λ tells. (let t = s.asked.heard tells in record {
         hs = t.hs;
         hears = hears_until m client host first now t.hs x t.hears;
-        refused = refused t.hs;
+        refused = refused t.hs (goes_on_so_far m client host first now p _ t s.tries);
         few = λ honest. (
             let n = s.asked.count in
             let o = s.tries in
@@ -176,8 +172,8 @@ unsent m client host state first now p e s not = by e not
     }
 
     by : (x : SyncError) → IsUnsent p.left.items x → IsStopped m client host state first now x
-    by (errors.SegmentTooLong bytes) n = stop (errors.SegmentTooLong bytes) n.1 (λ hs. tt) (λ honest. (let t = (s.come honest).stands in record { h = p.at; versions = t.versions; ops = p.remote.items; left = p.left.items; pulled = t.pulled; len = n.0 }))
-    by errors.Memory n = stop errors.Memory tt (λ hs. tt) (λ honest. tt)
+    by (errors.SegmentTooLong bytes) n = stop (errors.SegmentTooLong bytes) n.1 (λ hs g. record { cause = tt; until = g }) (λ honest. (let t = (s.come honest).stands in record { h = p.at; versions = t.versions; ops = p.remote.items; left = p.left.items; pulled = t.pulled; len = n.0 }))
+    by errors.Memory n = stop errors.Memory tt (λ hs g. record { cause = tt; until = g }) (λ honest. tt)
     by (errors.Journal x) n = absurd n
     by errors.Link n = absurd n
     by (errors.Reply kind) n = absurd n
@@ -201,11 +197,11 @@ unadded m client host state first a b p segment e s un grows refused some text b
   come = λ honest. (let c = s.come honest in by c (grows c.on.honest) (refused c.on.honest));
 }
   where
-    to_stop : HeardSoFar m client host first a p (λ hs. EndedBy hs (IsUpToDate client p.at)) → (hs : List Heard) × HearsUntil m client host a b hs e × HeardRefused client hs e → HeardToStop m client host first b e
+    to_stop : HeardSoFar m client host first a p (λ hs. EndedBy hs (IsUpToDate client p.at)) → (hs : List Heard) × HearsUntil m client host a b hs e × HeardUnasked hs e → HeardToStop m client host first b e
     to_stop t u = record {
       hs = t.hs ++ u.0;
       hears = hears_until_on m client host first a b t.hs u.0 e t.hears u.1;
-      refused = refused_on m client host a b t.hs u.0 e un.refused u.2;
+      refused = refused_on m client a b t.hs u.0 e un.refused u.2 (goes_on_so_far m client host first a p _ t s.tries);
       few = λ honest. (
           let n = s.asked.count in
           let k = un.count in
@@ -253,7 +249,7 @@ added_unkept m client host state first a b p id segment s asked grows one some t
     to_stop t more = record {
       hs = t.hs ++ h ∷ [];
       hears = inl (hears_on m client host first a b t.hs (h ∷ []) t.hears more);
-      refused = tt;
+      refused = record { cause = tt; until = goes_on_past t.hs h (goes_on_so_far m client host first a p _ t s.tries) asked.welcome refl refl };
       few = λ honest. (
           let n = s.asked.count in
           let k = asked.count in
@@ -263,88 +259,6 @@ added_unkept m client host state first a b p id segment s asked grows one some t
           let late = (s.come honest).late in
           omega (arith, n, k, o, f, g, late));
     }
-
--- ---- a conflict
-
--- the place with one conflict more
-pub record IsLater (p q : Place) : Type 0 where
-  pub at : q.at ≡ p.at
-  pub left : q.left.items ≡ p.left.items
-  pub tasks : q.tasks ≡ p.tasks
-  pub remote : q.remote.items ≡ p.remote.items
-  pub versions : q.versions ≡ p.versions
-  pub bytes : q.bytes ≡ p.bytes
-  pub conflicts : q.conflicts ≡ p.conflicts + 1
-
-later_stands : (state : State) (chain : List Version) (p q : Place) → IsLater p q → StandsIn state chain p → StandsIn state chain q
-later_stands state chain p q same s = record {
-  versions = s.versions;
-  pulled = subst (λ h. IsPulled state chain h s.versions q.remote.items q.left.items) (sym same.at) (subst (λ r. IsPulled state chain p.at s.versions r q.left.items) (sym same.remote) (subst (λ l. IsPulled state chain p.at s.versions p.remote.items l) (sym same.left) s.pulled));
-  tasks = same.tasks ∙ s.tasks ∙ ap (apply_all (start_of state)) (sym same.remote);
-  count = same.versions ∙ s.count;
-  bytes = same.bytes ∙ s.bytes;
-}
-
-some_more : (front at : List Version) → (g : Grows front at) → ¬ (latest at ≡ latest front) → ¬ (g.more ≡ [])
-some_more front at g other = λ none. other (ap latest (g.joined ∙ ap (λ xs. front ++ xs) none ∙ append-nil front))
-
-not_none : {A : Type 0} (xs : List A) → ¬ (xs ≡ []) → 1 ≤ length xs
-not_none [] some = absurd (some refl)
-not_none (x ∷ xs) some = omega arith
-
-none_of_both : {A : Type 0} (xs ys : List A) → ¬ (xs ≡ []) → ¬ (xs ++ ys ≡ [])
-none_of_both [] ys some = λ e. some refl
-none_of_both (x ∷ xs) ys some = λ e. cc
-
--- versions of others stand behind the place
-module _ {L : Type 0} (m : LinkModel L) (client : List ℕ) (state : State) (first a b : L) (p : Place) (last : List ℕ) (e : IsAtEnd m client state first a p) (on : GrowsOn m a b client) (one : IsRefusedOne m a b p.at last) where
-  to_there : Grows e.front one.at
-  to_there = grows_on e.front (m.chain a) one.at e.given.after one.given.before
-
-  more_there : ¬ (to_there.more ≡ [])
-  more_there = some_more e.front one.at to_there (λ same. one.other (sym one.is_last ∙ same ∙ e.last))
-
-  pub refused_further : GoesFurther (m.chain b) p.at
-  refused_further = record {
-    front = e.front;
-    back = to_there.more ++ one.given.after.more;
-    cut = cut_grows one.at (m.chain b) p.at e.front to_there.more (record { split = to_there.joined; at = e.last }) one.given.after;
-    some = none_of_both to_there.more one.given.after.more more_there;
-  }
-
-  pub refused_longer : length (m.chain first) + (p.conflicts + 1) ≤ length (m.chain b)
-  refused_longer =
-      let x = ap length to_there.joined in
-      let y = length-append e.front to_there.more in
-      let z = ap length one.given.after.joined in
-      let w = length-append one.at one.given.after.more in
-      let n = not_none to_there.more more_there in
-      let o = e.others in
-      omega (arith, x, y, z, w, n, o)
-
-pub came_late : {L : Type 0} (m : LinkModel L) (client host : List ℕ) (state : State) (first a b : L) (p q : Place) (segment last : List ℕ) → HasPulled m client host state first a p → IsAsked m client host a b (add_heard client p.at segment (Conflict last))
-    → (IsHonest m a client → GrowsOn m a b client) → (IsHonest m a client → IsRefusedOne m a b p.at last) → IsLater p q → IsLate m client host state first b q last
-came_late m client host state first a b p q segment last s asked grows one same = record {
-  fewer = (let n = s.fewer in let e = ap length same.left in omega (arith, n, e));
-  tries = (let o = s.tries in let e = same.conflicts in omega (arith, o, e));
-  asked = asked_on m client host first a b p q 1 0 _ _ (add_heard client p.at segment (Conflict last)) s.asked asked (record { versions = (let e = same.versions in omega (arith, e)); bytes = (let e = same.bytes in omega (arith, e)); conflicts = same.conflicts })
-      (let e = same.conflicts in let f = same.versions in omega (arith, e, f)) (λ hs u. ended_by hs (add_heard client p.at segment (Conflict last)) (IsConflict last) refl);
-  come = λ honest. (
-      let e = s.come honest in
-      let on = grows e.on.honest in
-      let o = one e.on.honest in
-      record {
-        on = growing_on m first a b client e.on on;
-        mine = o.mine ∙ e.mine;
-        stands = inr (later_stands state (m.chain b) p q same (stands_grown state (m.chain a) (m.chain b) p e.stands on.grows));
-        others = (let n = refused_longer m client state first a b p last e on o in let f = same.conflicts in omega (arith, n, f));
-        late = inr (let l = e.late in let f = same.conflicts in let k = same.versions in omega (arith, l, f, k), further e on o);
-      });
-  behind = λ honest. (let e = s.come honest in further e (grows e.on.honest) (one e.on.honest));
-}
-  where
-    further : IsAtEnd m client state first a p → GrowsOn m a b client → IsRefusedOne m a b p.at last → GoesFurther (m.chain b) q.at
-    further e on o = subst (GoesFurther (m.chain b)) (sym same.at) (refused_further m client state first a b p last e on o)
 
 pub none_is : {A : Type 0} (xs : List A) → length xs ≡ 0 → xs ≡ []
 none_is [] e = refl

@@ -4,8 +4,7 @@ use Rattle.std.specs.List.{AllByRecursion}
 use Rattle.std.proofs.lemmas.List.{append-nil}
 use Rattle.tw_http.specs.Link.{LinkModel, Exchange}
 use Rattle.tw_sync.specs.Heard.{Heard, AreHeard, Hears, HearsUnread, HearsUntil, pulled_bytes, brought, conflicts}
-use Rattle.tw_sync.specs.Refused.{EndedBy, HeardRefused}
-use Rattle.tw_sync.specs.Answers.{IsLinkKept, GrowsOn, AskRefused}
+use Rattle.tw_sync.specs.Answers.{IsLinkKept, GrowsOn}
 use Rattle.tw_sync.specs.declared.error.SyncError.{SyncError}
 use Rattle.tw_sync.specs.declared.error.SyncError.TheVariants as errors
 use Rattle.tw_sync.proofs.Served.{grows_on}
@@ -27,11 +26,6 @@ pulled_bytes-append (h ∷ hs) ks = let rest = pulled_bytes-append hs ks in omeg
 pub all-append : {A : Type 0} (P : A → Type 0) (xs ys : List A) → AllByRecursion P xs → AllByRecursion P ys → AllByRecursion P (xs ++ ys)
 all-append P [] ys a b = b
 all-append P (x ∷ xs) ys a b = (a.0, all-append P xs ys a.1 b)
-
--- ---- the last thing heard
-
-pub ended_on : (P : Heard → Type 0) (hs ks : List Heard) → EndedBy ks P → EndedBy (hs ++ ks) P
-ended_on P hs ks (last, ends, is) = (last, record { earlier = hs ++ ends.earlier; split = ap (λ xs. hs ++ xs) ends.split ∙ sym (append_assoc hs ends.earlier (last ∷ [])) }, is)
 
 -- ---- exchanges
 
@@ -87,19 +81,6 @@ module _ {L : Type 0} (m : LinkModel L) (client host : List ℕ) where
   hears_until_on a b c hs ks (errors.Segment version) one two = hears_on a b c hs ks one two
   hears_until_on a b c hs ks (errors.SegmentTooLong bytes) one two = hears_on a b c hs ks one two
   hears_until_on a b c hs ks (errors.PullTooLong bytes) one two = hears_on a b c hs ks one two
-
-  -- a question that is refused ends the call, whatever was heard before
-  pub refused_on : (b c : L) (hs ks : List Heard) (e : SyncError) → AskRefused m b c e → HeardRefused client ks e → HeardRefused client (hs ++ ks) e
-  refused_on b c hs ks (errors.Reply kind) asked r = ended_on _ hs ks r
-  refused_on b c hs ks errors.Link asked r = tt
-  refused_on b c hs ks errors.Memory asked r = tt
-  refused_on b c hs ks (errors.Journal e) asked r = tt
-  refused_on b c hs ks (errors.Gone base) asked r = absurd asked
-  refused_on b c hs ks (errors.Busy parent) asked r = absurd asked
-  refused_on b c hs ks (errors.OutOfSync base parent) asked r = absurd asked
-  refused_on b c hs ks (errors.Segment version) asked r = absurd asked
-  refused_on b c hs ks (errors.SegmentTooLong bytes) asked r = tt
-  refused_on b c hs ks (errors.PullTooLong bytes) asked r = absurd asked
 
 module _ {L : Type 0} (m : LinkModel L) where
   pub kept_same : (link : L) → IsLinkKept m link link

@@ -8,6 +8,7 @@ pub mod Coming
 pub mod Turns
 pub mod Others
 pub mod Adding
+pub mod Conflicts
 pub mod Begun
 pub mod Moved
 pub mod Resumed
@@ -21,4 +22,5 @@ pub mod Served
 pub mod Answered
 pub mod Unheard
 pub mod Hearing
+pub mod GoingOn
 pub mod Complete

@@ -23,7 +23,7 @@ use Rattle.tw_replica.specs.declared.replica.Replica.{Replica}
 use Rattle.tw_sync.specs.Fold.{Reads, ReadsBetween}
 use Rattle.tw_sync.specs.End.{IsPulled, IsIdle, IsLeft, IsPushed, SyncEnd, MayHaveAdded, report_of}
 use Rattle.tw_sync.specs.Heard.{Heard}
-use Rattle.tw_sync.specs.Refused.{HeardRefused, JournalRefused, SyncRefused, IsUnchanged, MayAdd}
+use Rattle.tw_sync.specs.Refused.{GoesOnFrom, HeardRefused, JournalRefused, SyncRefused, IsUnchanged, MayAdd}
 use Rattle.tw_sync.specs.Sync.{told, record_body, record_size, RecordsOfSync, IsEndIn}
 use Rattle.tw_sync.specs.Honest.{HonestRefused, IsLongRecord}
 use Rattle.tw_sync.specs.Progress.{HasNothingLeft, HasSent, HasMet, IsCause}
@@ -262,17 +262,17 @@ module _ {D L : Type 0} (m : DiskModel D) (links : LinkModel L) (client : List �
   unmoved_state (errors.Segment version) r = absurd r
 
   -- what it heard is no cause
-  pub unmoved_cause : (hs : List Heard) (e : SyncError) → IsNotMoved m old new before after place e → HeardRefused client hs e
-  unmoved_cause hs (errors.Journal e) r = tt
-  unmoved_cause hs errors.Memory r = tt
-  unmoved_cause hs errors.Link r = absurd r
-  unmoved_cause hs (errors.SegmentTooLong bytes) r = absurd r
-  unmoved_cause hs (errors.PullTooLong bytes) r = absurd r
-  unmoved_cause hs (errors.Reply kind) r = absurd r
-  unmoved_cause hs (errors.Gone base) r = absurd r
-  unmoved_cause hs (errors.Busy parent) r = absurd r
-  unmoved_cause hs (errors.OutOfSync base parent) r = absurd r
-  unmoved_cause hs (errors.Segment version) r = absurd r
+  pub unmoved_cause : (hs : List Heard) (e : SyncError) → IsNotMoved m old new before after place e → GoesOnFrom hs → HeardRefused client hs e
+  unmoved_cause hs (errors.Journal e) r g = record { cause = tt; until = g }
+  unmoved_cause hs errors.Memory r g = record { cause = tt; until = g }
+  unmoved_cause hs errors.Link r g = absurd r
+  unmoved_cause hs (errors.SegmentTooLong bytes) r g = absurd r
+  unmoved_cause hs (errors.PullTooLong bytes) r g = absurd r
+  unmoved_cause hs (errors.Reply kind) r g = absurd r
+  unmoved_cause hs (errors.Gone base) r g = absurd r
+  unmoved_cause hs (errors.Busy parent) r g = absurd r
+  unmoved_cause hs (errors.OutOfSync base parent) r g = absurd r
+  unmoved_cause hs (errors.Segment version) r g = absurd r
 
 -- a sync that came to its end has added what was left, or nothing
 pub may_have_added : {L : Type 0} (m : LinkModel L) (client : List ℕ) (state : State) (first now : L) (place : Place) (sent : ℕ) → HasMet m client state first now place sent → MayHaveAdded state (told m first) (told m now)

@@ -9,12 +9,14 @@ use Rattle.tw_protocol.specs.Chain.{Version, same_id, has_id, Differ, IsChain, G
 use Rattle.tw_http.specs.Link.{LinkModel, OwnAreOfChain}
 use Rattle.tw_replica.specs.State.{State}
 use Rattle.tw_sync.specs.Sync.{told}
+use Rattle.tw_sync.specs.Heard.{conflicts}
 use Rattle.tw_sync.specs.Honest.{OthersAdded}
 use Rattle.tw_sync.specs.Progress.{HeardSoFar, IsLate, HeardToStop, IsStopped}
 use Rattle.tw_sync.specs.Refused.{EndedBy, IsConflict}
 use Rattle.tw_sync.specs.declared.place.Place.{Place}
 use Rattle.tw_sync.specs.declared.error.SyncError.TheVariants as errors
 use Rattle.tw_sync.proofs.Hearing.{hears_until}
+use Rattle.tw_sync.proofs.GoingOn.{goes_on_to_conflict}
 use Rattle.tw_sync.proofs.Turns.{late_by_one}
 
 none_there : (v : Version) → Contains [] v → ⊥
@@ -82,14 +84,16 @@ busy m client host state first now p last own s over = record {
 }
   where
     to_stop : HeardSoFar m client host first now p (λ hs. EndedBy hs (IsConflict last)) → HeardToStop m client host first now (errors.Busy last)
-    to_stop t = record {
-      hs = t.hs;
-      hears = hears_until m client host first now t.hs (errors.Busy last) t.hears;
-      refused = (t.so, let n = t.conflicts_are in let o = s.tries in omega (arith, n, o, over));
-      few = λ honest. (
-          let n = s.asked.count in
-          let o = s.tries in
-          let b = t.brought_is in
-          let late = late_by_one p.conflicts p.versions (s.come honest).late in
-          omega (arith, n, o, b, late, over));
-    }
+    to_stop t =
+        let sixteen : conflicts t.hs ≡ 16 = (let n = t.conflicts_are in let o = s.tries in omega (arith, n, o, over)) in
+        record {
+          hs = t.hs;
+          hears = hears_until m client host first now t.hs (errors.Busy last) t.hears;
+          refused = record { cause = (t.so, sixteen); until = goes_on_to_conflict t.hs last t.welcome (let b = t.bytes_are in let w = p.within in omega (arith, b, w)) sixteen t.so };
+          few = λ honest. (
+              let n = s.asked.count in
+              let o = s.tries in
+              let b = t.brought_is in
+              let late = late_by_one p.conflicts p.versions (s.come honest).late in
+              omega (arith, n, o, b, late, over));
+        }

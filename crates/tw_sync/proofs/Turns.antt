@@ -1,6 +1,5 @@
 -- A sync asks for what stands behind its place.
 use Rattle.std.proofs.Common.{◌≡◌, ◌⊎◌, ℕ, ◌+◌, ◌*◌, ◌≤◌, inl, inr, length, IsTrue, List, [], ◌∷◌, ◌++◌, Ok, refl, sym, ap, subst, ◌∙◌, arith}
-use Rattle.std.proofs.lemmas.List.{append_assoc}
 use Rattle.tw_world.specs.Disk.{Rose}
 use Rattle.tw_protocol.specs.Chain.{Version, IsChain, IsBetween}
 use Rattle.tw_protocol.specs.Answer.{version}
@@ -10,12 +9,12 @@ use Rattle.tw_http.specs.declared.message.Response.TheVariants as replies
 use Rattle.tw_replica.specs.State.{State}
 use Rattle.tw_sync.specs.End.{Told}
 use Rattle.tw_sync.specs.Heard.{Heard, Hears, HearsUntil, is_child, is_conflict, brought_bytes, brought, pulled_bytes, conflicts, most_exchanges}
-use Rattle.tw_sync.specs.Answers.{IsLinkKept, GrowsOn, IsChildAnswer, child_heard, AskRefused, NoReply}
-use Rattle.tw_sync.specs.Refused.{EndedBy, IsWelcome, IsConflict, IsOutOfSync, IsBadSegment, HeardRefused}
+use Rattle.tw_sync.specs.Answers.{IsLinkKept, GrowsOn, IsChildAnswer, child_heard, HeardUnasked, AskRefused, NoReply}
+use Rattle.tw_sync.specs.Refused.{max_pull, IsWelcome, IsBadSegment, GoesOnFrom, HeardRefused}
 use Rattle.tw_sync.specs.Sync.{told}
 use Rattle.tw_sync.specs.Honest.{HonestRefused, IsLongPull, IsUnreadIn}
 use Rattle.tw_sync.specs.Place.{TakesVersion, IsNotTaken, IsUnreadable, StandsIn}
-use Rattle.tw_sync.specs.Progress.{HeardSoFar, HasAsked, IsUpToDate, IsPulling, HasPulled, IsLate, IsCause, HeardToStop, StopsTruly, IsStopped}
+use Rattle.tw_sync.specs.Progress.{HeardSoFar, HasAsked, IsUpToDate, IsPulling, HasPulled, IsCause, HeardToStop, StopsTruly, IsStopped}
 use Rattle.tw_sync.specs.declared.ask.ChildAnswer.{ChildAnswer}
 use Rattle.tw_sync.specs.declared.ask.ChildAnswer.TheVariants.{Found, UpToDate, Gone}
 use Rattle.tw_sync.specs.declared.place.Place.{Place}
@@ -23,10 +22,11 @@ use Rattle.tw_sync.specs.declared.error.SyncError.{SyncError}
 use Rattle.tw_sync.specs.declared.error.SyncError.TheVariants as errors
 use Rattle.tw_sync.proofs.Fitting.{left_shorter}
 use Rattle.tw_sync.proofs.Standing.{segments_len-append}
-use Rattle.tw_sync.proofs.Hearing.{kept_on, hears_on, hears_until, hears_until_on, refused_on, all-append, brought-append, pulled_bytes-append, conflicts-append}
+use Rattle.tw_sync.proofs.Hearing.{kept_on, hears_on, hears_until, hears_until_on, all-append, brought-append, pulled_bytes-append, conflicts-append}
+use Rattle.tw_sync.proofs.GoingOn.{goes_on, goes_on_past, goes_to_last, goes_on_so_far, refused_on}
 use Rattle.tw_sync.proofs.Results.{ended_by}
 use Rattle.tw_sync.proofs.Served.{grows_on}
-use Rattle.tw_sync.proofs.Coming.{found_behind, come_found, come_to_end, late_goes_on, never_gone}
+use Rattle.tw_sync.proofs.Coming.{found_behind, come_found, come_to_end, never_gone}
 
 -- ---- one exchange more
 
@@ -48,7 +48,7 @@ pub record IsUnasked {L : Type 0} (m : LinkModel L) (client host : List ℕ) (a 
   pub kept : IsLinkKept m a b
   pub count : m.exchanges b ≤ m.exchanges a + 1
   pub refused : AskRefused m a b e
-  pub heard : IsTrue (m.tells_list a) → (hs : List Heard) × HearsUntil m client host a b hs e × HeardRefused client hs e
+  pub heard : IsTrue (m.tells_list a) → (hs : List Heard) × HearsUntil m client host a b hs e × HeardUnasked hs e
 
 -- the counts of one reply go to those of the place
 pub record IsCounted (p q : Place) (h : Heard) : Type 0 where
@@ -149,11 +149,11 @@ pulling_unasked m client host state first a b p e s un on mine reply = record {
   come = λ honest. (let h = s.come honest in let now = h.on.honest in stops_here m client state first a b e h.on h.mine (on now) (mine now) (no_reply_says state (told m first) (told m b) e (reply now)));
 }
   where
-    to_stop : HeardSoFar m client host first a p (λ hs. Unit {0}) → (hs : List Heard) × HearsUntil m client host a b hs e × HeardRefused client hs e → HeardToStop m client host first b e
+    to_stop : HeardSoFar m client host first a p (λ hs. Unit {0}) → (hs : List Heard) × HearsUntil m client host a b hs e × HeardUnasked hs e → HeardToStop m client host first b e
     to_stop t u = record {
       hs = t.hs ++ u.0;
       hears = hears_until_on m client host first a b t.hs u.0 e t.hears u.1;
-      refused = refused_on m client host a b t.hs u.0 e un.refused u.2;
+      refused = refused_on m client a b t.hs u.0 e un.refused u.2 (goes_on_so_far m client host first a p _ t s.tries);
       few = λ honest. (
           let n = s.asked.count in
           let o = un.count in
@@ -164,7 +164,7 @@ pulling_unasked m client host state first a b p e s un on mine reply = record {
 
 -- one reply was read, and is refused
 pub stopped_at : {L : Type 0} (m : LinkModel L) (client host : List ℕ) (state : State) (first a b : L) (p : Place) (h : Heard) (e : SyncError) → IsPulling m client host state first a p → IsAsked m client host a b h → IsCause m first b e
-    → ((hs : List Heard) → pulled_bytes hs ≡ p.bytes → HeardRefused client (hs ++ h ∷ []) e) → (IsHonest m first client → StopsTruly m state first b e) → IsStopped m client host state first b e
+    → ((hs : List Heard) → pulled_bytes hs ≡ p.bytes → GoesOnFrom hs → HeardRefused client (hs ++ h ∷ []) e) → (IsHonest m first client → StopsTruly m state first b e) → IsStopped m client host state first b e
 stopped_at m client host state first a b p h e s asked cause refused come = record {
   kept = kept_on m first a b s.asked.kept asked.kept;
   cause = cause;
@@ -176,7 +176,7 @@ stopped_at m client host state first a b p h e s asked cause refused come = reco
     to_stop t more = record {
       hs = t.hs ++ h ∷ [];
       hears = hears_until m client host first b (t.hs ++ h ∷ []) e (hears_on m client host first a b t.hs (h ∷ []) t.hears more);
-      refused = refused t.hs t.bytes_are;
+      refused = refused t.hs t.bytes_are (goes_on_so_far m client host first a p _ t s.tries);
       few = λ honest. (
           let n = s.asked.count in
           let o = asked.count in
@@ -189,7 +189,8 @@ stopped_at m client host state first a b p h e s asked cause refused come = reco
 pub pulling_gone : {L : Type 0} (m : LinkModel L) (client host : List ℕ) (state : State) (first a b : L) (p : Place) → IsPulling m client host state first a p → IsAsked m client host a b (child_heard client p.at Gone)
     → (IsHonest m a client → IsTold m client a b p.at Gone) → IsStopped m client host state first b (errors.Gone p.at)
 pulling_gone m client host state first a b p s asked tells =
-    stopped_at m client host state first a b p (child_heard client p.at Gone) (errors.Gone p.at) s asked tt (λ hs n. ended_by hs (child_heard client p.at Gone) _ (refl, refl))
+    stopped_at m client host state first a b p (child_heard client p.at Gone) (errors.Gone p.at) s asked tt
+    (λ hs n g. record { cause = ended_by hs (child_heard client p.at Gone) _ (refl, refl); until = goes_on_past hs (child_heard client p.at Gone) g asked.welcome refl refl })
     (λ honest. (let h = s.come honest in let r = tells h.on.honest in stops_here m client state first a b (errors.Gone p.at) h.on h.mine r.on r.mine (never_gone m client state first a b p h r.says)))
 
 long_pull : (state : State) (chain : List Version) (p : Place) (id segment : List ℕ) (bytes : ℕ) → IsChain chain → StandsIn state chain p → IsBetween chain p.at id (version id p.at segment ∷ []) → bytes ≡ p.bytes + length segment → IsLongPull state chain bytes
@@ -231,16 +232,25 @@ pulling_untaken m client host state first a b p id segment e s asked tells not =
         let f = found_behind m client state first a b p id segment c r.on r.says in
         stops_here m client state first a b x c.on c.mine r.on r.mine (says r.on.whole f.0 f.1)
 
+    goes : (hs : List Heard) → pulled_bytes hs ≡ p.bytes → GoesOnFrom hs → p.bytes + length segment ≤ max_pull → GoesOnFrom (hs ++ h ∷ [])
+    goes hs have g within = goes_on hs h g asked.welcome (omega (arith, have, within)) (let f = g.few in omega (arith, f))
+
     by : (x : SyncError) → IsNotTaken p id segment x → IsStopped m client host state first b x
     by (errors.PullTooLong bytes) n =
         stopped_at m client host state first a b p h (errors.PullTooLong bytes) s asked n.1
-        (λ hs have. (let f = pulled_bytes-append hs (h ∷ []) in let o = n.0 in omega (arith, f, o, have), n.1))
+        (λ hs have g. record {
+          cause = record { last = ended_by hs h IsWelcome asked.welcome; sum = (let f = pulled_bytes-append hs (h ∷ []) in let o = n.0 in omega (arith, f, o, have)); over = n.1 };
+          until = goes_to_last hs h g;
+        })
         (at_honest (errors.PullTooLong bytes) (λ whole there next. long_pull state (m.chain b) p id segment bytes whole there next n.0))
     by (errors.Segment v) n =
         stopped_at m client host state first a b p h (errors.Segment v) s asked tt
-        (λ hs have. ended_by hs h (IsBadSegment v) (record { parent = p.at; segment = segment; reply_is = ap (λ (i : List ℕ). Ok (replies.Child i p.at segment)) (sym n.0); error = n.1.error; unread = n.1.unread; other = n.1.other }))
+        (λ hs have g. record {
+          cause = ended_by hs h (IsBadSegment v) (record { parent = p.at; segment = segment; reply_is = ap (λ (i : List ℕ). Ok (replies.Child i p.at segment)) (sym n.0); error = n.1.error; unread = n.1.unread; other = n.1.other });
+          until = goes hs have g n.2;
+        })
         (at_honest (errors.Segment v) (λ whole there next. unread_in state (m.chain b) p id segment v whole there next n.0 n.1))
-    by errors.Memory n = stopped_at m client host state first a b p h errors.Memory s asked tt (λ hs have. tt) (at_honest errors.Memory (λ whole there next. tt))
+    by errors.Memory n = stopped_at m client host state first a b p h errors.Memory s asked tt (λ hs have g. record { cause = tt; until = goes hs have g n }) (at_honest errors.Memory (λ whole there next. tt))
     by (errors.Journal x) n = absurd n
     by errors.Link n = absurd n
     by (errors.Reply kind) n = absurd n
@@ -248,48 +258,3 @@ pulling_untaken m client host state first a b p id segment e s asked tells not =
     by (errors.Busy parent) n = absurd n
     by (errors.OutOfSync base parent) n = absurd n
     by (errors.SegmentTooLong bytes) n = absurd n
-
--- ---- after a conflict
-
-pub late_pulls : {L : Type 0} (m : LinkModel L) (client host : List ℕ) (state : State) (first now : L) (p : Place) (last : List ℕ) → IsLate m client host state first now p last → p.conflicts ≤ 15 → IsPulling m client host state first now p
-late_pulls m client host state first now p last s few = record {
-  fewer = s.fewer;
-  tries = few;
-  asked = record { kept = s.asked.kept; count = s.asked.count; heard = λ tells. (let t = s.asked.heard tells in record { hs = t.hs; hears = t.hears; brought_is = t.brought_is; bytes_are = t.bytes_are; conflicts_are = t.conflicts_are; welcome = t.welcome; so = tt }) };
-  come = s.come;
-}
-
--- there is no version behind the place, where one came before what was left
-pub late_alone : {L : Type 0} (m : LinkModel L) (client host : List ℕ) (state : State) (first a b : L) (p : Place) (last : List ℕ) → IsLate m client host state first a p last → IsAsked m client host a b (child_heard client p.at UpToDate)
-    → (IsHonest m a client → IsTold m client a b p.at UpToDate) → IsStopped m client host state first b (errors.OutOfSync p.at last)
-late_alone m client host state first a b p last s asked tells = record {
-  kept = kept_on m first a b s.asked.kept asked.kept;
-  cause = tt;
-  heard = λ told_list. to_stop (s.asked.heard told_list) (asked.heard (s.asked.kept.tells_list ∙ told_list));
-  come = λ honest. absurd (never honest);
-}
-  where
-    h : Heard
-    h = child_heard client p.at UpToDate
-
-    never : IsHonest m first client → ⊥
-    never honest = let r = tells (s.come honest).on.honest in late_goes_on m client a b p (s.behind honest) r.on r.says
-
-    two : (hs : List Heard) → EndedBy hs (IsConflict last) → IsOutOfSync client (hs ++ h ∷ []) p.at last
-    two hs e = record {
-      earlier = e.1.earlier;
-      refused = e.0;
-      asked_next = h;
-      split = ap (λ xs. xs ++ h ∷ []) e.1.split ∙ append_assoc e.1.earlier (e.0 ∷ []) (h ∷ []);
-      conflict = e.2;
-      of_base = refl;
-      none = refl;
-    }
-
-    to_stop : HeardSoFar m client host first a p (λ hs. EndedBy hs (IsConflict last)) → Hears m client host a b (h ∷ []) → HeardToStop m client host first b (errors.OutOfSync p.at last)
-    to_stop t more = record {
-      hs = t.hs ++ h ∷ [];
-      hears = hears_on m client host first a b t.hs (h ∷ []) t.hears more;
-      refused = two t.hs t.so;
-      few = λ honest. absurd (never honest);
-    }

@@ -8,8 +8,7 @@ use Rattle.tw_http.specs.declared.message.Request.{Request}
 use Rattle.tw_http.specs.declared.message.Response.{Response}
 use Rattle.tw_http.specs.declared.message.HttpError.{HttpError}
 use Rattle.tw_sync.specs.Heard.{Heard, heard, IsSent, Hears, HearsUnread, HearsUntil}
-use Rattle.tw_sync.specs.Refused.{HeardRefused}
-use Rattle.tw_sync.specs.Answers.{AskRefused, IsBadlyAnswered}
+use Rattle.tw_sync.specs.Answers.{HeardUnasked, AskRefused, IsBadlyAnswered}
 use Rattle.tw_sync.specs.declared.error.SyncError.{SyncError}
 use Rattle.tw_sync.specs.declared.error.SyncError.TheVariants as errors
 
@@ -49,9 +48,9 @@ module _ {L : Type 0} (m : LinkModel L) (old new : L) where
   hears_unread : (asked : Request) (host reply : List ℕ) → IsListed asked host reply → HearsUnread m (client_of asked) host old new []
   hears_unread asked host reply listed = record { exchanges = []; last = exchange_of asked host reply; listed = listed; are_heard = refl; asked = asked; sent = sent_of asked host reply }
 
-  pub badly_heard : (asked : Request) (host reply : List ℕ) (e : SyncError) → IsListed asked host reply → IsBadlyAnswered asked reply e → (hs : List Heard) × HearsUntil m (client_of asked) host old new hs e × HeardRefused (client_of asked) hs e
-  badly_heard asked host reply (errors.Reply kind) listed (r, read, bad) = (heard asked r ∷ [], hears_one asked host reply r listed read, (heard asked r, record { earlier = []; split = refl }, bad))
-  badly_heard asked host reply errors.Memory listed b = ([], inr (hears_unread asked host reply listed), tt)
+  pub badly_heard : (asked : Request) (host reply : List ℕ) (e : SyncError) → IsListed asked host reply → IsBadlyAnswered asked reply e → (hs : List Heard) × HearsUntil m (client_of asked) host old new hs e × HeardUnasked hs e
+  badly_heard asked host reply (errors.Reply kind) listed (r, read, bad) = (heard asked r ∷ [], hears_one asked host reply r listed read, (heard asked r, refl, bad))
+  badly_heard asked host reply errors.Memory listed b = ([], inr (hears_unread asked host reply listed), refl)
   badly_heard asked host reply errors.Link listed b = absurd b
   badly_heard asked host reply (errors.Journal e) listed b = absurd b
   badly_heard asked host reply (errors.Gone base) listed b = absurd b

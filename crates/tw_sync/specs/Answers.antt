@@ -110,6 +110,11 @@ IsBadlyAnswered asked bytes (errors.Segment version) = ⊥
 IsBadlyAnswered asked bytes (errors.SegmentTooLong bytes_sent) = ⊥
 IsBadlyAnswered asked bytes (errors.PullTooLong bytes_pulled) = ⊥
 
+-- what a refused question heard: a bad reply, or none that it read
+abbrev pub HeardUnasked : List Heard → SyncError → Type 0
+HeardUnasked hs (errors.Reply kind) = (h : Heard) × (hs ≡ h ∷ []) × IsBadReply kind h
+HeardUnasked hs e = hs ≡ []
+
 -- a response whose status answers a question
 abbrev pub HasStatus : Response → Type 0
 HasStatus replies.Bad = ⊥

@@ -1,5 +1,5 @@
 -- Where a sync stands in a chain.
-use Rattle.std.specs.Prelude.{◌≡◌, ◌⊎◌, ℕ, ◌+◌, ◌<◌, List, [], ◌++◌, length}
+use Rattle.std.specs.Prelude.{◌≡◌, ◌⊎◌, ℕ, ◌+◌, ◌<◌, ◌≤◌, List, [], ◌++◌, length}
 use Rattle.tw_model.specs.Ops.{apply_all, fit_part}
 use Rattle.tw_model.specs.LocalOps.{plain}
 use Rattle.tw_model.specs.declared.SyncOp.{SyncOp}
@@ -39,8 +39,8 @@ pub record IsUnreadable (segment : List ℕ) : Type 0 where
 -- why a version is not taken
 abbrev pub IsNotTaken : Place → (id segment : List ℕ) → SyncError → Type 0
 IsNotTaken place id segment (errors.PullTooLong bytes) = (bytes ≡ place.bytes + length segment) × (max_pull < bytes)
-IsNotTaken place id segment (errors.Segment version) = (version ≡ id) × IsUnreadable segment
-IsNotTaken place id segment errors.Memory = Unit {0}
+IsNotTaken place id segment (errors.Segment version) = (version ≡ id) × IsUnreadable segment × (place.bytes + length segment ≤ max_pull)
+IsNotTaken place id segment errors.Memory = place.bytes + length segment ≤ max_pull
 IsNotTaken place id segment (errors.Journal e) = ⊥
 IsNotTaken place id segment errors.Link = ⊥
 IsNotTaken place id segment (errors.Reply kind) = ⊥

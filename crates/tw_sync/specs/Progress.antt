@@ -13,7 +13,7 @@ use Rattle.tw_replica.specs.State.{State}
 use Rattle.tw_sync.specs.End.{IsPulled, MayHaveAdded}
 use Rattle.tw_sync.specs.Heard.{Heard, Hears, HearsUntil, brought, pulled_bytes, conflicts, most_exchanges}
 use Rattle.tw_sync.specs.Answers.{IsLinkKept, GrowsOn, AnsweredAt}
-use Rattle.tw_sync.specs.Refused.{EndedBy, IsWelcome, IsConflict, HeardRefused, MayAdd, max_pull}
+use Rattle.tw_sync.specs.Refused.{EndedBy, IsWelcome, IsConflict, GoesOnFrom, HeardRefused, MayAdd, max_pull}
 use Rattle.tw_sync.specs.Sync.{told, IsLastReply}
 use Rattle.tw_sync.specs.Honest.{HonestRefused}
 use Rattle.tw_sync.specs.Place.{Stands, StandsIn, GoesFurther}
@@ -134,8 +134,7 @@ pub record HeardAll {L : Type 0} (m : LinkModel L) (client host : List ℕ) (fir
   pub hears : Hears m client host first now hs
   pub ended : EndedBy hs (IsLastReply client place.at)
   pub brought_is : brought hs ≡ place.versions
-  pub few : conflicts hs ≤ 15
-  pub welcome : AllByRecursion IsWelcome hs
+  pub goes_on : GoesOnFrom hs
 
 -- it has met the server's chain, and so many operations were sent
 pub record IsMet {L : Type 0} (m : LinkModel L) (client host : List ℕ) (state : State) (first now : L) (place : Place) (sent : ℕ) : Type 0 where

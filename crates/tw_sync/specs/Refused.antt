@@ -1,5 +1,6 @@
 -- Why a sync is refused, and what a refusal leaves.
-use Rattle.std.specs.Prelude.{◌≡◌, ◌⊎◌, ℕ, ◌<◌, ◌^◌, true, false, List, [], ◌∷◌, ◌++◌, Ok, Err}
+use Rattle.std.specs.Prelude.{◌≡◌, ◌⊎◌, ℕ, ◌<◌, ◌≤◌, ◌^◌, true, false, List, [], ◌∷◌, ◌++◌, Ok, Err}
+use Rattle.std.specs.List.{AllByRecursion}
 use Rattle.uuid.specs.Parts.{zero_bytes}
 use Rattle.tw_world.specs.Disk.{DiskModel, Rose}
 use Rattle.tw_journal.specs.Journal.{is_closed}
@@ -90,21 +91,45 @@ pub record IsBadSegment (version : List ℕ) (heard : Heard) : Type 0 where
   pub other : ¬ (error ≡ segments.Memory)
 
 -- the segments that were brought pass their limit, the last one with them
-abbrev pub IsTooMuch : List Heard → ℕ → Type 0
-IsTooMuch hs bytes = (bytes ≡ pulled_bytes hs) × (max_pull < bytes)
+pub record IsTooMuch (hs : List Heard) (bytes : ℕ) : Type 0 where
+  pub last : EndedBy hs IsWelcome
+  pub sum : bytes ≡ pulled_bytes hs
+  pub over : max_pull < bytes
 
--- what was heard where a sync is refused for a cause of the link or the server
-abbrev pub HeardRefused : (client : List ℕ) → List Heard → SyncError → Type 0
-HeardRefused client hs (errors.Reply kind) = EndedBy hs (IsBadReply kind)
-HeardRefused client hs (errors.Gone base) = EndedBy hs (IsGone client base)
-HeardRefused client hs (errors.Busy parent) = EndedBy hs (IsConflict parent) × (conflicts hs ≡ 16)
-HeardRefused client hs (errors.OutOfSync base parent) = IsOutOfSync client hs base parent
-HeardRefused client hs (errors.Segment version) = EndedBy hs (IsBadSegment version)
-HeardRefused client hs (errors.PullTooLong bytes) = IsTooMuch hs bytes
-HeardRefused client hs (errors.SegmentTooLong bytes) = Unit {0}
-HeardRefused client hs errors.Link = Unit {0}
-HeardRefused client hs (errors.Journal e) = Unit {0}
-HeardRefused client hs errors.Memory = Unit {0}
+-- the cause of a refusal, where it was heard
+abbrev pub HeardCause : (client : List ℕ) → List Heard → SyncError → Type 0
+HeardCause client hs (errors.Reply kind) = EndedBy hs (IsBadReply kind)
+HeardCause client hs (errors.Gone base) = EndedBy hs (IsGone client base)
+HeardCause client hs (errors.Busy parent) = EndedBy hs (IsConflict parent) × (conflicts hs ≡ 16)
+HeardCause client hs (errors.OutOfSync base parent) = IsOutOfSync client hs base parent
+HeardCause client hs (errors.Segment version) = EndedBy hs (IsBadSegment version)
+HeardCause client hs (errors.PullTooLong bytes) = IsTooMuch hs bytes
+HeardCause client hs (errors.SegmentTooLong bytes) = Unit {0}
+HeardCause client hs errors.Link = Unit {0}
+HeardCause client hs (errors.Journal e) = Unit {0}
+HeardCause client hs errors.Memory = Unit {0}
+
+-- replies that a sync goes on from: each is welcome, and their segments and conflicts are within their limits
+pub record GoesOnFrom (hs : List Heard) : Type 0 where
+  pub welcome : AllByRecursion IsWelcome hs
+  pub within : pulled_bytes hs ≤ max_pull
+  pub few : conflicts hs ≤ 15
+
+-- it goes on from all but the last
+abbrev pub GoesOnToLast : List Heard → Type 0
+GoesOnToLast hs = (last : Heard) × (ends : EndsWith hs last) × GoesOnFrom ends.earlier
+
+-- a sync is refused for a reply or for a limit at the first reply that it does not go on from
+abbrev pub GoesOnUntil : List Heard → SyncError → Type 0
+GoesOnUntil hs (errors.Reply kind) = GoesOnToLast hs
+GoesOnUntil hs (errors.Busy parent) = GoesOnToLast hs
+GoesOnUntil hs (errors.PullTooLong bytes) = GoesOnToLast hs
+GoesOnUntil hs e = GoesOnFrom hs
+
+-- what was heard where a sync is refused
+pub record HeardRefused (client : List ℕ) (hs : List Heard) (e : SyncError) : Type 0 where
+  pub cause : HeardCause client hs e
+  pub until : GoesOnUntil hs e
 
 -- ---- what stays
 

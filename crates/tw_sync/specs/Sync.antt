@@ -1,6 +1,5 @@
 -- The parts of the contract of a sync.
-use Rattle.std.specs.Prelude.{◌≡◌, ◌⊎◌, ℕ, ◌+◌, ◌≤◌, List, [], ◌∷◌, ◌++◌, length, Option, Some, None, Ok}
-use Rattle.std.specs.List.{AllByRecursion}
+use Rattle.std.specs.Prelude.{◌≡◌, ◌⊎◌, ℕ, ◌+◌, List, [], ◌∷◌, ◌++◌, length, Option, Some, None, Ok}
 use Rattle.tw_world.specs.Disk.{DiskModel, LeavesOnly}
 use Rattle.tw_model.specs.declared.SyncOp.{SyncOp}
 use Rattle.tw_protocol.specs.Chain.{Version}
@@ -14,8 +13,8 @@ use Rattle.tw_replica.specs.Replica.{IsReplicaOn, IsSame, OpensToEither}
 use Rattle.tw_replica.specs.declared.replica.Replica.{Replica}
 use Rattle.tw_sync.specs.Fold.{ReadsBetween}
 use Rattle.tw_sync.specs.End.{Told, SyncEnd}
-use Rattle.tw_sync.specs.Heard.{Heard, brought, conflicts}
-use Rattle.tw_sync.specs.Refused.{EndedBy, IsWelcome}
+use Rattle.tw_sync.specs.Heard.{Heard, brought}
+use Rattle.tw_sync.specs.Refused.{EndedBy, GoesOnFrom}
 use Rattle.tw_sync.specs.declared.report.SyncReport.{SyncReport}
 
 -- what a link tells of its chain
@@ -65,5 +64,4 @@ IsLastReply client base last =
 pub record HeardEnd (client : List ℕ) (hs : List Heard) (report : SyncReport) : Type 0 where
   pub ended : EndedBy hs (IsLastReply client report.base)
   pub brought_is : brought hs ≡ report.pulled
-  pub few : conflicts hs ≤ 15
-  pub welcome : AllByRecursion IsWelcome hs
+  pub goes_on : GoesOnFrom hs

@@ -11,8 +11,8 @@ ghost use Rattle.tw_http.specs.declared.message.Request.TheVariants as asks;
 ghost use Rattle.tw_sync.specs.declared.error.SyncError.TheVariants as errors;
 ghost use Rattle.tw_sync.specs.declared.error.ReplyKind.TheVariants as kinds;
 ghost use Rattle.tw_sync.specs.Heard.{Heard, Hears, HearsUntil};
-ghost use Rattle.tw_sync.specs.Refused.{HeardRefused, IsWelcome};
-ghost use Rattle.tw_sync.specs.Answers.{IsLinkKept, GrowsOn, IsChildAnswer, child_response, child_heard, HasStatus, IsAddAnswer, add_response, add_heard, IsBadlyAnswered, AskRefused, NoReply, AddRefused};
+ghost use Rattle.tw_sync.specs.Refused.{IsWelcome};
+ghost use Rattle.tw_sync.specs.Answers.{IsLinkKept, GrowsOn, IsChildAnswer, child_response, child_heard, HasStatus, IsAddAnswer, add_response, add_heard, IsBadlyAnswered, HeardUnasked, AskRefused, NoReply, AddRefused};
 
 use crate::error::{ReplyKind, SyncError};
 use std::alloc::Global;
@@ -54,7 +54,7 @@ pub(crate) fn ask_child<L: Link>(
     ensures heard { IfOk result (λ answer. IsTrue (L.model.tells_list link.old) → Hears L.model client host.now link.old link.new (child_heard client parent answer ∷ [])) }
     ensures welcome { IfOk result (λ answer. IsWelcome (child_heard client parent answer)) }
     ensures refused { IfErr result (AskRefused L.model link.old link.new) }
-    ensures refused_heard { IfErr result (λ e. IsTrue (L.model.tells_list link.old) → (hs : List Heard) × HearsUntil L.model client host.now link.old link.new hs e × HeardRefused client hs e) }
+    ensures refused_heard { IfErr result (λ e. IsTrue (L.model.tells_list link.old) → (hs : List Heard) × HearsUntil L.model client host.now link.old link.new hs e × HeardUnasked hs e) }
     ensures refused_honest { IfErr result (λ e. IsHonest L.model link.old client → NoReply e) }
     ensures count { L.model.exchanges link.new ≤ L.model.exchanges link.old + 1 }
     ensures kept { IsLinkKept L.model link.old link.new }
@@ -81,7 +81,7 @@ pub(crate) fn ask_add<L: Link>(
     ensures heard { IfOk result (λ answer. IsTrue (L.model.tells_list link.old) → Hears L.model client host.now link.old link.new (add_heard client parent segment.items answer ∷ [])) }
     ensures welcome { IfOk result (λ answer. IsWelcome (add_heard client parent segment.items answer)) }
     ensures refused { IfErr result (AskRefused L.model link.old link.new) }
-    ensures refused_heard { IfErr result (λ e. IsTrue (L.model.tells_list link.old) → (hs : List Heard) × HearsUntil L.model client host.now link.old link.new hs e × HeardRefused client hs e) }
+    ensures refused_heard { IfErr result (λ e. IsTrue (L.model.tells_list link.old) → (hs : List Heard) × HearsUntil L.model client host.now link.old link.new hs e × HeardUnasked hs e) }
     ensures refused_honest { IfErr result (λ e. IsHonest L.model link.old client → AddRefused L.model link.old link.new parent segment.items e) }
     ensures count { L.model.exchanges link.new ≤ L.model.exchanges link.old + 1 }
     ensures kept { IsLinkKept L.model link.old link.new }

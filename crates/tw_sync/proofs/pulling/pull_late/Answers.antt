@@ -1,7 +1,7 @@
 use Rattle.std.proofs.Common.{◌≡◌, true, false, rules, subst}
 use Rattle.tw_sync.specs.Progress.{PullsOn}
 use Rattle.tw_sync.proofs.Results.{passed_on, on_ok_map, if_err_map}
-use Rattle.tw_sync.proofs.Turns.{late_pulls}
+use Rattle.tw_sync.proofs.Conflicts.{late_pulls}
 use Rattle.tw_sync.proofs.Others.{busy}
 use Rattle.tw_sync.proofs.pulling.pull_late.Goals as goal
 
@@ -17,7 +17,7 @@ returns-in_err-pull_one-clause-stopped g c =
 pub returns-then-not-branch-clause-stopped : goal.returns-then-not-branch-clause-stopped
 returns-then-not-branch-clause-stopped g c = λ state first s.
     let none : c.in_ok-pull_one.field-0 ≡ false = search rules in
-    c.in_ok-pull_one.ensures.late none state first c.args.latest s
+    c.in_ok-pull_one.ensures.late none c.if-place-gt15.false state first c.args.latest s
 
 pub returns-clause-pulled : goal.returns-clause-pulled
 returns-clause-pulled g c =

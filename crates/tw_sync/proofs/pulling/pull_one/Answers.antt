@@ -3,7 +3,8 @@ use Rattle.tw_sync.proofs.Results.{passed_on}
 use Rattle.tw_sync.specs.Place.{TakesVersion, IsNotTaken}
 use Rattle.tw_sync.specs.Answers.{child_heard}
 use Rattle.tw_sync.proofs.Reading.{segment_some}
-use Rattle.tw_sync.proofs.Turns.{IsAsked, IsTold, pulling_on, pulled_up, pulling_unasked, pulling_gone, pulling_untaken, late_alone}
+use Rattle.tw_sync.proofs.Turns.{IsAsked, IsTold, pulling_on, pulled_up, pulling_unasked, pulling_gone, pulling_untaken}
+use Rattle.tw_sync.proofs.Conflicts.{late_alone}
 use Rattle.tw_sync.proofs.pulling.pull_one.Goals as goal
 
 pub returns-in_err-id-clause-stopped : goal.returns-in_err-id-clause-stopped
@@ -59,13 +60,13 @@ returns-in-UpToDate-clause-goes_on g c = λ state first s.
     (λ honest. subst (IsTold m c.args.client a b p.at) c.in-UpToDate.is (record { on = k.grows honest; mine = k.own honest; says = k.answer honest }))
 
 pub returns-in-UpToDate-clause-late : goal.returns-in-UpToDate-clause-late
-returns-in-UpToDate-clause-late g c = λ none state first last s.
+returns-in-UpToDate-clause-late g c = λ none tries state first last s.
     let m = g.L.Link.model in
     let k = c.in_ok-id.ensures in
     let a = c.args.link.now in
     let b = c.ask_child.new.link in
     let p = c.args.place.now in
-    late_alone m c.args.client c.args.host.now state first a b p last s
+    late_alone m c.args.client c.args.host.now state first a b p last s tries
     (subst (λ r. IsAsked m c.args.client c.args.host.now a b (child_heard c.args.client p.at r)) c.in-UpToDate.is (record { kept = k.kept; count = k.count; heard = k.heard; welcome = k.welcome }))
     (λ honest. subst (IsTold m c.args.client a b p.at) c.in-UpToDate.is (record { on = k.grows honest; mine = k.own honest; says = k.answer honest }))
 

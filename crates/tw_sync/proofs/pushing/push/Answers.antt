@@ -2,7 +2,8 @@ use Rattle.std.proofs.Common.{◌≡◌, length, rules, refl, subst}
 use Rattle.tw_sync.specs.Answers.{IsAddAnswer, add_heard}
 use Rattle.tw_sync.proofs.Results.{passed_on}
 use Rattle.tw_sync.proofs.Turns.{IsAsked}
-use Rattle.tw_sync.proofs.Adding.{added, unsent, unadded, added_unkept, came_late}
+use Rattle.tw_sync.proofs.Adding.{added, unsent, unadded, added_unkept}
+use Rattle.tw_sync.proofs.Conflicts.{came_late}
 use Rattle.tw_sync.proofs.pushing.push.Goals as goal
 
 pub returns-in_err-segment-clause-stopped : goal.returns-in_err-segment-clause-stopped
