@@ -11,3 +11,4 @@ pub mod Peer
 pub mod Replay
 pub mod Sink
 pub mod Source
+pub mod Text

@@ -38,9 +38,11 @@ fn a_moment_ends_before_the_year_9999(rt: HostRuntime) {
 
 #[test]
 fn a_text_is_copied(rt: HostRuntime) -> Result<(), Fail> {
-    let text = Text::from_str(rt.alloc(), "Buy milk")?;
-    let copy = text.copy(rt.alloc())?;
-    assert_eq!(rt; copy.as_str(), "Buy milk");
+    for held in &["", "Buy milk", "Sixteen letters!", "Seventeen letters"] {
+        let text = Text::from_str(rt.alloc(), held)?;
+        let copy = text.copy(rt.alloc())?;
+        assert_eq!(rt; copy.as_str(), *held);
+    }
     Ok(())
 }
 
