@@ -1,5 +1,5 @@
 // A task database: its uuids and their tasks.
-ghost use Rattle.std.specs.Prelude.{◌≡◌, ◌<◌, [], IfOk, OnOk, OnErr, None, Some, true, false, is_some, is_none, slice_index_or};
+ghost use Rattle.std.specs.Prelude.{◌≡◌, ◌<◌, [], IfOk, OnOk, OnErr, None, Some, true, false, is_some, is_none, length, slice_index_or};
 ghost use Rattle.std.specs.Option.{option_copied};
 ghost use Rattle.std.specs.FinMap as map;
 ghost use Rattle.tw_model.specs.Maps.{set_at, set_if_none};
@@ -8,6 +8,7 @@ use crate::entries::{
     copy_tasks, exchange_property, insert_task, nth_uuid, remove_task, set_property, swap_task,
     uuids_of,
 };
+use crate::runs::{create_run, create_sync_run, update_run, update_sync_run};
 use crate::values::{as_str, is_same_value};
 use crate::{Op, SyncOp, TaskMap};
 use std::alloc::Global;
@@ -41,6 +42,7 @@ impl Model for Tasks {
 impl Tasks {
     ghost use Rattle.tw_model.specs.Ops.{fits, apply};
     ghost use Rattle.tw_model.specs.LocalOps.{fits_local, apply_local, take_back};
+    ghost use Rattle.tw_model.specs.Runs.{AppliesRun, AppliesSyncRun};
 
     /// A database without tasks.
     pub fn new(alloc: Global) -> Tasks
@@ -182,6 +184,24 @@ impl Tasks {
         }
     }
 
+    /// Applies operations from a place on as long as they fit and are about one task, and answers the place behind the last.
+    pub fn apply_run(&mut self, alloc: Global, ops: &Vec<Op>, from: usize) -> Result<usize, Memory>
+        requires { from < length ops.now.items }
+        ensures { IfOk result (AppliesRun self.old self.new ops.now.items from) }
+    {
+        match &ops[from] {
+            Op::Create { uuid } => create_run(&mut self.entries, alloc, uuid, ops, from),
+            Op::Update { uuid, .. } => update_run(&mut self.entries, alloc, uuid, ops, from),
+            op => {
+                if self.apply(alloc, op)? {
+                    Ok(from + 1)
+                } else {
+                    Ok(from)
+                }
+            }
+        }
+    }
+
     /// Takes back an operation of this replica. Where it fitted and these tasks are what it left, it leaves the tasks before it.
     pub fn invert(&mut self, alloc: Global, op: &Op) -> Result<(), Memory>
         ensures ok { OnOk result (self.new ≡ take_back self.old op.now) }
@@ -248,6 +268,29 @@ impl Tasks {
                     property.as_str(),
                     as_str(value),
                 )
+            }
+        }
+    }
+
+    /// Applies exchanged operations from a place on as long as they are about one task, and answers the place behind the last.
+    /// Where the first does not fit, it alone is skipped.
+    pub fn apply_sync_run(
+        &mut self,
+        alloc: Global,
+        ops: &Vec<SyncOp>,
+        from: usize,
+    ) -> Result<usize, Memory>
+        requires { from < length ops.now.items }
+        ensures { IfOk result (AppliesSyncRun self.old self.new ops.now.items from) }
+    {
+        match &ops[from] {
+            SyncOp::Create { uuid } => create_sync_run(&mut self.entries, alloc, uuid, ops, from),
+            SyncOp::Update { uuid, .. } => {
+                update_sync_run(&mut self.entries, alloc, uuid, ops, from)
+            }
+            SyncOp::Delete { uuid } => {
+                let _ = self.remove(*uuid);
+                Ok(from + 1)
             }
         }
     }

@@ -260,3 +260,41 @@ fn a_task_is_put_in_exchanged_and_taken_out(rt: HostRuntime) -> Result<(), Fail>
     assert!(rt; tasks.len() == 0 && tasks.get(uuid).is_none());
     Ok(())
 }
+
+#[test]
+fn runs_about_one_task_are_applied_at_once(rt: HostRuntime) -> Result<(), Fail> {
+    let alloc = rt.alloc();
+    let (uuid, other) = (Uuid::from_u128(7), Uuid::from_u128(8));
+    let mut ops = life(alloc, uuid)?;
+    ops.push(Op::Create { uuid: other })?;
+    ops.push(update(alloc, other, "status", None, Some("pending"))?)?;
+    ops.push(Op::UndoPoint)?;
+    ops.push(update(alloc, other, "status", Some("completed"), None)?)?;
+    let mut tasks = Tasks::new(alloc);
+    for (from, to) in [(0, 1), (1, 6), (6, 7), (7, 10), (10, 10)] {
+        assert_eq!(rt; tasks.apply_run(alloc, &ops, from)?, to);
+    }
+    assert!(rt; tasks.len() == 1 && holds(tasks.get(other), &[("status", "pending")]));
+    assert_eq!(rt; tasks.apply_run(alloc, &ops, 7)?, 7);
+    assert_eq!(rt; tasks.apply_run(alloc, &ops, 2)?, 2);
+    Ok(())
+}
+
+#[test]
+fn exchanged_runs_skip_what_does_not_fit(rt: HostRuntime) -> Result<(), Fail> {
+    let alloc = rt.alloc();
+    let (uuid, other) = (Uuid::from_u128(7), Uuid::from_u128(8));
+    let mut ops = Vec::new(alloc);
+    for op in life(alloc, uuid)? {
+        if let Some(exchanged) = op.to_sync(alloc)? {
+            ops.push(exchanged)?;
+        }
+    }
+    ops.push(SyncOp::Create { uuid: other })?;
+    let mut tasks = Tasks::new(alloc);
+    for (from, to) in [(0, 5), (0, 1), (5, 6), (1, 2), (6, 7), (6, 7)] {
+        assert_eq!(rt; tasks.apply_sync_run(alloc, &ops, from)?, to);
+    }
+    assert!(rt; tasks.len() == 1 && holds(tasks.get(other), &[]));
+    Ok(())
+}
