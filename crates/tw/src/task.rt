@@ -29,7 +29,7 @@ pub fn run_task(rt: &HostRuntime, alloc: Global, words: &Vec<String>) -> Result<
     }
 }
 
-// Carries the words out over a disk. Where they and the settings name no server, each exchange fails.
+// Carries the words out over a disk. Where the settings name no server, each exchange fails.
 fn run_over<D: Disk>(
     rt: &HostRuntime,
     alloc: Global,
@@ -41,7 +41,7 @@ fn run_over<D: Disk>(
 ) -> Result<u8, StartError> {
     let mut out = Stream::new(rt.stdout());
     let mut err = Stream::new(rt.stderr());
-    let outcome = match link_address(alloc, words, settings) {
+    let outcome = match link_address(alloc, settings) {
         Ok(Some(address)) => {
             let mut link = TcpLink::new(rt, address);
             task_run(

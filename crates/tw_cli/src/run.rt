@@ -1,8 +1,7 @@
 // One command line over a disk and streams.
-ghost use Rattle.std.specs.Prelude.{◌≡◌, ◌⊎◌, map, string_bytes, Ok, OnOk, OnErr};
+ghost use Rattle.std.specs.Prelude.{◌≡◌, ◌⊎◌, map, string_bytes};
 ghost use Rattle.tw_world.specs.Ids.{id_bytes};
 ghost use Rattle.tw_world.specs.Disk.{Kept, Rose, Tells};
-ghost use Rattle.tw_world.specs.Sink.{Got, GotPart};
 ghost use Rattle.tw_http.specs.Link.{IsHonest};
 ghost use Rattle.tw_http.specs.Messages.{IsHost};
 ghost use Rattle.tw_protocol.specs.Chain.{Grows};
@@ -13,7 +12,7 @@ ghost use Rattle.tw_cli.specs.Text.{printed_bytes};
 ghost use Rattle.tw_cli.specs.Command.{next_of};
 ghost use Rattle.tw_cli.specs.Fault.{Told, status_of};
 ghost use Rattle.tw_cli.specs.Jobs.{asked_in, Draws};
-ghost use Rattle.tw_cli.specs.Run.{Gives, CanEnd};
+ghost use Rattle.tw_cli.specs.Run.{EndsPrinting, Gives, CanEnd};
 ghost use Rattle.tw_cli.specs.Syncing.{SyncGives, CanBeSynced};
 ghost use Rattle.tw_cli.specs.Crash.{LeavesBy, LeavesSync};
 ghost use Rattle.tw_cli.specs.Whole.{RunGives, EndsWell, IsDoneOrWant, RunLeaves};
@@ -28,14 +27,16 @@ use crate::syncing::sync_with;
 use crate::text::Printed;
 use std::alloc::Global;
 use tw_http::Link;
-use tw_world::{Disk, IdWords, Moment, Sink, StreamError};
+use tw_world::{Disk, IdWords, Moment, Sink};
 
-fn print<O: Sink>(out: &mut O, text: &Printed) -> Result<(), StreamError>
-    ensures written { OnOk result (Got O.model out.old out.new (printed_bytes text.now)) }
-    ensures part { OnErr result (GotPart O.model out.old out.new (printed_bytes text.now)) }
-    ensures failed { OnErr result (Rose (O.model.faults out.old) (O.model.faults out.new)) }
+// Prints what a run shows, and tells how the run ends.
+fn print<O: Sink>(out: &mut O, text: &Printed) -> Cause
+    ensures { EndsPrinting O.model out.old out.new (printed_bytes text.now) result }
 {
-    out.write_all(text.bytes())
+    match out.write_all(text.bytes()) {
+        Ok(()) => Cause::Done,
+        Err(_) => Cause::OutFault,
+    }
 }
 
 // Carries a command out, and prints its text.
@@ -50,14 +51,10 @@ fn run_command<D: Disk, O: Sink>(
     ensures any_moment { LeavesBy D.model (next_of command.now) disk.old disk.new result }
     ensures kept { Kept D.model disk.old disk.new }
 {
-    let shown = match carry_out(alloc, command, disk) {
-        Ok(shown) => shown,
-        Err(cause) => return cause,
-    };
-    if let Err(_) = print(out, &shown) {
-        return Cause::OutFault;
+    match carry_out(alloc, command, disk) {
+        Ok(shown) => print(out, &shown),
+        Err(cause) => cause,
     }
-    Cause::Done
 }
 
 // Syncs with a server, and prints what that did.
@@ -76,13 +73,9 @@ fn run_sync<D: Disk, L: Link, O: Sink>(
     ensures kept { Kept D.model disk.old disk.new }
     ensures link_kept { IsLinkKept L.model link.old link.new }
 {
-    let shown = match sync_with(alloc, server, disk, link) {
-        Ok(shown) => shown,
-        Err(cause) => return cause,
-    };
-    match print(out, &shown) {
-        Ok(()) => Cause::Done,
-        Err(_) => Cause::OutFault,
+    match sync_with(alloc, server, disk, link) {
+        Ok(shown) => print(out, &shown),
+        Err(cause) => cause,
     }
 }
 
