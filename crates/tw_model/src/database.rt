@@ -185,6 +185,7 @@ impl Tasks {
     }
 
     /// Applies operations from a place on as long as they fit and are about one task, and answers the place behind the last.
+    /// After want of memory a part of them may stand.
     pub fn apply_run(&mut self, alloc: Global, ops: &Vec<Op>, from: usize) -> Result<usize, Memory>
         requires { from < length ops.now.items }
         ensures { IfOk result (AppliesRun self.old self.new ops.now.items from) }
@@ -273,7 +274,7 @@ impl Tasks {
     }
 
     /// Applies exchanged operations from a place on as long as they are about one task, and answers the place behind the last.
-    /// Where the first does not fit, it alone is skipped.
+    /// Where the first does not fit, it alone is skipped. After want of memory a part of them may stand.
     pub fn apply_sync_run(
         &mut self,
         alloc: Global,
