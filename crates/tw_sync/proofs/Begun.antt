@@ -1,7 +1,8 @@
 -- A sync begins.
-use Rattle.std.proofs.Common.{◌≡◌, ℕ, ◌+◌, ◌<◌, inl, length, drop, get_or, List, [], ◌∷◌, ◌++◌, Option, Some, None, refl, sym, ap, ◌∙◌, arith}
-use Rattle.std.proofs.lemmas.List.{append_assoc, drop_more}
-use Rattle.tw_model.specs.LocalOps.{synced, plain, put_some}
+use Rattle.std.proofs.Common.{◌≡◌, ℕ, ◌+◌, ◌-◌, ◌<◌, ◌≤◌, inl, length, take, drop, get_or, List, [], ◌∷◌, ◌++◌, Option, Some, None, refl, sym, ap, ◌∙◌, arith}
+use Rattle.std.proofs.lemmas.List.{append_assoc, take_more, drop_more}
+use Rattle.tw_model.specs.Ops.{TasksValue}
+use Rattle.tw_model.specs.LocalOps.{synced, plain, put_some, take_back, take_back_all}
 use Rattle.tw_model.specs.declared.Op.{Op}
 use Rattle.tw_model.specs.declared.SyncOp.{SyncOp}
 use Rattle.tw_http.specs.Link.{LinkModel, IsChainOf}
@@ -9,6 +10,7 @@ use Rattle.tw_replica.specs.State.{State}
 use Rattle.tw_sync.specs.Place.{IsAtStart}
 use Rattle.tw_sync.specs.Progress.{IsPulling}
 use Rattle.tw_sync.specs.declared.place.Place.{Place}
+use Rattle.tw_sync.proofs.Steps.{back-append}
 use Rattle.tw_sync.proofs.Served.{grows_same}
 use Rattle.tw_sync.proofs.Hearing.{hears_none, kept_same}
 
@@ -28,6 +30,13 @@ plain_turn list more ops at op h e f =
     ∙ append_assoc list (plain (op ∷ [])) (plain (drop (at + 1) ops))
     ∙ ap (λ xs. list ++ xs) (sym (plain-append (op ∷ []) (drop (at + 1) ops)))
     ∙ ap (λ xs. list ++ plain xs) (sym (drop_more ops at op h ∙ ap (λ y. y ∷ drop (at + 1) ops) (sym e)))
+
+-- ---- the tasks before it
+
+pub take_back_turn : (tasks new : TasksValue) (ops : List Op) (at : ℕ) (op : Op) → 0 < at → at ≤ length ops → op ≡ get_or ops (at - 1) op → new ≡ take_back tasks op → take_back_all new (take (at - 1) ops) ≡ take_back_all tasks (take at ops)
+take_back_turn tasks new ops at op some le e is =
+    let longer : take at ops ≡ take (at - 1) ops ++ op ∷ [] = ap (λ i. take i ops) {x = at} {y = at - 1 + 1} (omega arith) ∙ take_more ops (at - 1) op (omega arith) ∙ ap (λ (x : Op). take (at - 1) ops ++ x ∷ []) (sym e) in
+    ap (λ t. take_back_all t (take (at - 1) ops)) is ∙ sym (back-append tasks (take (at - 1) ops) (op ∷ [])) ∙ ap (take_back_all tasks) (sym longer)
 
 -- ---- the first step
 

@@ -6,6 +6,7 @@ use Rattle.tw_protocol.specs.Chain.{Version, latest, Grows}
 use Rattle.tw_http.specs.Link.{LinkModel, IsHonest}
 use Rattle.tw_replica.specs.State.{State}
 use Rattle.tw_replica.specs.Sound.{start_of}
+use Rattle.tw_sync.specs.Alike.{SameFor}
 use Rattle.tw_sync.specs.End.{IsPulled}
 use Rattle.tw_sync.specs.Heard.{Heard, Hears}
 use Rattle.tw_sync.specs.Answers.{GrowsOn, IsRefusedOne, add_heard, child_heard}
@@ -38,7 +39,7 @@ later_stands : (state : State) (chain : List Version) (p q : Place) → IsLater 
 later_stands state chain p q same s = record {
   versions = s.versions;
   pulled = subst (λ h. IsPulled state chain h s.versions q.remote.items q.left.items) (sym same.at) (subst (λ r. IsPulled state chain p.at s.versions r q.left.items) (sym same.remote) (subst (λ l. IsPulled state chain p.at s.versions p.remote.items l) (sym same.left) s.pulled));
-  tasks = same.tasks ∙ s.tasks ∙ ap (apply_all (start_of state)) (sym same.remote);
+  tasks = subst (λ l. SameFor l q.tasks (apply_all (start_of state) q.remote.items)) (sym same.left) (subst (λ t. SameFor p.left.items t (apply_all (start_of state) q.remote.items)) (sym same.tasks) (subst (λ r. SameFor p.left.items p.tasks (apply_all (start_of state) r)) (sym same.remote) s.tasks));
   count = same.versions ∙ s.count;
   bytes = same.bytes ∙ s.bytes;
 }

@@ -2,6 +2,7 @@ pub mod Reading
 pub mod Folds
 pub mod Places
 pub mod Fitting
+pub mod Alike
 pub mod Standing
 pub mod Results
 pub mod Coming

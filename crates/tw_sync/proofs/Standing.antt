@@ -1,5 +1,5 @@
 -- Where a sync stands, as the chain grows and versions are taken.
-use Rattle.std.proofs.Common.{◌≡◌, ℕ, ◌+◌, ◌≤◌, inl, inr, length, List, [], ◌∷◌, ◌++◌, sym, ap, subst, ◌∙◌, arith, length-append}
+use Rattle.std.proofs.Common.{◌≡◌, ℕ, ◌+◌, ◌≤◌, inl, inr, length, List, [], ◌∷◌, ◌++◌, sym, refl, ap, subst, ◌∙◌, arith, length-append}
 use Rattle.std.proofs.lemmas.List.{append-nil, append_assoc}
 use Rattle.tw_model.specs.Ops.{TasksValue, apply_all, fit_part}
 use Rattle.tw_model.specs.LocalOps.{plain}
@@ -13,11 +13,14 @@ use Rattle.tw_transform.proofs.Positions.{position_pulls}
 use Rattle.tw_replica.specs.State.{State}
 use Rattle.tw_replica.specs.Sound.{start_of}
 use Rattle.tw_sync.specs.Fold.{Reads}
+use Rattle.tw_sync.specs.Alike.{SameFor}
 use Rattle.tw_sync.specs.End.{IsPulled}
 use Rattle.tw_sync.specs.Place.{TakesVersion, IsAtStart, StandsIn, Stands}
 use Rattle.tw_sync.specs.Honest.{segments_len}
 use Rattle.tw_sync.specs.declared.place.Place.{Place}
 use Rattle.tw_sync.proofs.Reading.{reads-append, reads_last}
+use Rattle.tw_sync.proofs.Fitting.{none_left}
+use Rattle.tw_sync.proofs.Alike.{grid_same, apply_all_same, grid_alike}
 
 -- ---- chains that grow
 
@@ -76,7 +79,7 @@ start_stands state chain place front back s cut = record {
     reads = s.remote;
     position = subst (λ ops. IsPosition (start_of state) (plain state.pending) ops place.left.items) (sym s.remote) (sym s.left);
   };
-  tasks = s.tasks ∙ ap (apply_all (start_of state)) (sym s.remote);
+  tasks = subst (λ ops. SameFor place.left.items place.tasks (apply_all (start_of state) ops)) (sym s.remote) s.tasks;
   count = s.versions;
   bytes = s.bytes;
 }
@@ -89,22 +92,29 @@ pub segments_len-append : (us vs : List Version) → segments_len (us ++ vs) ≡
 segments_len-append [] vs = omega arith
 segments_len-append (u ∷ us) vs = let e = segments_len-append us vs in omega (arith, e)
 
+-- with nothing left, no task matters
+same_left : (ls ops : List SyncOp) (old new there : TasksValue) → (¬ (ls ≡ []) → new ≡ apply_all old ops) → SameFor ls old there → SameFor (grid (fit_part old ops) ls).1 new (apply_all there ops)
+same_left [] ops old new there made s = subst (λ ls. SameFor ls new (apply_all there ops)) (none_left (fit_part old ops) [] refl) tt
+same_left (l ∷ ls) ops old new there made s =
+    subst (λ w. SameFor (grid (fit_part old ops) (l ∷ ls)).1 w (apply_all there ops)) (sym (made (λ e. cc))) (grid_same (fit_part old ops) (l ∷ ls) (apply_all old ops) (apply_all there ops) (apply_all_same ops (l ∷ ls) old there s))
+
 -- it goes on to the child of the version where it stood
 pub stands_on : (state : State) (chain : List Version) (v : Version) (old new : Place) → IsChain chain → IsBetween chain old.at v.id (v ∷ []) → StandsIn state chain old → TakesVersion old new v.id v.segment → StandsIn state chain new
 stands_on state chain v old new whole next s t =
     let base : TasksValue = start_of state in
     let mine : List SyncOp = plain state.pending in
     let joined : List SyncOp = old.remote.items ++ t.ops in
-    let left : List SyncOp = (grid (fit_part old.tasks t.ops) old.left.items).1 in
-    let position : IsPosition base mine joined left = subst (λ w. IsPosition base mine joined (grid (fit_part w t.ops) old.left.items).1) (sym s.tasks) (position_pulls base mine old.remote.items old.left.items t.ops s.pulled.position) in
+    let there : TasksValue = apply_all base old.remote.items in
+    let position : IsPosition base mine joined new.left.items = position_pulls base mine old.remote.items old.left.items t.ops s.pulled.position ∙ sym (grid_alike t.ops old.left.items old.tasks there s.tasks) ∙ sym t.left in
+    let made : apply_all there t.ops ≡ apply_all base new.remote.items = sym (apply_all-append base old.remote.items t.ops) ∙ ap (apply_all base) (sym t.remote) in
     record {
       versions = s.versions ++ v ∷ [];
       pulled = record {
         between = subst (λ h. IsBetween chain state.base h (s.versions ++ v ∷ [])) (sym t.at) (between_joins chain state.base old.at v.id s.versions (v ∷ []) whole s.pulled.between next);
         reads = subst (λ xs. Reads (s.versions ++ v ∷ []) xs) (sym t.remote) (reads-append s.versions (v ∷ []) old.remote.items t.ops s.pulled.reads (reads_last v t.ops t.reads));
-        position = subst (λ xs. IsPosition base mine xs new.left.items) (sym t.remote) (subst (λ ls. IsPosition base mine joined ls) (sym t.left) position);
+        position = subst (λ xs. IsPosition base mine xs new.left.items) (sym t.remote) position;
       };
-      tasks = t.tasks ∙ ap (λ w. apply_all w t.ops) s.tasks ∙ sym (apply_all-append base old.remote.items t.ops) ∙ ap (apply_all base) (sym t.remote);
+      tasks = subst (SameFor new.left.items new.tasks) made (subst (λ ls. SameFor ls new.tasks (apply_all there t.ops)) (sym t.left) (same_left old.left.items t.ops old.tasks new.tasks there t.tasks s.tasks));
       count = (let n = length-append s.versions (v ∷ []) in omega (arith, n, s.count, t.versions));
       bytes = (let n = segments_len-append s.versions (v ∷ []) in omega (arith, n, s.bytes, t.bytes));
     }

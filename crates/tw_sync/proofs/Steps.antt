@@ -52,7 +52,7 @@ applied-append : (tasks : TasksValue) (xs ys : List Op) → apply_all_local task
 applied-append tasks [] ys = refl
 applied-append tasks (x ∷ xs) ys = applied-append (apply_local tasks x) xs ys
 
-back-append : (tasks : TasksValue) (xs ys : List Op) → take_back_all tasks (xs ++ ys) ≡ take_back_all (take_back_all tasks ys) xs
+pub back-append : (tasks : TasksValue) (xs ys : List Op) → take_back_all tasks (xs ++ ys) ≡ take_back_all (take_back_all tasks ys) xs
 back-append tasks [] ys = refl
 back-append tasks (x ∷ xs) ys = ap (λ t. take_back t x) (back-append tasks xs ys)
 

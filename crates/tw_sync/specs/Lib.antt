@@ -9,6 +9,7 @@ pub mod Answers
 pub mod Refused
 pub mod Sync
 pub mod Honest
+pub mod Alike
 pub mod Place
 pub mod Progress
 pub mod Resuming

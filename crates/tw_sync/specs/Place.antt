@@ -11,6 +11,7 @@ use Rattle.tw_segment.specs.declared.error.SegmentError.TheVariants as segments
 use Rattle.tw_transform.specs.Grid.{grid}
 use Rattle.tw_replica.specs.State.{State}
 use Rattle.tw_replica.specs.Sound.{start_of}
+use Rattle.tw_sync.specs.Alike.{SameFor}
 use Rattle.tw_sync.specs.End.{IsPulled}
 use Rattle.tw_sync.specs.Refused.{max_pull}
 use Rattle.tw_sync.specs.Honest.{segments_len}
@@ -24,7 +25,7 @@ pub record TakesVersion (old new : Place) (id segment : List ℕ) : Type 0 where
   pub reads : IsSegment segment ops
   pub at : new.at ≡ id
   pub left : new.left.items ≡ (grid (fit_part old.tasks ops) old.left.items).1
-  pub tasks : new.tasks ≡ apply_all old.tasks ops
+  pub tasks : ¬ (old.left.items ≡ []) → new.tasks ≡ apply_all old.tasks ops
   pub remote : new.remote.items ≡ old.remote.items ++ ops
   pub versions : new.versions ≡ old.versions + 1
   pub bytes : new.bytes ≡ old.bytes + length segment
@@ -53,7 +54,7 @@ IsNotTaken place id segment (errors.SegmentTooLong bytes) = ⊥
 pub record IsAtStart (state : State) (place : Place) : Type 0 where
   pub at : place.at ≡ state.base
   pub left : place.left.items ≡ plain state.pending
-  pub tasks : place.tasks ≡ start_of state
+  pub tasks : SameFor place.left.items place.tasks (start_of state)
   pub remote : place.remote.items ≡ []
   pub versions : place.versions ≡ 0
   pub bytes : place.bytes ≡ 0
@@ -63,7 +64,7 @@ pub record IsAtStart (state : State) (place : Place) : Type 0 where
 pub record StandsIn (state : State) (chain : List Version) (place : Place) : Type 0 where
   pub versions : List Version
   pub pulled : IsPulled state chain place.at versions place.remote.items place.left.items
-  pub tasks : place.tasks ≡ apply_all (start_of state) place.remote.items
+  pub tasks : SameFor place.left.items place.tasks (apply_all (start_of state) place.remote.items)
   pub count : place.versions ≡ length versions
   pub bytes : place.bytes ≡ segments_len versions
 

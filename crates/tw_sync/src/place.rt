@@ -5,12 +5,12 @@ ghost use Rattle.tw_sync.specs.Refused.{max_pull};
 use tw_model::{SyncOp, Tasks};
 use uuid::Uuid;
 
-/// Where a sync stands: the chain folded to a version, what is left there of the local list, and what came on the way.
+/// Where a sync stands: a version, what is left there of the local list, and what came on the way.
 #[derive(Drop)]
 pub struct Place {
     /// The version.
     pub at: Uuid,
-    /// The tasks that the chain makes up to it.
+    /// The tasks that the chain makes up to it, of those that what is left is about.
     pub tasks: Tasks,
     /// The local operations that are left there.
     pub left: Vec<SyncOp>,

@@ -1,24 +1,29 @@
 // Where a sync of a replica begins.
 ghost use Rattle.std.specs.Prelude.{◌≡◌, ◌++◌, ◌∷◌, [], IfOk, OnOk};
-ghost use Rattle.tw_model.specs.LocalOps.{plain};
+ghost use Rattle.tw_model.specs.LocalOps.{plain, take_back_all};
 ghost use Rattle.tw_replica.specs.Replica.{held_state};
+ghost use Rattle.tw_sync.specs.Alike.{SameFor, with_copy};
 ghost use Rattle.tw_sync.specs.Place.{IsAtStart};
 
 use crate::place::Place;
 use std::alloc::Global;
-use tw_model::{Op, SyncOp};
+use tw_model::{Op, SyncOp, Tasks};
 use tw_replica::Replica;
 use tw_world::Memory;
+use uuid::Uuid;
 
 impl Place {
     /// The base of a replica, where all that is pending is left.
     pub fn start(alloc: Global, replica: &Replica) -> Result<Place, Memory>
         ensures { IfOk result (λ place. IsAtStart (held_state replica.now) place) }
     {
+        let left = plain(alloc, replica.pending())?;
+        let mut tasks = copies(alloc, replica.tasks(), &left)?;
+        take_back(alloc, &mut tasks, replica.pending())?;
         Ok(Place {
             at: replica.base(),
-            tasks: replica.tasks_at_base(alloc)?,
-            left: plain(alloc, replica.pending())?,
+            tasks,
+            left,
             remote: Vec::new(alloc),
             versions: 0,
             bytes: 0,
@@ -45,6 +50,43 @@ fn put_plain(alloc: Global, list: &mut Vec<SyncOp>, op: &Op) -> Result<(), Memor
 {
     if let Some(op) = op.to_sync(alloc)? {
         list.push(op)?;
+    }
+    Ok(())
+}
+
+// Copies of the tasks that operations are about.
+fn copies(alloc: Global, tasks: &Tasks, ops: &Vec<SyncOp>) -> Result<Tasks, Memory>
+    ensures { IfOk result (λ part. SameFor ops.now.items part tasks.now) }
+{
+    let mut part = Tasks::new(alloc);
+    let mut at = 0;
+    while at < ops.len() {
+        copy_task(alloc, &mut part, tasks, ops[at].uuid())?;
+        at += 1;
+    }
+    Ok(part)
+}
+
+fn copy_task(alloc: Global, part: &mut Tasks, tasks: &Tasks, uuid: Uuid) -> Result<(), Memory>
+    ensures { OnOk result (part.new ≡ with_copy part.old tasks.now uuid) }
+{
+    if part.get(uuid).is_some() {
+        return Ok(());
+    }
+    if let Some(task) = tasks.get(uuid) {
+        let _ = part.insert(uuid, task.copy(alloc)?)?;
+    }
+    Ok(())
+}
+
+// Takes operations back, the last one first.
+fn take_back(alloc: Global, tasks: &mut Tasks, ops: &Vec<Op>) -> Result<(), Memory>
+    ensures { OnOk result (tasks.new ≡ take_back_all tasks.old ops.now.items) }
+{
+    let mut at = ops.len();
+    while at > 0 {
+        at -= 1;
+        tasks.invert(alloc, &ops[at])?;
     }
     Ok(())
 }

@@ -41,33 +41,22 @@ impl Place {
     }
 }
 
-// Applies the operations of a version, and rebases the local list over those that fit.
+// Rebases the local list over those operations of a version that fit. With nothing left the tasks are of no use.
 fn cross(
     alloc: Global,
     tasks: &mut Tasks,
     left: &mut Vec<SyncOp>,
     ops: &Vec<SyncOp>,
 ) -> Result<(), Memory>
-    ensures tasks { OnOk result (tasks.new ≡ apply_all tasks.old ops.now.items) }
+    ensures tasks { OnOk result (¬ (left.old.items ≡ []) → tasks.new ≡ apply_all tasks.old ops.now.items) }
     ensures left { OnOk result (left.new.items ≡ (grid (fit_part tasks.old ops.now.items) left.old.items).1) }
 {
     if left.is_empty() {
-        return apply_each(alloc, tasks, ops);
+        return Ok(());
     }
     let mut fit = fitting(alloc, tasks, ops)?;
     let mut steps = Steps::new();
     rebase(&mut fit, left, &mut steps);
-    Ok(())
-}
-
-fn apply_each(alloc: Global, tasks: &mut Tasks, ops: &Vec<SyncOp>) -> Result<(), Memory>
-    ensures { OnOk result (tasks.new ≡ apply_all tasks.old ops.now.items) }
-{
-    let mut at = 0;
-    while at < ops.len() {
-        tasks.apply_sync(alloc, &ops[at])?;
-        at += 1;
-    }
     Ok(())
 }
 
