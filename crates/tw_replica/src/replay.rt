@@ -10,9 +10,10 @@ ghost use Rattle.tw_replica.specs.Ready.{IsReady};
 ghost use Rattle.tw_replica.specs.Replica.{magic, TakingRefused, ReplayRefused};
 
 use crate::about::{add_all_synced, touched_uuids};
+use crate::fields::ReadError;
 use crate::held::{Core, apply_ops, apply_sync_ops, is_idle, last_point, take_back_from};
 use crate::index::{pack_if, settle};
-use crate::reading::{Read, ReadError, read_step};
+use crate::reading::{Read, read_step};
 use crate::replica::ReplicaError;
 use std::alloc::Global;
 use std::collections::BTreeMap;

@@ -6,9 +6,8 @@ ghost use Rattle.tw_replica.specs.Body.Step.{Sync};
 ghost use Rattle.tw_replica.specs.Views.{step_view};
 ghost use Rattle.tw_replica.specs.Reading.{Gives, many_at, sync_create_at, sync_delete_at, sync_update_at, sync_op_at, sync_of};
 
-use crate::reading::{
-    Read, ReadError, read_moment, read_option, read_text, read_uuid, room_for, u32_at,
-};
+use crate::fields::{ReadError, read_moment, read_option, read_text, read_uuid, u32_at};
+use crate::reading::{Read, room_for};
 use crate::writing::{put_count, put_moment, put_option, put_text, put_uuid};
 use std::alloc::Global;
 use tw_model::SyncOp;
