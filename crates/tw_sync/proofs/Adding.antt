@@ -7,7 +7,7 @@ use Rattle.tw_protocol.proofs.Chains.{last_from-append}
 use Rattle.tw_protocol.proofs.Between.{between_joins}
 use Rattle.tw_http.specs.Link.{LinkModel, IsHonest}
 use Rattle.tw_http.specs.declared.message.Response.TheVariants as replies
-use Rattle.tw_segment.specs.Segment.{segment_text, IsSegment}
+use Rattle.tw_segment.specs.Segment.{max_len, segment_text, IsSegment}
 use Rattle.tw_replica.specs.State.{State}
 use Rattle.tw_sync.specs.End.{IsPulled, AddedOne}
 use Rattle.tw_sync.specs.Heard.{Heard, Hears, HearsUntil, conflicts, most_exchanges}
@@ -84,8 +84,8 @@ module _ {L : Type 0} (m : LinkModel L) (client : List ℕ) (state : State) (fir
   pub sent_mine : m.own b ≡ m.own first ++ v ∷ []
   sent_mine = one.mine ∙ ap (λ vs. vs ++ v ∷ []) e.mine
 
-  pub added_one : ¬ (p.left.items ≡ []) → segment ≡ segment_text p.left.items → IsSegment segment p.left.items → AddedOne state (told m first) (told m b)
-  added_one some text back = record {
+  pub added_one : ¬ (p.left.items ≡ []) → segment ≡ segment_text p.left.items → IsSegment segment p.left.items → length segment ≤ max_len → AddedOne state (told m first) (told m b)
+  added_one some text back within = record {
     v = v;
     versions = e.stands.versions;
     ops = p.remote.items;
@@ -94,6 +94,7 @@ module _ {L : Type 0} (m : LinkModel L) (client : List ℕ) (state : State) (fir
     pulled = sent_pulled;
     segment = text;
     reads_back = back;
+    within = within;
     sent = sent_behind;
     pulled_last = sent_pulled_last;
     mine = sent_mine;
@@ -101,9 +102,9 @@ module _ {L : Type 0} (m : LinkModel L) (client : List ℕ) (state : State) (fir
 
 -- where it was added the sync has ended
 pub added : {L : Type 0} (m : LinkModel L) (client host : List ℕ) (state : State) (first a b : L) (p q : Place) (id segment : List ℕ) (sent : ℕ) → HasPulled m client host state first a p → IsAsked m client host a b (add_heard client p.at segment (Added id))
-    → (IsHonest m a client → GrowsOn m a b client) → (IsHonest m a client → IsAddedOne m a b (version id p.at segment)) → ¬ (p.left.items ≡ []) → segment ≡ segment_text p.left.items → IsSegment segment p.left.items
+    → (IsHonest m a client → GrowsOn m a b client) → (IsHonest m a client → IsAddedOne m a b (version id p.at segment)) → ¬ (p.left.items ≡ []) → segment ≡ segment_text p.left.items → IsSegment segment p.left.items → length segment ≤ max_len
     → q.at ≡ id → q.remote.items ≡ p.remote.items ++ p.left.items → q.versions ≡ p.versions → sent ≡ length p.left.items → IsMet m client host state first b q sent
-added m client host state first a b p q id segment sent s asked grows one some text back at remote versions count = record {
+added m client host state first a b p q id segment sent s asked grows one some text back within at remote versions count = record {
   fewer = (let n = s.fewer in omega (arith, n, count));
   kept = kept_on m first a b s.asked.kept asked.kept;
   heard = λ tells. all (s.asked.heard tells) (asked.heard (s.asked.kept.tells_list ∙ tells));
@@ -124,6 +125,7 @@ added m client host state first a b p q id segment sent s asked grows one some t
           pulled_last = sent_pulled_last m client state first a b p id segment e on o;
           segment = text;
           reads_back = back;
+          within = within;
           behind = sent_behind m client state first a b p id segment e on o;
           last = sent_last m client state first a b p id segment e on o;
           mine = sent_mine m client state first a b p id segment e on o;
@@ -189,8 +191,8 @@ may_add e (inr is) = subst MayAdd (sym is) tt
 
 -- the question was refused
 pub unadded : {L : Type 0} (m : LinkModel L) (client host : List ℕ) (state : State) (first a b : L) (p : Place) (segment : List ℕ) (e : SyncError) → HasPulled m client host state first a p → IsUnasked m client host a b e → (IsHonest m a client → GrowsOn m a b client)
-    → (IsHonest m a client → AddRefused m a b p.at segment e) → ¬ (p.left.items ≡ []) → segment ≡ segment_text p.left.items → IsSegment segment p.left.items → IsStopped m client host state first b e
-unadded m client host state first a b p segment e s un grows refused some text back = record {
+    → (IsHonest m a client → AddRefused m a b p.at segment e) → ¬ (p.left.items ≡ []) → segment ≡ segment_text p.left.items → IsSegment segment p.left.items → length segment ≤ max_len → IsStopped m client host state first b e
+unadded m client host state first a b p segment e s un grows refused some text back within = record {
   kept = kept_on m first a b s.asked.kept un.kept;
   cause = cause_on m first a b e s.asked.kept un.refused;
   heard = λ tells. to_stop (s.asked.heard tells) (un.heard (s.asked.kept.tells_list ∙ tells));
@@ -218,15 +220,15 @@ unadded m client host state first a b p segment e s un grows refused some text b
       whole = on.whole;
       grows = grows_on (m.chain first) (m.chain a) (m.chain b) c.on.grows on.grows;
       refused = no_reply_says state (told m first) (told m b) e none;
-      added = inr (added_one m client state first a b p id segment c on one some text back);
+      added = inr (added_one m client state first a b p id segment c on one some text back within);
       added_only = inl (may_add e none);
     }
     by c on (inr (is, same)) = stops_here m client state first a b e c.on c.mine on same (subst (HonestRefused state (told m first) (told m b)) (sym is) refl)
 
 -- the version was added, and there was no memory for what follows
 pub added_unkept : {L : Type 0} (m : LinkModel L) (client host : List ℕ) (state : State) (first a b : L) (p : Place) (id segment : List ℕ) → HasPulled m client host state first a p → IsAsked m client host a b (add_heard client p.at segment (Added id))
-    → (IsHonest m a client → GrowsOn m a b client) → (IsHonest m a client → IsAddedOne m a b (version id p.at segment)) → ¬ (p.left.items ≡ []) → segment ≡ segment_text p.left.items → IsSegment segment p.left.items → IsStopped m client host state first b errors.Memory
-added_unkept m client host state first a b p id segment s asked grows one some text back = record {
+    → (IsHonest m a client → GrowsOn m a b client) → (IsHonest m a client → IsAddedOne m a b (version id p.at segment)) → ¬ (p.left.items ≡ []) → segment ≡ segment_text p.left.items → IsSegment segment p.left.items → length segment ≤ max_len → IsStopped m client host state first b errors.Memory
+added_unkept m client host state first a b p id segment s asked grows one some text back within = record {
   kept = kept_on m first a b s.asked.kept asked.kept;
   cause = tt;
   heard = λ tells. to_stop (s.asked.heard tells) (asked.heard (s.asked.kept.tells_list ∙ tells));
@@ -237,7 +239,7 @@ added_unkept m client host state first a b p id segment s asked grows one some t
         whole = on.whole;
         grows = grows_on (m.chain first) (m.chain a) (m.chain b) c.on.grows on.grows;
         refused = tt;
-        added = inr (added_one m client state first a b p id segment c on (one c.on.honest) some text back);
+        added = inr (added_one m client state first a b p id segment c on (one c.on.honest) some text back within);
         added_only = inl tt;
       });
 }

@@ -95,6 +95,7 @@ module _ {L : Type 0} (m : LinkModel L) (state : State) (first now : L) (place :
         pulled = e.pulled;
         segment = e.segment;
         reads_back = e.reads_back;
+        within = e.within;
         sent = e.behind;
         state = λ i. record { base = e.at i; pending = []; tasks = tasks i; numbers = settled state.numbers (tasks i) };
         pulled_last = e.pulled_last;
@@ -280,4 +281,4 @@ may_have_added m client state first now place sent met = by met.end
   where
     by : HasNothingLeft m state first now place sent ⊎ HasSent m state first now place sent → MayHaveAdded state (told m first) (told m now)
     by (inl e) = inl e.mine
-    by (inr e) = inr (record { v = e.v; versions = e.versions; ops = e.ops; left = e.left; some = e.some; pulled = e.pulled; segment = e.segment; reads_back = e.reads_back; sent = e.behind; pulled_last = e.pulled_last; mine = e.mine })
+    by (inr e) = inr (record { v = e.v; versions = e.versions; ops = e.ops; left = e.left; some = e.some; pulled = e.pulled; segment = e.segment; reads_back = e.reads_back; within = e.within; sent = e.behind; pulled_last = e.pulled_last; mine = e.mine })

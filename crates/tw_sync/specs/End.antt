@@ -1,10 +1,10 @@
 -- Where a sync ends, and what a refused one may have added (TaskChampion book, "Synchronization Model").
-use Rattle.std.specs.Prelude.{◌≡◌, ◌⊎◌, ℕ, ◌+◌, List, [], ◌∷◌, ◌++◌, length}
+use Rattle.std.specs.Prelude.{◌≡◌, ◌⊎◌, ℕ, ◌+◌, ◌≤◌, List, [], ◌∷◌, ◌++◌, length}
 use Rattle.tw_model.specs.Ops.{TasksValue, apply_all}
 use Rattle.tw_model.specs.LocalOps.{plain}
 use Rattle.tw_model.specs.declared.SyncOp.{SyncOp}
 use Rattle.tw_protocol.specs.Chain.{Version, IsBetween, HoldsAll, Grows}
-use Rattle.tw_segment.specs.Segment.{segment_text, IsSegment}
+use Rattle.tw_segment.specs.Segment.{max_len, segment_text, IsSegment}
 use Rattle.tw_transform.specs.Positions.{IsPosition}
 use Rattle.tw_replica.specs.Settle.{settled}
 use Rattle.tw_replica.specs.State.{State}
@@ -59,6 +59,7 @@ pub record IsPushed (old new : State) (before after : Told) (report : SyncReport
   pub pulled : IsPulled old after.chain v.parent versions ops left
   pub segment : v.segment ≡ segment_text left
   pub reads_back : IsSegment v.segment left
+  pub within : length v.segment ≤ max_len
   pub sent : IsBetween after.chain old.base v.id (versions ++ v ∷ [])
   pub state : new ≡ stands_at old v.id (apply_all (apply_all (start_of old) ops) left)
   pub pulled_last : HoldsAll before.chain after.chain v.parent
@@ -82,6 +83,7 @@ pub record AddedOne (old : State) (before after : Told) : Type 0 where
   pub pulled : IsPulled old after.chain v.parent versions ops left
   pub segment : v.segment ≡ segment_text left
   pub reads_back : IsSegment v.segment left
+  pub within : length v.segment ≤ max_len
   pub sent : IsBetween after.chain old.base v.id (versions ++ v ∷ [])
   pub pulled_last : HoldsAll before.chain after.chain v.parent
   pub mine : after.own ≡ before.own ++ v ∷ []

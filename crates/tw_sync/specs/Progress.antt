@@ -106,6 +106,7 @@ pub record HasSent {L : Type 0} (m : LinkModel L) (state : State) (first now : L
   pub pulled_last : HoldsAll (m.chain first) (m.chain now) v.parent
   pub segment : v.segment ≡ segment_text left
   pub reads_back : IsSegment v.segment left
+  pub within : length v.segment ≤ max_len
   pub behind : IsBetween (m.chain now) state.base v.id (versions ++ v ∷ [])
   pub last : HoldsAll (m.chain first) (m.chain now) v.id
   pub mine : m.own now ≡ m.own first ++ v ∷ []

@@ -17,7 +17,7 @@ returns-in_err-id-clause-stopped g c =
     let t = c.in_ok-segment.ensures in
     passed_on c.from_residual-in_err-id.result _ _ c.from_residual-in_err-id.ensures.1
     (λ state first s. unadded g.L.Link.model c.args.client c.args.host.now state first c.args.link.now c.ask_add.new.link c.args.place.now c.in_ok-segment.segment.items c.in_err-id.field-0.0 s (record { kept = k.kept; count = k.count; refused = k.refused; heard = k.refused_heard })
-    k.grows k.refused_honest c.requires.some t.text t.reads_back)
+    k.grows k.refused_honest c.requires.some t.text t.reads_back t.within)
 
 pub returns-in_err-append-in-Added-clause-stopped : goal.returns-in_err-append-in-Added-clause-stopped
 returns-in_err-append-in-Added-clause-stopped g c =
@@ -30,7 +30,7 @@ returns-in_err-append-in-Added-clause-stopped g c =
     passed_on c.from_residual-in_err-append-in-Added.result _ _ c.from_residual-in_err-append-in-Added.ensures.1
     (λ state first s. added_unkept m c.args.client c.args.host.now state first a b p c.in-Added.id c.in_ok-segment.segment.items s
     (subst (λ r. IsAsked m c.args.client c.args.host.now a b (add_heard c.args.client p.at c.in_ok-segment.segment.items r)) c.in-Added.is (record { kept = k.kept; count = k.count; heard = k.heard; welcome = k.welcome }))
-    k.grows (λ honest. subst (λ r. IsAddAnswer m a b p.at c.in_ok-segment.segment.items r) c.in-Added.is (k.answer honest)) c.requires.some t.text t.reads_back)
+    k.grows (λ honest. subst (λ r. IsAddAnswer m a b p.at c.in_ok-segment.segment.items r) c.in-Added.is (k.answer honest)) c.requires.some t.text t.reads_back t.within)
 
 pub returns-in_ok-append-in-Added-clause-pushed : goal.returns-in_ok-append-in-Added-clause-pushed
 returns-in_ok-append-in-Added-clause-pushed g c = λ state first s.
@@ -43,7 +43,7 @@ returns-in_ok-append-in-Added-clause-pushed g c = λ state first s.
     let count : c.len-operations.result ≡ length c.args.place.now.left.items = search rules in
     added m c.args.client c.args.host.now state first a b p _ c.in-Added.id c.in_ok-segment.segment.items c.len-operations.result s
     (subst (λ r. IsAsked m c.args.client c.args.host.now a b (add_heard c.args.client p.at c.in_ok-segment.segment.items r)) c.in-Added.is (record { kept = k.kept; count = k.count; heard = k.heard; welcome = k.welcome }))
-    k.grows (λ honest. subst (λ r. IsAddAnswer m a b p.at c.in_ok-segment.segment.items r) c.in-Added.is (k.answer honest)) c.requires.some t.text t.reads_back refl c.in_ok-append-in-Added.ensures.items refl count
+    k.grows (λ honest. subst (λ r. IsAddAnswer m a b p.at c.in_ok-segment.segment.items r) c.in-Added.is (k.answer honest)) c.requires.some t.text t.reads_back t.within refl c.in_ok-append-in-Added.ensures.items refl count
 
 pub returns-in-Conflict-clause-pushed : goal.returns-in-Conflict-clause-pushed
 returns-in-Conflict-clause-pushed g c = λ state first s.
