@@ -24,7 +24,7 @@ pub use memory::MemoryDisk;
 pub use memory_peer::MemoryPeer;
 pub use memory_sink::MemorySink;
 pub use memory_source::MemorySource;
-pub use moment::Moment;
+pub use moment::{MOMENT_LIMIT, Moment};
 pub use peer::Peer;
 pub use sink::{Sink, StreamError};
 pub use source::Source;

@@ -1,12 +1,16 @@
 // Moments.
 ghost use Rattle.std.specs.Prelude.{◌<◌};
+ghost use Rattle.tw_world.specs.declared.moment.TheConstants.{MOMENT_LIMIT};
+
+/// The second from which on there is no moment: 9999-01-01T00:00:00Z.
+pub const MOMENT_LIMIT: u64 = 253_370_764_800;
 
 /// A moment, in Unix seconds and nanoseconds: from 1970 up to, and without, the year 9999.
 #[derive(Clone, Copy, Debug, PartialEq, Eq, PartialOrd, Ord)]
 pub struct Moment {
     pub seconds: u64,
     pub nanos: u32,
-    pub ghost in_years: { seconds < 253370764800 },
+    pub ghost in_years: { seconds < MOMENT_LIMIT },
     pub ghost in_second: { nanos < 1000000000 },
 }
 
@@ -18,7 +22,7 @@ impl Moment {
     pub fn new(seconds: u64, nanos: u32) -> Option<Moment>
         ensures { result ≡ moment_of seconds nanos }
     {
-        if seconds < 253_370_764_800 && nanos < 1_000_000_000 {
+        if seconds < MOMENT_LIMIT && nanos < 1_000_000_000 {
             Some(Moment { seconds, nanos })
         } else {
             None

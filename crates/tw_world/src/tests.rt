@@ -2,6 +2,7 @@ use crate::{
     Disk, DiskError, FailingDisk, IdWords, MemoryDisk, MemoryPeer, MemorySink, MemorySource,
     Moment, Peer, Sink, Source, StreamError, Text,
 };
+use std::collections::BTreeMap;
 use std::test::Fail;
 
 #[test]
@@ -43,6 +44,23 @@ fn a_text_is_copied(rt: HostRuntime) -> Result<(), Fail> {
         let copy = text.copy(rt.alloc())?;
         assert_eq!(rt; copy.as_str(), *held);
     }
+    Ok(())
+}
+
+// Short texts and long ones stand in one order, and a text is a key.
+#[test]
+fn texts_are_ordered_by_their_bytes(rt: HostRuntime) -> Result<(), Fail> {
+    let alloc = rt.alloc();
+    let rising = ["", "Tag", "tag_", "tag_of seventeen.", "tag_z", "tagé"];
+    let mut places = BTreeMap::new(alloc);
+    for (place, text) in rising.iter().enumerate().rev() {
+        places.insert(Text::from_str(alloc, text)?, place)?;
+    }
+    for ((text, place), want) in places.iter().zip(rising.iter()) {
+        assert_eq!(rt; text.as_str(), *want);
+        assert_eq!(rt; rising.get(*place).copied(), Some(*want));
+    }
+    assert_eq!(rt; places.len(), rising.len());
     Ok(())
 }
 
