@@ -8,6 +8,7 @@ use crate::length::Length;
 use crate::zone::{Zone, second_of, shown_at};
 use jiff::ToSpan;
 use jiff::civil::Date;
+use tw_world::MOMENT_LIMIT;
 
 /// The moment so many times a length on. Months and days go by the zone's calendar and keep the
 /// time of day: a day past the month's end becomes its last day, and a time that the clock skips
@@ -78,16 +79,13 @@ fn month_later(date: Date, months: u64) -> Option<Date>
     Some(later)
 }
 
-// 9999-01-01T00:00:00Z.
-const LIMIT: u128 = 253_370_764_800;
-
 // The second so many times some seconds on, if it is below the limit.
 fn seconds_later(at: u64, seconds: u64, times: u32) -> Option<u64>
     ensures value { result ≡ below_limit (at + seconds * times) }
     ensures in_range { IfSome result (λ at. at < limit) }
 {
     let later = u128::from(at) + u128::from(seconds) * u128::from(times);
-    if later < LIMIT {
+    if later < u128::from(MOMENT_LIMIT) {
         Some(later as u64)
     } else {
         None
@@ -99,9 +97,5 @@ pub fn below_limit(at: u64) -> Option<u64>
     ensures value { result ≡ below_limit at }
     ensures in_range { IfSome result (λ at. at < limit) }
 {
-    if u128::from(at) < LIMIT {
-        Some(at)
-    } else {
-        None
-    }
+    if at < MOMENT_LIMIT { Some(at) } else { None }
 }

@@ -74,7 +74,7 @@ fn instant(at: u64) -> Timestamp
     Timestamp::from_second(at as i64).unwrap()
 }
 
-// 9999-01-01T00:00:00Z in nanoseconds.
+// The limit of moments, 9999-01-01T00:00:00Z, in nanoseconds.
 const LIMIT_NANOS: i128 = 253_370_764_800_000_000_000;
 
 // The second at which the zone's clock shows the date and time, by the compatible rule.
