@@ -1,0 +1,95 @@
+-- A step that is made in memory and not yet written.
+use Rattle.std.specs.Prelude.{◌≡◌, ◌⊎◌, ◌<◌, ◌+◌, ◌^◌, ℕ, Bool, false, true, cond, List, [], ◌∷◌, ◌++◌, length, Option, Some, None}
+use Rattle.std.specs.Global.{Vec}
+use Rattle.std.specs.FinMap.{get}
+use Rattle.tw_world.specs.Disk.{DiskModel, Rose}
+use Rattle.tw_journal.specs.Open.{Records}
+use Rattle.tw_journal.specs.Journal.{is_closed, journal_end}
+use Rattle.tw_journal.specs.declared.journal.JournalError.{JournalError}
+use Rattle.tw_journal.specs.declared.journal.JournalError.TheVariants.{Disk, Closed, Damaged, TooLong, Memory as NoMemory}
+use Rattle.tw_model.specs.Ops.{TasksValue}
+use Rattle.tw_replica.specs.Body.{Step, body_of, IsStep}
+use Rattle.tw_replica.specs.Body.Step.{Commit, Undo, Sync}
+use Rattle.tw_replica.specs.State.{State, is_idle, applied, split_group}
+use Rattle.tw_replica.specs.Core.{state_of}
+use Rattle.tw_replica.specs.Replica.{magic, held_state}
+use Rattle.tw_replica.specs.Settled.{is_among}
+use Rattle.tw_world.specs.declared.Moment.{Moment}
+use Rattle.tw_model.specs.Changes.{changed_all, ops_of_all, group_of}
+use Rattle.tw_model.specs.declared.Change.{Change}
+use Rattle.tw_replica.specs.declared.editing.Editing.{Editing}
+use Rattle.tw_replica.specs.declared.prepared.Prepared.{Prepared}
+use Rattle.tw_replica.specs.declared.replica.Replica.{Replica}
+use Rattle.tw_replica.specs.declared.replica.ReplicaError.{ReplicaError}
+use Rattle.tw_replica.specs.declared.replica.ReplicaError.TheVariants as errors
+
+-- the bodies of the records that a step writes: one, unless it is a commit that has nothing to do
+abbrev pub step_bodies : Step → List (List ℕ)
+step_bodies (Commit renumber ops) = cond (is_idle renumber ops) [] (body_of (Commit renumber ops) ∷ [])
+step_bodies Undo = body_of Undo ∷ []
+step_bodies (Sync base ops) = body_of (Sync base ops) ∷ []
+
+-- the body that is to be written, if there is one
+abbrev pub bodies_in : Option (Vec ℕ) → List (List ℕ)
+bodies_in None = []
+bodies_in (Some body) = body.items ∷ []
+
+-- the state that it leads to
+abbrev pub prepared_state : Prepared → State
+prepared_state prepared = state_of prepared.core
+
+abbrev pub prepared_bodies : Prepared → List (List ℕ)
+prepared_bodies prepared = bodies_in prepared.body
+
+-- this step of a replica is made in memory
+pub record IsPrepared (old : Replica) (step : Step) (prepared : Prepared) : Type 0 where
+  pub journal : prepared.journal ≡ old.journal
+  pub leads : applied (held_state old) step ≡ Some (prepared_state prepared)
+  pub bodies : prepared_bodies prepared ≡ step_bodies step
+  pub is : IsStep step
+
+-- only the tasks of these uuids were changed
+abbrev pub ChangedAmong : List (List ℕ) → (old new : TasksValue) → Type 0
+ChangedAmong us old new = (u : List ℕ) → is_among us u ≡ false → get new u ≡ get old u
+
+-- these changes were made of the tasks of a replica, at a moment
+pub record IsEditing (old : Replica) (made : List Change) (at : Moment) (editing : Editing) : Type 0 where
+  pub journal : editing.journal ≡ old.journal
+  pub base : editing.core.base ≡ old.core.base
+  pub pending : editing.core.pending.items ≡ old.core.pending.items
+  pub numbers : editing.core.numbers.items ≡ old.core.numbers.items
+  pub tasks : editing.core.tasks ≡ changed_all old.core.tasks made
+  pub ops : editing.ops.items ≡ ops_of_all old.core.tasks made at
+  pub among : ChangedAmong editing.touched.keys old.core.tasks editing.core.tasks
+
+-- the step that the changes are
+abbrev pub step_of_changes : Replica → (renumber : Bool) → List Change → Moment → Step
+step_of_changes old renumber made at = Commit renumber (group_of (ops_of_all (held_state old).tasks made at))
+
+-- why an undo is not prepared
+abbrev pub TakingBackRefused : Replica → ReplicaError → Type 0
+TakingBackRefused old (errors.Journal e) = ⊥
+TakingBackRefused old (errors.Invalid index) = ⊥
+TakingBackRefused old errors.NothingToUndo = split_group (held_state old).pending ≡ None
+TakingBackRefused old errors.Memory = Unit {0}
+
+-- a file has these records behind the magic, or these and those that were to be written
+abbrev pub RecordsOrAll : (bodies more : List (List ℕ)) → List ℕ → Type 0
+RecordsOrAll bodies more file = Records magic file bodies ⊎ Records magic file (bodies ++ more)
+
+-- there is one record to be written, which has this size with its gate and length
+abbrev pub HasSize : List (List ℕ) → ℕ → Type 0
+HasSize [] size = ⊥
+HasSize (body ∷ bodies) size = size ≡ length body + 5
+
+-- why a prepared step is not written
+abbrev pub PreparedRefused : {D : Type 0} → DiskModel D → Prepared → (before after : D) → JournalError → Type 0
+PreparedRefused m prepared before after Disk = Rose (m.faults before) (m.faults after)
+PreparedRefused m prepared before after Closed = (is_closed prepared.journal ≡ true) × (after ≡ before)
+PreparedRefused m prepared before after (TooLong bytes) = HasSize (prepared_bodies prepared) bytes × (2 ^ 30 < bytes) × (after ≡ before)
+PreparedRefused m prepared before after (Damaged offset) = ⊥
+PreparedRefused m prepared before after NoMemory = ⊥
+
+-- the disk has the length that the journal left, unless that is closed
+abbrev pub IsLengthReady : {D : Type 0} → DiskModel D → Prepared → D → Type 0
+IsLengthReady m prepared disk = is_closed prepared.journal ≡ false → m.len disk ≡ journal_end prepared.journal
