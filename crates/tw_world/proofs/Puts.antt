@@ -14,8 +14,8 @@ use Rattle.std.specs.Prelude.{String}
 use Rattle.std.proofs.Common.{Global}
 use Rattle.std.proofs.lemmas.Bool.{cases_eq}
 use Rattle.tw_world.specs.Crash.{Steps, Reads}
-use Rattle.tw_world.specs.Folder.{Files, bytes_cmp, same_bytes, Replaced}
-use Rattle.tw_world.specs.MemoryFolder.{Put, after, last_put, add_name, AreBelow, IsPut, left_by, held_files, memory_folder_model}
+use Rattle.tw_world.specs.Folder.{Files, bytes_cmp, same_bytes, Replaced, add_name}
+use Rattle.tw_world.specs.MemoryFolder.{Put, after, last_put, IsPut, left_by, held_files, memory_folder_model}
 use Rattle.tw_world.specs.declared.memory_folder.MemoryFolder.{MemoryFolder}
 
 pub after-push : (puts : List Put) (files : Files) (p : Put) → after files (puts ++ p ∷ []) ≡ insert (after files puts) (string_bytes p.0) p.1.items
@@ -39,20 +39,6 @@ put_keys k v (e ∷ es) = by_case (bytes_cmp k e.0) (put_keys k v es)
 
 pub keys-insert : (files : Files) (name bytes : List ℕ) → keys (insert files name bytes) ≡ add_name name (keys files)
 keys-insert files name bytes = ap (map (λ e. e.0)) (entries-insert nat_list_cmp_total files name bytes) ∙ put_keys name bytes (entries files)
-
-below_rest : (k x : List ℕ) (xs : List (List ℕ)) (i : ℕ) → AreBelow k (x ∷ xs) (suc i) → AreBelow k xs i
-below_rest k x xs i below j lt = below (suc j) (omega arith)
-
-pub added_at : (k : List ℕ) (xs : List (List ℕ)) (i : ℕ) → AreBelow k xs i → i ≤ length xs → (i < length xs → bytes_cmp k (slice_index_or xs i []) ≡ Less) → add_name k xs ≡ insert_at xs i k
-added_at k [] zero below le is = refl
-added_at k [] (suc i) below le is = absurd (omega arith)
-added_at k (x ∷ xs) zero below le is = ap (λ o. by_order o (k ∷ x ∷ xs) (x ∷ xs) (x ∷ add_name k xs)) (is (omega arith))
-added_at k (x ∷ xs) (suc i) below le is = ap (λ o. by_order o (k ∷ x ∷ xs) (x ∷ xs) (x ∷ add_name k xs)) (below 0 (omega arith)) ∙ ap (λ ks. x ∷ ks) (added_at k xs i (below_rest k x xs i below) (omega arith) (λ lt. is (omega arith)))
-
-pub there_already : (k : List ℕ) (xs : List (List ℕ)) (i : ℕ) → AreBelow k xs i → i < length xs → bytes_cmp k (slice_index_or xs i []) ≡ Equal → add_name k xs ≡ xs
-there_already k [] i below lt is = absurd (omega arith)
-there_already k (x ∷ xs) zero below lt is = ap (λ o. by_order o (k ∷ x ∷ xs) (x ∷ xs) (x ∷ add_name k xs)) is
-there_already k (x ∷ xs) (suc i) below lt is = ap (λ o. by_order o (k ∷ x ∷ xs) (x ∷ xs) (x ∷ add_name k xs)) (below 0 (omega arith)) ∙ ap (λ ks. x ∷ ks) (there_already k xs i (below_rest k x xs i below) (omega arith) is)
 
 pub map-insert_at : {A B : Type 0} (f : A → B) (xs : List A) (i : ℕ) (y : A) → map f (insert_at xs i y) ≡ insert_at (map f xs) i (f y)
 map-insert_at f [] zero y = refl
@@ -105,9 +91,6 @@ found_more name puts i p o lt is = ap (λ (l : List Put). last_put name l o) (dr
 
 pub named_more : (puts : List Put) (i : ℕ) (p : Put) → i < length puts → p ≡ get_or puts i p → keys (after empty (take (i + 1) puts)) ≡ add_name (string_bytes p.0) (keys (after empty (take i puts)))
 named_more puts i p lt is = ap (λ (l : List Put). keys (after empty l)) (take_more puts i p lt ∙ ap (λ (q : Put). take i puts ++ q ∷ []) (sym is)) ∙ ap keys (after-push (take i puts) empty p) ∙ keys-insert (after empty (take i puts)) (string_bytes p.0) p.1.items
-
-pub below_more : (k : List ℕ) (xs : List (List ℕ)) (i : ℕ) → AreBelow k xs i → bytes_cmp k (slice_index_or xs i []) ≡ Greater → AreBelow k xs (i + 1)
-below_more k xs i below here j lt = elim (cases_eq j i) [ inl same ↦ ap (λ n. bytes_cmp k (slice_index_or xs n [])) same ∙ here | inr other ↦ below j (omega arith) ]
 
 -- the comparison with the name at a place
 pub compared_at : (names : List (String Global)) (i : ℕ) (s : String Global) (k : List ℕ) (o : Ordering) → i < length names → s ≡ get_or names i s → o ≡ bytes_cmp k (string_bytes s) → bytes_cmp k (slice_index_or (map string_bytes names) i []) ≡ o

@@ -1,13 +1,14 @@
 -- A folder of files: what it holds, and what its calls do to that.
-use Rattle.std.specs.Prelude.{◌≡◌, ◌⊎◌, ℕ, List, Bool, not, ◌&&◌, ◌==◌, ◌||◌, codes, length, nat_lt}
+use Rattle.std.specs.Prelude.{◌≡◌, ◌⊎◌, ℕ, ◌<◌, List, [], ◌∷◌, slice_index_or, Bool, not, ◌&&◌, ◌==◌, ◌||◌, codes, length, nat_lt, nat_eq}
 use Rattle.std.specs.declared.cmp.Ordering.{Ordering}
+use Rattle.std.specs.declared.cmp.Ordering.TheVariants.{Greater}
 use Rattle.std.specs.Ordering.{nat_cmp}
 use Rattle.std.specs.Cmp.Lexicographic.{slice_cmp}
 use Rattle.std.specs.FinMap.{FinMap, insert}
+use Rattle.std.specs.FinMap.Entries.{by_order}
 use Rattle.std.specs.List.{list_any}
 use Rattle.tw_world.specs.Crash.{CrashModel}
 use lib.Pointwise.{pointwise}
-use Rattle.std.specs.Prelude.{nat_eq}
 
 -- byte order
 abbrev pub bytes_cmp : List ℕ → List ℕ → Ordering
@@ -33,3 +34,14 @@ abbrev pub is_file_name : List ℕ → Bool
 is_file_name name =
     nat_lt 0 (length name) && not (same_bytes name (codes ".")) && not (same_bytes name (codes ".."))
     && not (list_any (λ b. (b == 47) || (b == 0)) name)
+
+-- ---- names that rise
+
+-- the name among names that rise, where it was not
+abbrev pub add_name : List ℕ → List (List ℕ) → List (List ℕ)
+add_name k [] = k ∷ []
+add_name k (x ∷ xs) = by_order (bytes_cmp k x) (k ∷ x ∷ xs) (x ∷ xs) (x ∷ add_name k xs)
+
+-- the names before a place are below the name
+abbrev pub AreBelow : List ℕ → List (List ℕ) → ℕ → Type 0
+AreBelow k xs i = (j : ℕ) → j < i → bytes_cmp k (slice_index_or xs j []) ≡ Greater

@@ -1,13 +1,11 @@
 -- A folder in memory: what it means, and the laws of that.
-use Rattle.std.specs.Prelude.{◌≡◌, ◌≤◌, ℕ, Bool, List, [], ◌∷◌, ◌++◌, true, length, take, Option, Some, cond, ◌<◌, slice_index_or}
+use Rattle.std.specs.Prelude.{◌≡◌, ◌≤◌, ℕ, Bool, List, [], ◌∷◌, ◌++◌, true, length, take, Option, Some, cond}
 use Rattle.std.specs.FinMap.{empty, insert}
-use Rattle.std.specs.FinMap.Entries.{by_order}
-use Rattle.std.specs.declared.cmp.Ordering.TheVariants.{Greater}
 use Rattle.std.proofs.Common.{arith, sym, ◌∙◌, ap, String, Vec, Global}
 use Rattle.std.specs.String.{string_bytes}
 use Rattle.std.proofs.lemmas.List.{take_all}
 use Rattle.tw_world.specs.Calls.{is_named, counted, failed}
-use Rattle.tw_world.specs.Folder.{Files, FolderModel, same_bytes, bytes_cmp}
+use Rattle.tw_world.specs.Folder.{Files, FolderModel, same_bytes}
 use Rattle.tw_world.specs.declared.memory_folder.MemoryFolder.{MemoryFolder}
 
 -- a file that was put: its name and its bytes
@@ -47,15 +45,6 @@ folder_only_now folder c (k, le, more, is) = is ∙ ap (after empty) (take_all k
 abbrev pub last_put : List ℕ → List Put → Option (List ℕ) → Option (List ℕ)
 last_put name [] so_far = so_far
 last_put name (p ∷ puts) so_far = last_put name puts (cond (same_bytes name (string_bytes p.0)) (Some p.1.items) so_far)
-
--- the name among names that rise, where it was not
-abbrev pub add_name : List ℕ → List (List ℕ) → List (List ℕ)
-add_name k [] = k ∷ []
-add_name k (x ∷ xs) = by_order (bytes_cmp k x) (k ∷ x ∷ xs) (x ∷ xs) (x ∷ add_name k xs)
-
--- the names before a place are below the name
-abbrev pub AreBelow : List ℕ → List (List ℕ) → ℕ → Type 0
-AreBelow k xs i = (j : ℕ) → j < i → bytes_cmp k (slice_index_or xs j []) ≡ Greater
 
 -- one file more was put
 pub record IsPut (name bytes : List ℕ) (old new : List Put) : Type 0 where

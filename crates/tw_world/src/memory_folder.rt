@@ -5,9 +5,9 @@ ghost use Rattle.std.specs.String.{string_bytes};
 ghost use Rattle.std.specs.FinMap.{get, insert, keys, empty};
 ghost use Rattle.tw_world.specs.Disk.{Rose};
 ghost use Rattle.tw_world.specs.Crash.{Tells, Settled, Steps, Reads};
-ghost use Rattle.tw_world.specs.Folder.{bytes_cmp, same_bytes, Replaced, is_file_name};
+ghost use Rattle.tw_world.specs.Folder.{bytes_cmp, same_bytes, add_name, Replaced, is_file_name};
 ghost use Rattle.tw_world.specs.Calls.{next_count};
-ghost use Rattle.tw_world.specs.MemoryFolder.{after, last_put, add_name, IsPut};
+ghost use Rattle.tw_world.specs.MemoryFolder.{after, last_put, IsPut};
 
 use crate::calls::Calls;
 use crate::{Folder, FolderError, Memory};

@@ -1,7 +1,7 @@
 use Rattle.std.proofs.Common.{◌∙◌, ap, sym, arith, map, length, List, ℕ, get_or}
 use Rattle.std.specs.String.{string_bytes}
 use Rattle.tw_world.specs.MemoryFolder.{Put}
-use Rattle.tw_world.specs.MemoryFolder.{add_name}
+use Rattle.tw_world.specs.Folder.{add_name}
 use Rattle.tw_world.proofs.Puts.{named_more, none_named}
 use Rattle.tw_world.proofs.memory_folder.names_of.Goals as goal
 

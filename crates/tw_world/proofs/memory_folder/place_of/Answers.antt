@@ -2,7 +2,8 @@ use Rattle.std.proofs.Common.{◌<◌, ◌∙◌, sym, arith, map, length}
 use Rattle.std.proofs.lemmas.List.{length-map}
 use Rattle.std.specs.String.{string_bytes}
 use Rattle.std.specs.declared.cmp.Ordering.TheVariants.{Less, Equal, Greater}
-use Rattle.tw_world.proofs.Puts.{added_at, there_already, below_more, compared_at}
+use Rattle.tw_world.proofs.Puts.{compared_at}
+use Rattle.tw_world.proofs.RisingNames.{added_at, there_already, below_more}
 use Rattle.tw_world.proofs.memory_folder.place_of.Goals as goal
 
 pub returns-in-Less-clause-absent : goal.returns-in-Less-clause-absent

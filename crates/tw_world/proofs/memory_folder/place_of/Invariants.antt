@@ -1,6 +1,6 @@
 use Rattle.std.proofs.Common.{map}
 use Rattle.std.specs.String.{string_bytes}
-use Rattle.tw_world.specs.MemoryFolder.{AreBelow}
+use Rattle.tw_world.specs.Folder.{AreBelow}
 use Rattle.tw_world.proofs.memory_folder.place_of.Given as goal
 
 abbrev pub invariant-loop-at : goal.invariant-loop-at
