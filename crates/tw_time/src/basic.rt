@@ -36,11 +36,19 @@ pub fn print_basic(at: u64) -> [u8; 16]
 
 /// The moment of a text in the basic format of ISO 8601, as `20260304T100000Z`: 16 bytes, and a
 /// day and time that exist.
-#[tactic(auto, unfolding(crate::specs::Basic::basic_moment))]
 pub fn read_basic(text: &str) -> Option<u64>
     ensures value { result ≡ basic_moment text.now }
     ensures in_range { IfSome result (λ at. at < limit) }
 {
-    let parts = filled(b"YYYYMMDDThhmmssZ", text.as_bytes())?;
+    read_basic_bytes(text.as_bytes())
+}
+
+/// The same, of the bytes of a text.
+#[tactic(auto, unfolding(crate::specs::Basic::basic_moment))]
+pub fn read_basic_bytes(text: &[u8]) -> Option<u64>
+    ensures value { result ≡ basic_moment text.now }
+    ensures in_range { IfSome result (λ at. at < limit) }
+{
+    let parts = filled(b"YYYYMMDDThhmmssZ", text)?;
     at_civil(parts, &Zone::utc()).ok()
 }

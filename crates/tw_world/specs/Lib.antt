@@ -1,8 +1,11 @@
 pub mod Calls
+pub mod Crash
 pub mod Disk
 pub mod Failing
+pub mod Folder
 pub mod Ids
 pub mod Memory
+pub mod MemoryFolder
 pub mod MemoryPeer
 pub mod MemorySink
 pub mod MemorySource
@@ -12,3 +15,4 @@ pub mod Replay
 pub mod Sink
 pub mod Source
 pub mod Text
+pub mod Turns

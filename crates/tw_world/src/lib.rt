@@ -6,8 +6,10 @@
 mod calls;
 mod disk;
 mod failing;
+mod folder;
 mod ids;
 mod memory;
+mod memory_folder;
 mod memory_peer;
 mod memory_sink;
 mod memory_source;
@@ -19,8 +21,10 @@ mod texts;
 
 pub use disk::{Disk, DiskError};
 pub use failing::FailingDisk;
+pub use folder::{Folder, FolderError};
 pub use ids::IdWords;
 pub use memory::MemoryDisk;
+pub use memory_folder::MemoryFolder;
 pub use memory_peer::MemoryPeer;
 pub use memory_sink::MemorySink;
 pub use memory_source::MemorySource;

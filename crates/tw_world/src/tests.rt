@@ -1,6 +1,6 @@
 use crate::{
-    Disk, DiskError, FailingDisk, IdWords, MemoryDisk, MemoryPeer, MemorySink, MemorySource,
-    Moment, Peer, Sink, Source, StreamError, Text,
+    Disk, DiskError, FailingDisk, Folder, FolderError, IdWords, MemoryDisk, MemoryFolder,
+    MemoryPeer, MemorySink, MemorySource, Moment, Peer, Sink, Source, StreamError, Text,
 };
 use std::collections::BTreeMap;
 use std::test::Fail;
@@ -137,4 +137,50 @@ fn a_source_gives_and_a_sink_gets(rt: HostRuntime) -> Result<(), Fail> {
     assert_eq!(rt; source.read(&mut out), Ok(1));
     assert_eq!(rt; source.read(&mut out), Ok(0));
     Ok(())
+}
+
+#[test]
+fn a_folder_keeps_the_last_bytes_of_each_name(rt: HostRuntime) -> Result<(), Fail> {
+    let alloc = rt.alloc();
+    let mut content = Vec::new(alloc);
+    content.push((String::from_str(alloc, "b")?, [7].to_vec(alloc)?))?;
+    content.push((String::from_str(alloc, "a")?, [3].to_vec(alloc)?))?;
+    content.push((String::from_str(alloc, "b")?, [1, 2].to_vec(alloc)?))?;
+    let mut folder = MemoryFolder::new(alloc, content, [0, 2].to_vec(alloc)?)?;
+    assert_eq!(rt; folder.replace("b", &[9]), Err(FolderError::Failed));
+    assert_eq!(rt; folder.replace("c", &[]), Ok(()));
+    assert!(rt; folder.names(alloc).is_err());
+    assert!(rt;
+        folder
+            .read(alloc, "b")
+            .is_ok_and(|file| is_file(&file, &[1, 2]))
+    );
+    assert_eq!(rt; folder.replace("b", &[4]), Ok(()));
+    assert!(rt;
+        folder
+            .read(alloc, "b")
+            .is_ok_and(|file| is_file(&file, &[4]))
+    );
+    assert!(rt;
+        folder
+            .read(alloc, "c")
+            .is_ok_and(|file| is_file(&file, &[]))
+    );
+    assert!(rt; folder.read(alloc, "d").is_ok_and(|file| file.is_none()));
+    let names = folder.names(alloc).ok().ok_or("no names")?;
+    for at in 0..names.len() {
+        assert_eq!(rt;
+            names[at].as_bytes(),
+            [b"a", b"b", b"c"].get(at).ok_or("a fourth")?.as_slice()
+        );
+    }
+    assert_eq!(rt; names.len(), 3);
+    Ok(())
+}
+
+fn is_file(file: &Option<Vec<u8>>, bytes: &[u8]) -> bool {
+    match file {
+        Some(found) => found.as_slice() == bytes,
+        None => false,
+    }
 }
