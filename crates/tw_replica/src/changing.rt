@@ -1,11 +1,10 @@
 // Changes of a replica in memory.
-ghost use Rattle.std.specs.Prelude.{◌≡◌, ◌++◌, ◌||◌, ◌<◌, ◌+◌, List, ℕ, length, take, drop, Some, IfOk, OnOk};
+ghost use Rattle.std.specs.Prelude.{◌≡◌, ◌++◌, ◌||◌, ◌<◌, ◌+◌, true, false, List, ℕ, length, take, drop, Some, IfOk, OnOk};
+ghost use Rattle.std.specs.List.{AllByRecursion};
 ghost use Rattle.std.specs.BTreeSet as set;
 ghost use Rattle.tw_model.specs.Maps.{bytes_cmp, same_bytes};
 ghost use Rattle.tw_model.specs.LocalOps.{take_back_all};
 ghost use Rattle.tw_model.specs.Changes.{changed, changed_all, ops_of, ops_of_all, group_of};
-ghost use Rattle.std.specs.List.{AllByRecursion};
-ghost use Rattle.std.specs.Prelude.{true, false};
 ghost use Rattle.tw_model.specs.Ops.{TasksValue};
 ghost use Rattle.tw_replica.specs.Body.{IsOp, body_of};
 ghost use Rattle.tw_replica.specs.Body.Step.{Commit, Undo};

@@ -10,7 +10,7 @@ use tw_model::{Change, Op, Tasks};
 use tw_world::{Memory, Moment};
 use uuid::Uuid;
 
-/// A replica whose tasks are being changed, in memory.
+/// A replica whose tasks are being changed, in memory. Dropping it leaves the file as it was.
 #[derive(Drop)]
 pub struct Editing {
     pub(crate) journal: Journal,
@@ -51,7 +51,8 @@ impl Editing {
         &self.core.tasks
     }
 
-    /// Makes changes, one after another.
+    /// Makes changes, one after another, each of what those before it leave. Their updates are stamped with the moment `at`.
+    /// After want of memory a part of them may be made, and it is to be dropped.
     pub fn make(&mut self, alloc: Global, changes: Vec<Change>, at: Moment) -> Result<(), Memory>
         ensures { OnOk result ((old : AnyReplica) (made : List AnyChange) → IsEditing old made at self.old → IsEditing old (made ++ changes.items) at self.new) }
     {

@@ -11,7 +11,7 @@ use tw_model::{Op, Tasks};
 use tw_world::{Disk, Memory};
 use uuid::Uuid;
 
-/// A replica after a step whose record is not written yet. It has taken all the memory that the step wants.
+/// A replica after a step whose record is not written yet. It has taken all the memory that the step wants; dropping it leaves the file as it was.
 #[derive(Drop)]
 pub struct Prepared {
     journal: Journal,
@@ -25,7 +25,7 @@ impl Replica {
     ghost use Rattle.tw_replica.specs.Body.Step.{Undo};
     ghost use Rattle.tw_replica.specs.Prepared.{IsPrepared, TakingBackRefused};
 
-    /// Takes the last group back in memory. Nothing is written yet.
+    /// Takes the last group back in memory. Nothing is written yet, and where it is refused the file stays as it was.
     pub fn take_back(self, alloc: Global) -> Result<Prepared, ReplicaError>
         ensures prepared { IfOk result (IsPrepared self Undo) }
         ensures refused { IfErr result (TakingBackRefused self) }
@@ -102,7 +102,7 @@ impl Prepared {
         &self.core.pending
     }
 
-    /// Writes the record of the step, if there is one. It takes no memory.
+    /// Writes the record of the step, if there is one. It takes no memory. After a fault of the disk the file has to be opened again.
     pub fn write<D: Disk>(self, disk: &mut D) -> Result<Replica, JournalError>
         requires length { IsLengthReady D.model self disk.old }
         ensures state { IfOk result (λ replica. held_state replica ≡ prepared_state self) }
