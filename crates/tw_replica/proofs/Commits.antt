@@ -1,12 +1,11 @@
 -- Changes made in the tasks of a replica are a commit of their operations.
-use Rattle.std.proofs.Common.{◌≡◌, ◌∙◌, ap, refl, sym, subst, ℕ, ◌+◌, Bool, true, false, cond, ◌&&◌, ◌||◌, append_assoc, List, [], ◌∷◌, ◌++◌, Option, Some, None}
+use Rattle.std.proofs.Common.{◌≡◌, ◌∙◌, ap, refl, sym, ℕ, ◌+◌, Bool, true, false, cond, ◌||◌, append_assoc, List, [], ◌∷◌, ◌++◌, Option, Some, None}
 use Rattle.std.specs.Option.{option_eq}
 use Rattle.std.specs.FinMap.{get, empty}
-use Rattle.std.specs.List.{AllByRecursion}
 use Rattle.tw_world.specs.declared.Moment.{Moment}
 use Rattle.tw_model.specs.Maps.{same_bytes}
 use Rattle.tw_model.specs.Ops.{TaskValue, TasksValue}
-use Rattle.tw_model.specs.Edits.{edits_at, edits_of, keys_of_both}
+use Rattle.tw_model.specs.Edits.{edits_at, keys_of_both}
 use Rattle.tw_model.specs.LocalOps.{apply_local, apply_all_local, FitAllLocal}
 use Rattle.tw_model.specs.declared.Op.{Op}
 use Rattle.tw_model.specs.declared.Op.TheVariants.{Create, Delete, Update, UndoPoint}

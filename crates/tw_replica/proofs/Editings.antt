@@ -1,6 +1,5 @@
 -- Changes that were made in memory are a step of the replica.
-use Rattle.std.proofs.Common.{◌≡◌, ◌∙◌, ap, refl, sym, subst, ℕ, Bool, true, false, List, [], ◌∷◌, ◌++◌, Some}
-use Rattle.std.specs.Global.{Vec}
+use Rattle.std.proofs.Common.{◌≡◌, ◌∙◌, ap, refl, sym, subst, Bool, true, false, List, ◌++◌, Some}
 use Rattle.std.specs.List.{AllByRecursion}
 use Rattle.tw_world.specs.declared.Moment.{Moment}
 use Rattle.tw_model.specs.Ops.{TasksValue}
@@ -8,13 +7,13 @@ use Rattle.tw_model.specs.declared.Op.{Op}
 use Rattle.tw_model.specs.Changes.{changed_all, ops_of_all, group_of}
 use Rattle.tw_model.specs.declared.Change.{Change}
 use Rattle.tw_model.proofs.Leading.{changed_all-append, ops_of_all-append}
-use Rattle.tw_replica.specs.Body.{Step, body_of, IsOp, is_group, IsStep}
+use Rattle.tw_replica.specs.Body.{IsOp, is_group, IsStep}
 use Rattle.tw_replica.specs.Body.Step.{Commit}
 use Rattle.tw_replica.specs.Settle.{settled}
 use Rattle.tw_replica.specs.Settled.{IsSettledIn, IsReadyFor}
 use Rattle.tw_replica.specs.State.{is_idle, packed_if, committed}
 use Rattle.tw_replica.specs.Core.{state_of}
-use Rattle.tw_replica.specs.Prepared.{IsEditing, ChangedAmong, step_bodies}
+use Rattle.tw_replica.specs.Prepared.{IsEditing, ChangedAmong}
 use Rattle.tw_replica.specs.declared.held.Core.{Core}
 use Rattle.tw_replica.specs.declared.editing.Editing.{Editing}
 use Rattle.tw_replica.specs.declared.replica.Replica.{Replica}

@@ -1,0 +1,91 @@
+// Steps that are made in memory, and then written.
+ghost use Rattle.std.specs.Prelude.{◌≡◌, IfOk};
+
+use super::{ADDED, milk};
+use crate::{Prepared, Replica, ReplicaError};
+use std::alloc::Global;
+use std::test::Fail;
+use tw_model::{Change, TaskMap};
+use tw_world::{Memory, MemoryDisk, Moment};
+
+// The step by which the one task gets a status.
+fn with_status(
+    alloc: Global,
+    replica: Replica,
+    status: &str,
+    renumber: bool,
+) -> Result<Prepared, Memory>
+    ensures { IfOk result (λ prepared. prepared.journal ≡ replica.journal) }
+{
+    let mut task = TaskMap::new(alloc);
+    task.set(alloc, "status", Some(status))?;
+    let mut changes = Vec::new(alloc);
+    changes.push(Change {
+        uuid: milk(),
+        task: Some(task),
+    })?;
+    let Some(at) = Moment::new(1_700_000_000, 0) else {
+        return Err(Memory);
+    };
+    let mut editing = replica.edit(alloc);
+    editing.make(alloc, changes, at)?;
+    editing.prepare(alloc, renumber)
+}
+
+#[test]
+fn a_step_is_made_in_memory_and_then_written(rt: HostRuntime) -> Result<(), Fail> {
+    let alloc = rt.alloc();
+    let mut disk = MemoryDisk::new(alloc, ADDED[..13].to_vec(alloc)?, Vec::new(alloc))?;
+    let replica = Replica::open(alloc, &mut disk)?;
+    let prepared = with_status(alloc, replica, "pending", false)?;
+    assert_eq!(rt; prepared.tasks().len(), 1);
+    assert_eq!(rt; prepared.pending().len(), 3);
+    assert_eq!(rt; prepared.numbers().as_slice(), [Some(milk())].as_slice());
+    assert_eq!(rt; disk.bytes().len(), 13);
+    assert!(rt; prepared.write(&mut disk).is_ok());
+    assert_eq!(rt; disk.bytes(), ADDED.as_slice());
+    Ok(())
+}
+
+// Each row is a status that the pending task gets, whether the places are packed, how many there are then, and how many
+// bytes its record has with its gate and length.
+#[test]
+fn a_step_that_changes_nothing_writes_nothing(rt: HostRuntime) -> Result<(), Fail> {
+    let alloc = rt.alloc();
+    let table = [
+        ("pending", false, 1, 0),
+        ("pending", true, 1, 11),
+        ("completed", false, 1, 77),
+        ("completed", true, 0, 77),
+    ];
+    for (status, renumber, places, bytes) in table {
+        let mut disk = MemoryDisk::new(alloc, ADDED.to_vec(alloc)?, Vec::new(alloc))?;
+        let replica = Replica::open(alloc, &mut disk)?;
+        let prepared = with_status(alloc, replica, status, renumber)?;
+        assert_eq!(rt; prepared.numbers().len(), places, "{status}");
+        assert!(rt; prepared.write(&mut disk).is_ok());
+        assert_eq!(rt; disk.bytes().len(), 94 + bytes, "{status}");
+    }
+    Ok(())
+}
+
+#[test]
+fn the_last_group_is_taken_back_in_memory(rt: HostRuntime) -> Result<(), Fail> {
+    let alloc = rt.alloc();
+    let mut disk = MemoryDisk::new(alloc, ADDED.to_vec(alloc)?, Vec::new(alloc))?;
+    let prepared = Replica::open(alloc, &mut disk)?.take_back(alloc)?;
+    assert_eq!(rt; prepared.tasks().len(), 0);
+    assert_eq!(rt; prepared.pending().len(), 0);
+    assert_eq!(rt; prepared.numbers().as_slice(), [None].as_slice());
+    assert_eq!(rt; disk.bytes(), ADDED.as_slice());
+    assert!(rt; prepared.write(&mut disk).is_ok());
+    assert_eq!(rt; disk.bytes().get(94..), Some([1, 0, 0, 0, 1, 2].as_slice()));
+
+    let mut disk = MemoryDisk::new(alloc, ADDED[..13].to_vec(alloc)?, Vec::new(alloc))?;
+    let replica = Replica::open(alloc, &mut disk)?;
+    assert_eq!(rt;
+        replica.take_back(alloc).err(),
+        Some(ReplicaError::NothingToUndo)
+    );
+    Ok(())
+}
