@@ -1,0 +1,14 @@
+pub mod Body
+pub mod Reading
+pub mod Interval
+pub mod Placing
+pub mod Line
+pub mod Month
+pub mod Rows
+pub mod Months
+pub mod Undoing
+pub mod Loading
+pub mod Tail
+pub mod History
+pub mod Held
+pub mod Writing

@@ -1,0 +1,24 @@
+//! Intervals in month files, with a journal of their changes.
+//! A month file is read and written by one grammar, a change is whole or not there at any crash, and an undo gives back the bytes.
+//! It stands on tw_journal (records on a disk), tw_time (moments) and tw_world (folders).
+#![tactic(auto)]
+
+mod body;
+mod fields;
+mod interval;
+mod intervals;
+mod line;
+mod load;
+mod month;
+mod months;
+mod name;
+mod record;
+mod tail;
+mod write;
+mod writing;
+
+pub use interval::{Interval, Texts};
+pub use intervals::Intervals;
+pub use month::{MonthError, in_order, read_month};
+pub use months::write_month;
+pub use writing::put_line;

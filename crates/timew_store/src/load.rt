@@ -1,0 +1,115 @@
+// Loading a store: the last change is finished.
+ghost use Rattle.std.specs.Prelude.{◌≡◌, ◌⊎◌, List, ℕ, OnOk, IfOk, IsErrOf, true, false, Some};
+ghost use Rattle.tw_world.specs.Disk.{Rose, Untouched};
+ghost use Rattle.tw_world.specs.Disk as tells;
+ghost use Rattle.tw_world.specs.Turns.{InTurns, crash_of};
+ghost use Rattle.tw_journal.specs.Journal.{IsOpenOn, is_closed, journal_end};
+ghost use Rattle.timew_store.specs.Body.{names_rise};
+ghost use Rattle.tw_world.specs.Crash.{Tells, Settled, LeavesOnly, Kept, Reads};
+ghost use Rattle.tw_world.specs.Folder.{same_bytes, is_file_name};
+ghost use Rattle.timew_store.specs.Held.{magic, bytes_of, finished_file, finished};
+ghost use Rattle.timew_store.specs.Loading.{IsFinishedTo, IsLoaded, OpensAlike, last_of};
+ghost use Rattle.timew_store.specs.Writing.{change_of, changes_of, AreFileNames};
+
+use crate::body::read_record;
+use crate::fields::ReadError;
+use crate::write::{NewFile, StoreError};
+use std::alloc::Global;
+use tw_journal::{Journal, JournalError};
+use tw_world::{Disk, Folder, FolderError};
+
+// Whether a file has these bytes. One that is not there has none.
+fn has_bytes<F: Folder>(
+    alloc: Global,
+    folder: &mut F,
+    name: &str,
+    bytes: &[u8],
+) -> Result<bool, FolderError>
+    requires { is_file_name name.now ≡ true }
+    ensures value { IfOk result (λ has. Tells F.model folder.old → has ≡ same_bytes (bytes_of (F.model.seen folder.old) name.now) bytes.now) }
+    ensures reads { Reads F.model folder.old folder.new }
+    ensures failed { IsErrOf result FolderError.Failed → Rose (F.model.faults folder.old) (F.model.faults folder.new) }
+{
+    match folder.read(alloc, name)? {
+        Some(file) => Ok(&file[..] == bytes),
+        None => Ok(bytes.len() == 0),
+    }
+}
+
+// Gives a file of a change its new bytes, where it has its old ones.
+fn finish_file<F: Folder>(alloc: Global, folder: &mut F, file: &NewFile) -> Result<(), FolderError>
+    requires { is_file_name file.now.name ≡ true }
+    ensures done { OnOk result (Tells F.model folder.old → F.model.seen folder.new ≡ finished_file (F.model.seen folder.old) (change_of file.now)) }
+    ensures settled { OnOk result (Tells F.model folder.old → Settled F.model folder.old → Settled F.model folder.new) }
+    ensures any_moment { Tells F.model folder.old → Settled F.model folder.old → LeavesOnly F.model folder.old folder.new (λ x. (x ≡ F.model.seen folder.old) ⊎ (x ≡ finished_file (F.model.seen folder.old) (change_of file.now))) }
+    ensures kept { Kept F.model folder.old folder.new }
+    ensures failed { IsErrOf result FolderError.Failed → Rose (F.model.faults folder.old) (F.model.faults folder.new) }
+{
+    if has_bytes(alloc, folder, file.name.as_str(), &file.old)? {
+        folder.replace(file.name.as_str(), &file.new)?;
+    }
+    Ok(())
+}
+
+// Finishes a change.
+pub fn finish<F: Folder>(
+    alloc: Global,
+    folder: &mut F,
+    files: &Vec<NewFile>,
+) -> Result<(), FolderError>
+    requires { AreFileNames files.now.items }
+    ensures done { OnOk result (Tells F.model folder.old → F.model.seen folder.new ≡ finished (F.model.seen folder.old) (changes_of files.now.items)) }
+    ensures settled { OnOk result (Tells F.model folder.old → Settled F.model folder.old → Settled F.model folder.new) }
+    ensures any_moment { Tells F.model folder.old → Settled F.model folder.old → LeavesOnly F.model folder.old folder.new (IsFinishedTo (changes_of files.now.items) (F.model.seen folder.old)) }
+    ensures kept { Kept F.model folder.old folder.new }
+    ensures failed { IsErrOf result FolderError.Failed → Rose (F.model.faults folder.old) (F.model.faults folder.new) }
+{
+    for file in files {
+        finish_file(alloc, folder, file)?;
+    }
+    Ok(())
+}
+
+// What the last record does to the files.
+fn last_files<D: Disk>(
+    alloc: Global,
+    journal: &Journal,
+    disk: &mut D,
+) -> Result<Vec<NewFile>, StoreError>
+    requires length { is_closed journal.now ≡ false → D.model.len disk.old ≡ journal_end journal.now }
+    ensures value { IfOk result (λ files. (bodies : List (List ℕ)) → IsOpenOn D.model magic journal.now disk.old bodies → last_of bodies ≡ Some (changes_of files.items)) }
+    ensures names { IfOk result (λ files. AreFileNames files.items) }
+    ensures rise { IfOk result (λ files. names_rise (changes_of files.items) ≡ true) }
+    ensures untouched { Untouched D.model disk.old disk.new }
+{
+    let count = journal.count();
+    if count == 0 {
+        return Ok(Vec::new(alloc));
+    }
+    let body = journal.body(alloc, disk, count - 1)?;
+    match read_record(alloc, &body) {
+        Ok(held) => Ok(held.into_files()),
+        Err(ReadError::Memory) => Err(StoreError::Memory),
+        Err(ReadError::Malformed) => {
+            let offset = journal.offset(disk, count - 1)?;
+            Err(StoreError::Journal(JournalError::Damaged { offset }))
+        }
+    }
+}
+
+// Opens the journal and finishes the last change.
+pub fn open_and_finish<F: Folder, D: Disk>(
+    alloc: Global,
+    folder: &mut F,
+    disk: &mut D,
+) -> Result<Journal, StoreError>
+    ensures loaded { IfOk result (λ journal. Tells F.model folder.old → Settled F.model folder.old → tells.Tells D.model disk.old → IsLoaded F.model D.model folder.old folder.new disk.old disk.new journal) }
+    ensures any_moment { Tells F.model folder.old → Settled F.model folder.old → tells.Tells D.model disk.old → InTurns F.model (crash_of D.model) (OpensAlike F.model D.model folder.old disk.old) folder.old disk.old folder.new disk.new }
+{
+    let journal = Journal::open(alloc, disk, b"TIMEWJ01")?;
+    let files = last_files(alloc, &journal, disk)?;
+    if let Err(error) = finish(alloc, folder, &files) {
+        return Err(StoreError::from(error));
+    }
+    Ok(journal)
+}
