@@ -1,5 +1,5 @@
 -- What a run does to the agreement of a replica with the chain.
-use Rattle.std.proofs.Common.{◌≡◌, ◌⊎◌, inl, inr, ⊎_elim, ◌∙◌, sym, subst, refl, List, ℕ, ◌++◌, false, IsTrue, Option, Some, None, Result, Ok, Err}
+use Rattle.std.proofs.Common.{◌≡◌, ◌⊎◌, inl, inr, ⊎_elim, sym, subst, refl, List, ℕ, ◌++◌, IsTrue, Option, Some, None, Result, Ok, Err}
 use Rattle.tw_world.specs.Disk.{DiskModel, Tells, LeavesOnly}
 use Rattle.tw_world.specs.Sink.{SinkModel}
 use Rattle.tw_world.proofs.Moments.{CountsNow, weaker}
@@ -7,7 +7,7 @@ use Rattle.tw_journal.specs.Open.{Records, IsImageThen}
 use Rattle.tw_journal.proofs.Unique.{one_records}
 use Rattle.tw_protocol.specs.Chain.{Version, Grows}
 use Rattle.tw_http.specs.Link.{LinkModel, IsHonest, IsChainOf, IsServedChain}
-use Rattle.tw_replica.specs.State.{State, Stands}
+use Rattle.tw_replica.specs.State.{State}
 use Rattle.tw_replica.specs.Replica.{magic, OpensTo, OpensToEither}
 use Rattle.tw_sync.specs.Answers.{IsLinkKept}
 use Rattle.tw_sync.specs.Fold.{Agrees}
@@ -16,20 +16,30 @@ use Rattle.tw_sync.specs.declared.report.SyncReport.{SyncReport}
 use Rattle.tw_sync.proofs.Folds.{agrees_is_kept}
 use Rattle.tw_sync.proofs.Steps.{commit_agrees, undo_agrees}
 use Rattle.tw_sync.proofs.Ends.{sync_end_agrees}
-use Rattle.tw_cli.specs.Command.{add_ops, next_of, bodies_of}
-use Rattle.tw_cli.specs.Run.{HasMore, CarriedOut}
-use Rattle.tw_cli.specs.Crash.{LeavesRecords, IsStepOf, LeavesBy, LeavesOneEnd}
+use Rattle.tw_world.specs.declared.ids.IdWords.{IdWords}
+use Rattle.tw_model.specs.Changes.{ops_of_all, group_of}
+use Rattle.tw_replica.specs.State.{applied}
+use Rattle.tw_replica.specs.Prepared.{step_bodies}
+use Rattle.tw_commands.specs.Plan.{Plan, Work, step_in}
+use Rattle.tw_commands.specs.Plan.Work.{Changes, TakeBack}
+use Rattle.tw_commands.specs.Commands.{plan_of}
+use Rattle.tw_commands.specs.Carried.{Carried, carried_by, carried_out}
+use Rattle.tw_commands.specs.declared.request.Request.{Request}
+use Rattle.tw_commands.specs.declared.refusal.Refusal.{Refusal}
+use Rattle.tw_commands.proofs.Applied.{by_plan}
+use Rattle.tw_cli.specs.Opening.{HasMore}
+use Rattle.tw_cli.specs.Run.{CarriedOut}
+use Rattle.tw_cli.specs.Crash.{LeavesRecords, IsStepOf, LeavesBy, LeavesOneEnd, new_of, next_of}
 use Rattle.tw_cli.specs.Syncing.{Synced}
-use Rattle.tw_cli.specs.Whole.{NothingDone, RunGives, RunLeaves}
-use Rattle.tw_cli.proofs.Openings.{leaves_either}
-use Rattle.tw_cli.specs.Agreement.{IsHonestFor, OpensAgreeing, AllAgree, AgreementStays}
-use Rattle.tw_cli.specs.declared.job.Job.{Job}
-use Rattle.tw_cli.specs.declared.job.Job.TheVariants.{Local, Sync}
-use Rattle.tw_cli.specs.declared.command.Command.{Command}
-use Rattle.tw_cli.specs.declared.command.Command.TheVariants.{Add, Undo, Count, Export}
+use Rattle.tw_cli.specs.Whole.{went, RunGives, RunLeaves, IsHonestFor, IsRun}
+use Rattle.tw_cli.specs.Agreement.{OpensAgreeing, AllAgree, AgreementStays}
+use Rattle.tw_cli.specs.declared.asked.Job.{Job}
+use Rattle.tw_cli.specs.declared.asked.Job.TheVariants.{Here, Sync}
+use Rattle.tw_cli.specs.declared.asked.LineError.{LineError}
 use Rattle.tw_cli.specs.declared.server.Server.{Server}
 use Rattle.tw_cli.specs.declared.cause.Cause.{Cause}
 use Rattle.tw_cli.specs.declared.cause.Cause.TheVariants.{Done, OutFault}
+use Rattle.tw_cli.proofs.Openings.{opens_one, leaves_either}
 
 some_is : (a b : State) → Some a ≡ Some b → a ≡ b
 some_is a b e = cc
@@ -41,24 +51,29 @@ no_state s e = absurd (cc)
 abbrev LeadsAgreeing : List Version → Option State → Type 0
 LeadsAgreeing chain next = (s : State) → next ≡ Some s → Agrees s chain
 
--- the step of a command keeps agreement
-command_agrees : (command : Command) (old : State) (chain : List Version) → Agrees old chain → LeadsAgreeing chain (next_of command old)
-command_agrees (Add u text now) old chain a = λ new e. commit_agrees false (add_ops u text now) old new chain a e
-command_agrees Undo old chain a = λ new e. undo_agrees old new chain a e
-command_agrees Count old chain a = λ new e. subst (λ s. Agrees s chain) (some_is old new e) a
-command_agrees Export old chain a = λ new e. subst (λ s. Agrees s chain) (some_is old new e) a
+-- the step of a command is a commit or an undo, which keep agreement
+work_agrees : (request : Request) (old new : State) (work : Work) (chain : List Version) → Agrees old chain → applied old (step_in request.at old work) ≡ Some new → Agrees new chain
+work_agrees request old new (Changes renumber changes) chain a e = commit_agrees renumber (group_of (ops_of_all old.tasks changes request.at)) old new chain a e
+work_agrees request old new TakeBack chain a e = undo_agrees old new chain a e
+
+carried_agrees : (request : Request) (ids : IdWords) (old : State) (c : Carried) (chain : List Version) → carried_out request ids old ≡ Ok c → Agrees old chain → Agrees c.new chain
+carried_agrees request ids old c chain e a = by (plan_of request ids old) e
+  where
+    by : (planned : Result Plan Refusal) → carried_by request old planned ≡ Ok c → Agrees c.new chain
+    by (Err refusal) f = absurd cc
+    by (Ok plan) f = work_agrees request old c.new plan.work chain a (by_plan request old plan c f)
+
+command_agrees : (request : Request) (ids : IdWords) (old : State) (chain : List Version) → Agrees old chain → LeadsAgreeing chain (next_of request ids old)
+command_agrees request ids old chain a = λ s e. by (carried_out request ids old) refl s e
+  where
+    by : (r : Result Carried Refusal) → carried_out request ids old ≡ r → (s : State) → new_of r ≡ Some s → Agrees s chain
+    by (Err refusal) is s e = absurd (no_state s e)
+    by (Ok c) is s e = subst (λ t. Agrees t chain) (some_is c.new s e) (carried_agrees request ids old c chain is a)
 
 either_agrees : (chain : List Version) (state : State) (next : Option State) (file : List ℕ) → Agrees state chain → LeadsAgreeing chain next → OpensToEither state next file → OpensAgreeing chain file
 either_agrees chain state next file a leads (inl same) = (state, same, a)
 either_agrees chain state None file a leads (inr none) = absurd none
 either_agrees chain state (Some s) file a leads (inr moved) = (s, moved, leads s refl)
-
--- a file opens to one state
-opens_one : (file : List ℕ) (a b : State) → OpensTo file a → OpensTo file b → a ≡ b
-opens_one file a b x y =
-    let same : x.bodies ≡ y.bodies = one_records magic file x.bodies y.bodies x.records y.records in
-    let at : Stands y.bodies a = subst (λ bodies. Stands bodies a) same x.stands in
-    some_is a b (sym at ∙ y.stands)
 
 opens_grown : (old new : List Version) (file : List ℕ) → Grows old new → OpensAgreeing old file → OpensAgreeing new file
 opens_grown old new file g o = (o.0, o.1, agrees_is_kept o.0 old new o.2 g)
@@ -96,13 +111,13 @@ module _ {D L : Type 0} (m : DiskModel D) (links : LinkModel L) (d0 d1 : D) (l0 
         weaker m d0 d1 (λ file. IsImageThen m d0 magic file ⊎ IsStepOf (m.seen d0) next file) (λ file. m.leaves d0 file ⊎ OpensAgreeing (links.chain l1) file) (leaves_either m next d0 d1 cause run tells)
         (λ file left. ⊎_elim (image_agrees file) (λ step. inr (step_agrees next leads file step)) left)
 
-    unsettled : ((link : L) → IsChainOf links link) → IsLinkKept links l0 l1 → (asked : Result Job Cause) (cause : Cause) → RunLeaves m links asked d0 d1 l0 l1 cause → Tells m d0 → IsHonestFor links asked l0
+    unsettled : {O : Type 0} → ((link : L) → IsChainOf links link) → IsLinkKept links l0 l1 → (s : SinkModel O) (o0 o1 : O) (asked : Result Job LineError) (ids : IdWords) (cause : Cause) → RunLeaves m s links asked ids (went d0 d1 o0 o1 l0 l1) cause → Tells m d0 → IsHonestFor links asked l0
         → LeavesOnly m d0 d1 (λ file. m.leaves d0 file ⊎ OpensAgreeing (links.chain l1) file)
-    unsettled tells_chain kept (Ok (Local command)) cause run tells honest = by_cause (next_of command) (command_agrees command here.0 (links.chain l1) still) cause run tells
-    unsettled tells_chain kept (Ok (Sync server)) cause run tells honest =
+    unsettled tells_chain kept s o0 o1 (Ok (Here request)) ids cause run tells honest = by_cause (next_of request ids) (command_agrees request ids here.0 (links.chain l1) still) cause run tells
+    unsettled tells_chain kept s o0 o1 (Ok (Sync server)) ids cause run tells honest =
         let r : LeavesOneEnd m links server d0 d1 l0 l1 cause = run tells in
         by_cause (λ state. r.next) (end_agrees server here.0 r.next (whole_chain server.client tells_chain kept honest) here.2 (r.end honest here.0 here.1)) cause r.leaves tells
-    unsettled tells_chain kept (Err refusal) cause run tells honest = records_agree run tells
+    unsettled tells_chain kept s o0 o1 (Err error) ids cause run tells honest = records_agree run tells
 
   -- the records that a run has left stand for a state that agrees with the chain
   more_agrees : (more : List (List ℕ)) (state old new : State) → OpensTo (m.seen d0) state → Agrees state (links.chain l0) → HasMore (m.seen d0) (m.seen d1) more old new → (Agrees old (links.chain l0) → Agrees new (links.chain l1)) → OpensAgreeing (links.chain l1) (m.seen d1)
@@ -110,10 +125,10 @@ module _ {D L : Type 0} (m : DiskModel D) (links : LinkModel L) (d0 d1 : D) (l0 
       let is : state ≡ old = opens_one (m.seen d0) state old opens (record { bodies = has.bodies; records = has.had; stands = has.stood }) in
       (new, record { bodies = has.bodies ++ more; records = has.has; stands = has.stands }, leads (subst (λ s. Agrees s (links.chain l0)) is a))
 
-  carried_out_agrees : (command : Command) → CarriedOut m command d0 d1 → l1 ≡ l0 → Tells m d0 → OpensAgreeing (links.chain l0) (m.seen d0) → OpensAgreeing (links.chain l1) (m.seen d1)
-  carried_out_agrees command run same tells here =
-      more_agrees (bodies_of command) here.0 run.old run.new here.1 here.2 (run.disk tells).0
-      (λ a. subst (λ l. Agrees run.new (links.chain l)) (sym same) (command_agrees command run.old (links.chain l0) a run.new run.step))
+  carried_out_agrees : (request : Request) (ids : IdWords) → CarriedOut m request ids d0 d1 → l1 ≡ l0 → Tells m d0 → OpensAgreeing (links.chain l0) (m.seen d0) → OpensAgreeing (links.chain l1) (m.seen d1)
+  carried_out_agrees request ids run same tells here =
+      more_agrees (step_bodies run.carried.step) here.0 run.old run.carried.new here.1 here.2 (run.disk tells).0
+      (λ a. subst (λ l. Agrees run.carried.new (links.chain l)) (sym same) (carried_agrees request ids run.old run.carried (links.chain l0) run.is a))
 
   synced_agrees : ((link : L) → IsChainOf links link) → IsLinkKept links l0 l1 → (server : Server) (report : SyncReport) → Synced m links server d0 d1 l0 l1 report → Tells m d0 → IsHonest links l0 server.client
       → OpensAgreeing (links.chain l0) (m.seen d0) → OpensAgreeing (links.chain l1) (m.seen d1)
@@ -122,37 +137,37 @@ module _ {D L : Type 0} (m : DiskModel D) (links : LinkModel L) (d0 d1 : D) (l0 
       more_agrees has.bodies here.0 run.old run.new here.1 here.2 has.more
       (λ a. sync_end_agrees run.old run.new (told links l0) (told links l1) report (whole_chain server.client tells_chain kept honest).whole a (run.ended honest))
 
-  done_agrees : {O : Type 0} (s : SinkModel O) (o0 o1 : O) → ((link : L) → IsChainOf links link) → IsLinkKept links l0 l1 → (asked : Result Job Cause) (cause : Cause) → RunGives m s links asked d0 d1 o0 o1 l0 l1 cause → Tells m d0 → IsHonestFor links asked l0
+  done_agrees : {O : Type 0} (s : SinkModel O) (o0 o1 : O) → ((link : L) → IsChainOf links link) → IsLinkKept links l0 l1 → (asked : Result Job LineError) (ids : IdWords) (cause : Cause) → RunGives m s links asked ids (went d0 d1 o0 o1 l0 l1) cause → Tells m d0 → IsHonestFor links asked l0
       → (cause ≡ Done) ⊎ (cause ≡ OutFault) → OpensAgreeing (links.chain l0) (m.seen d0) → OpensAgreeing (links.chain l1) (m.seen d1)
-  done_agrees s o0 o1 tells_chain kept asked cause gives tells honest which here = ⊎_elim (λ done. at_done asked (subst (RunGives m s links asked d0 d1 o0 o1 l0 l1) done gives) honest) (λ fault. at_fault asked (subst (RunGives m s links asked d0 d1 o0 o1 l0 l1) fault gives) honest) which
+  done_agrees s o0 o1 tells_chain kept asked ids cause gives tells honest which here = ⊎_elim (λ done. at_done asked (subst (RunGives m s links asked ids (went d0 d1 o0 o1 l0 l1)) done gives) honest) (λ fault. at_fault asked (subst (RunGives m s links asked ids (went d0 d1 o0 o1 l0 l1)) fault gives) honest) which
     where
-      nothing : (refusal ended : Cause) → NothingDone d0 d1 o0 o1 l0 l1 refusal ended → OpensAgreeing (links.chain l1) (m.seen d1)
-      nothing refusal ended none = subst (λ l. OpensAgreeing (links.chain l) (m.seen d1)) (sym none.3) (subst (λ d. OpensAgreeing (links.chain l0) (m.seen d)) (sym none.1) here)
+      nothing : d1 ≡ d0 → l1 ≡ l0 → OpensAgreeing (links.chain l1) (m.seen d1)
+      nothing disk link = subst (λ l. OpensAgreeing (links.chain l) (m.seen d1)) (sym link) (subst (λ d. OpensAgreeing (links.chain l0) (m.seen d)) (sym disk) here)
 
-      at_done : (asked : Result Job Cause) → RunGives m s links asked d0 d1 o0 o1 l0 l1 Done → IsHonestFor links asked l0 → OpensAgreeing (links.chain l1) (m.seen d1)
-      at_done (Ok (Local command)) run h = carried_out_agrees command run.0.0 run.1 tells here
+      at_done : (asked : Result Job LineError) → RunGives m s links asked ids (went d0 d1 o0 o1 l0 l1) Done → IsHonestFor links asked l0 → OpensAgreeing (links.chain l1) (m.seen d1)
+      at_done (Ok (Here request)) run h = carried_out_agrees request ids run.0.0 run.1 tells here
       at_done (Ok (Sync server)) run h = synced_agrees tells_chain kept server run.0 run.1 tells h here
-      at_done (Err refusal) run h = nothing refusal Done run
+      at_done (Err error) run h = nothing run.1 run.3
 
-      at_fault : (asked : Result Job Cause) → RunGives m s links asked d0 d1 o0 o1 l0 l1 OutFault → IsHonestFor links asked l0 → OpensAgreeing (links.chain l1) (m.seen d1)
-      at_fault (Ok (Local command)) run h = carried_out_agrees command run.0.0.0 run.1 tells here
+      at_fault : (asked : Result Job LineError) → RunGives m s links asked ids (went d0 d1 o0 o1 l0 l1) OutFault → IsHonestFor links asked l0 → OpensAgreeing (links.chain l1) (m.seen d1)
+      at_fault (Ok (Here request)) run h = carried_out_agrees request ids run.0.0.0 run.1 tells here
       at_fault (Ok (Sync server)) run h = synced_agrees tells_chain kept server run.0.0 run.0.1 tells h here
-      at_fault (Err refusal) run h = nothing refusal OutFault run
+      at_fault (Err error) run h = nothing run.1 run.3
 
-  pub agreement_stays : {O : Type 0} (s : SinkModel O) (o0 o1 : O) → ((disk : D) → Tells m disk → m.leaves disk (m.seen disk)) → CountsNow m → ((link : L) → IsChainOf links link) → IsLinkKept links l0 l1 → (asked : Result Job Cause) (cause : Cause)
-      → RunGives m s links asked d0 d1 o0 o1 l0 l1 cause → RunLeaves m links asked d0 d1 l0 l1 cause → (IsHonestFor links asked l0 → Grows (links.chain l0) (links.chain l1)) → Tells m d0 → IsHonestFor links asked l0 → AgreementStays m links d0 d1 l0 l1 cause
-  agreement_stays s o0 o1 seen_may_stay counts_now tells_chain kept asked cause gives run chain_grows tells honest = record {
+  pub agreement_stays : {O : Type 0} (s : SinkModel O) (o0 o1 : O) → ((disk : D) → Tells m disk → m.leaves disk (m.seen disk)) → CountsNow m → ((link : L) → IsChainOf links link) → (asked : Result Job LineError) (old new : IdWords) (cause : Cause)
+      → IsRun m s links asked old new (went d0 d1 o0 o1 l0 l1) cause → Tells m d0 → IsHonestFor links asked l0 → AgreementStays m links (went d0 d1 o0 o1 l0 l1) cause
+  agreement_stays s o0 o1 seen_may_stay counts_now tells_chain asked old new cause run tells honest = record {
     any_moment = always;
     after = λ all file left. (always all).each file (counts_now d1 (m.moment d0) file (always all).later left);
     unsettled = from_bytes;
-    done = done_agrees s o0 o1 tells_chain kept asked cause gives tells honest;
+    done = done_agrees s o0 o1 tells_chain run.link_kept asked old cause run.gives tells honest;
   }
     where
       grows : Grows (links.chain l0) (links.chain l1)
-      grows = chain_grows honest
+      grows = run.grows honest
 
       from_bytes : OpensAgreeing (links.chain l0) (m.seen d0) → LeavesOnly m d0 d1 (λ file. m.leaves d0 file ⊎ OpensAgreeing (links.chain l1) file)
-      from_bytes here = unsettled here grows tells_chain kept asked cause run tells honest
+      from_bytes here = unsettled here grows tells_chain run.link_kept s o0 o1 asked old cause run.any_moment tells honest
 
       always : AllAgree m (links.chain l0) d0 → LeavesOnly m d0 d1 (OpensAgreeing (links.chain l1))
       always all = weaker m d0 d1 (λ file. m.leaves d0 file ⊎ OpensAgreeing (links.chain l1) file) (OpensAgreeing (links.chain l1)) (from_bytes (all (m.seen d0) (seen_may_stay d0 tells)))

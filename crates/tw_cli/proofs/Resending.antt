@@ -1,6 +1,6 @@
 -- What is appended to pending, and what a refused sync added.
 use Rattle.std.proofs.Common.{◌≡◌, ℕ, ◌+◌, Bool, true, false, cond, List, [], ◌∷◌, ◌++◌, Option, Some, None, refl, sym, ap, subst, ◌∙◌}
-use Rattle.std.proofs.lemmas.List.{append_assoc}
+use Rattle.std.proofs.lemmas.List.{append_assoc, append-nil}
 use Rattle.tw_model.specs.Ops.{TasksValue}
 use Rattle.tw_model.specs.LocalOps.{synced, put_some, plain, fits_local, apply_local, apply_all_local, FitAllLocal, take_back, take_back_all}
 use Rattle.tw_model.specs.declared.Op.{Op}
@@ -8,9 +8,8 @@ use Rattle.tw_model.specs.declared.SyncOp.{SyncOp}
 use Rattle.tw_model.proofs.LocalOps.{all_taken_back}
 use Rattle.tw_protocol.specs.Chain.{Version, IsBetween, Grows}
 use Rattle.tw_transform.specs.Positions.{IsPosition}
-use Rattle.tw_replica.specs.State.{State, misfit, unless, moved_to}
-use Rattle.tw_cli.specs.Command.{add_ops}
-use Rattle.tw_cli.specs.Resending.{HasAppended, AddedIsNotSentAgain, AddAppends, AppendingGoesOn}
+use Rattle.tw_replica.specs.State.{State, misfit, unless, moved_to, is_idle}
+use Rattle.tw_cli.specs.Resending.{HasAppended, AddedIsNotSentAgain, CommitAppends, AppendingGoesOn}
 
 put_front : (o : Option SyncOp) (xs ys : List SyncOp) → put_some o (xs ++ ys) ≡ put_some o xs ++ ys
 put_front None xs ys = refl
@@ -35,18 +34,27 @@ fits_from n tasks (op ∷ ops) e = by (fits_local tasks op) refl e (fits_from (n
 some_is : (a b : State) → Some a ≡ Some b → a ≡ b
 some_is a b e = cc
 
-appended : (ops : List Op) (old new : State) → unless (misfit 0 old.tasks ops) (moved_to false (old.pending ++ ops) (apply_all_local old.tasks ops) old) ≡ Some new → HasAppended old new (plain ops)
-appended ops old new e = by (misfit 0 old.tasks ops) refl e
+appended : (renumber : Bool) (ops : List Op) (old new : State) → unless (misfit 0 old.tasks ops) (moved_to renumber (old.pending ++ ops) (apply_all_local old.tasks ops) old) ≡ Some new → HasAppended old new (plain ops)
+appended renumber ops old new e = by (misfit 0 old.tasks ops) refl e
   where
-    by : (o : Option ℕ) → misfit 0 old.tasks ops ≡ o → unless o (moved_to false (old.pending ++ ops) (apply_all_local old.tasks ops) old) ≡ Some new → HasAppended old new (plain ops)
+    by : (o : Option ℕ) → misfit 0 old.tasks ops ≡ o → unless o (moved_to renumber (old.pending ++ ops) (apply_all_local old.tasks ops) old) ≡ Some new → HasAppended old new (plain ops)
     by None m f =
         let back = all_taken_back old.tasks ops (fits_from 0 old.tasks ops m) in
         subst (λ s. HasAppended old s (plain ops)) (some_is _ new f)
         (record { base = refl; start = back-append (apply_all_local old.tasks ops) old.pending ops ∙ ap (λ (t : TasksValue). take_back_all t old.pending) back; pending = plain-append old.pending ops })
     by (Some n) m f = absurd cc
 
-pub add_appends : AddAppends
-add_appends old new u text now e = appended (add_ops u text now) old new e
+idle_appends : (renumber : Bool) (ops : List Op) (old new : State) → is_idle renumber ops ≡ true → Some old ≡ Some new → HasAppended old new (plain ops)
+idle_appends true ops old new idle e = absurd cc
+idle_appends false [] old new idle e = subst (λ s. HasAppended old s []) (some_is old new e) (record { base = refl; start = refl; pending = sym (append-nil (plain old.pending)) })
+idle_appends false (op ∷ ops) old new idle e = absurd cc
+
+pub commit_appends : CommitAppends
+commit_appends renumber ops old new e = by (is_idle renumber ops) refl e
+  where
+    by : (idle : Bool) → is_idle renumber ops ≡ idle → cond idle (Some old) (unless (misfit 0 old.tasks ops) (moved_to renumber (old.pending ++ ops) (apply_all_local old.tasks ops) old)) ≡ Some new → HasAppended old new (plain ops)
+    by true idle f = idle_appends renumber ops old new idle f
+    by false idle f = appended renumber ops old new f
 
 pub appending_goes_on : AppendingGoesOn
 appending_goes_on a b c first second one two = record {

@@ -1,15 +1,13 @@
 -- What a refused sync sent is not sent again, over the runs since.
-use Rattle.std.specs.Prelude.{◌≡◌, ℕ, List, ◌++◌, Some}
-use Rattle.tw_world.specs.declared.Moment.{Moment}
+use Rattle.std.specs.Prelude.{◌≡◌, Bool, List, ◌++◌, Some}
 use Rattle.tw_model.specs.LocalOps.{plain}
+use Rattle.tw_model.specs.declared.Op.{Op}
 use Rattle.tw_model.specs.declared.SyncOp.{SyncOp}
 use Rattle.tw_protocol.specs.Chain.{Version, Grows}
-use Rattle.tw_replica.specs.State.{State}
+use Rattle.tw_replica.specs.State.{State, committed}
 use Rattle.tw_replica.specs.Sound.{start_of}
 use Rattle.tw_sync.specs.End.{Told, AddedOne}
 use Rattle.tw_sync.specs.Resuming.{WasAdded}
-use Rattle.tw_cli.specs.Command.{add_ops, next_of}
-use Rattle.tw_cli.specs.declared.command.Command.TheVariants.{Add}
 
 -- operations were appended to what is pending: the base and the tasks without what is pending stay
 pub record HasAppended (old new : State) (later : List SyncOp) : Type 0 where
@@ -22,9 +20,9 @@ abbrev pub AddedIsNotSentAgain : Type 0
 AddedIsNotSentAgain = (old new : State) (before after : Told) (chain : List Version) (later : List SyncOp) (added : AddedOne old before after) → Grows after.chain chain → HasAppended old new later
     → (was : WasAdded new chain (plain old.pending) later) × (was.v ≡ added.v)
 
--- `add` appends its operations
-abbrev pub AddAppends : Type 0
-AddAppends = (old new : State) (u text : List ℕ) (now : Moment) → next_of (Add u text now) old ≡ Some new → HasAppended old new (plain (add_ops u text now))
+-- a commit appends its operations
+abbrev pub CommitAppends : Type 0
+CommitAppends = (renumber : Bool) (ops : List Op) (old new : State) → committed renumber ops old ≡ Some new → HasAppended old new (plain ops)
 
 -- what is appended twice is appended
 abbrev pub AppendingGoesOn : Type 0

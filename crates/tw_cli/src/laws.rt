@@ -1,14 +1,14 @@
 //! Laws of several runs. Each function does nothing: its contract is the law.
-ghost use Rattle.tw_cli.specs.Resending.{AddedIsNotSentAgain, AddAppends, AppendingGoesOn};
+ghost use Rattle.tw_cli.specs.Resending.{AddedIsNotSentAgain, CommitAppends, AppendingGoesOn};
 
 /// The version that a refused sync added is the one of which a sync that ends later sends nothing again.
 pub fn what_a_refused_sync_added_is_not_sent_again()
     ensures { AddedIsNotSentAgain }
 {}
 
-/// `add` appends to what is pending, and changes nothing before it.
-pub fn an_add_appends()
-    ensures { AddAppends }
+/// A commit appends to what is pending, and changes nothing before it. Each command but `undo` is one.
+pub fn a_commit_appends()
+    ensures { CommitAppends }
 {}
 
 /// What is appended in two runs is appended.

@@ -10,4 +10,6 @@ mod machine;
 #[cfg(test)]
 mod merges;
 #[cfg(test)]
+mod runs;
+#[cfg(test)]
 mod syncs;

@@ -1,0 +1,87 @@
+-- How a run ends once its text is known, or once it has failed.
+use Rattle.std.proofs.Common.{◌≡◌, inl, inr, sym, subst, refl, List, ℕ}
+use Rattle.tw_world.specs.Disk.{DiskModel, Rose}
+use Rattle.tw_world.specs.Sink.{SinkModel, Got, GotPart}
+use Rattle.tw_world.specs.declared.ids.IdWords.{IdWords}
+use Rattle.tw_http.specs.Link.{LinkModel}
+use Rattle.tw_journal.specs.declared.journal.JournalError.{JournalError}
+use Rattle.tw_journal.specs.declared.journal.JournalError.TheVariants as journal
+use Rattle.tw_sync.specs.declared.error.SyncError.{SyncError}
+use Rattle.tw_sync.specs.declared.error.SyncError.TheVariants as syncs
+use Rattle.tw_commands.specs.declared.request.Request.{Request}
+use Rattle.tw_commands.specs.declared.refusal.Refusal.{Refusal}
+use Rattle.tw_commands.specs.declared.refusal.Refusal.TheVariants as refusal
+use Rattle.tw_cli.specs.Cause.{end_of, open_cause, refusal_cause, carry_cause, journal_cause, sync_cause, failure_cause}
+use Rattle.tw_cli.specs.Cause.End.{Failed}
+use Rattle.tw_cli.specs.Run.{NotCarried, GivesBy, Gives, EndsPrinting, IsDoneOrWant}
+use Rattle.tw_cli.specs.Syncing.{NotSynced, SyncGivesBy, SyncGives}
+use Rattle.tw_cli.specs.declared.server.Server.{Server}
+use Rattle.tw_cli.specs.declared.opening.OpenError.{OpenError}
+use Rattle.tw_cli.specs.declared.opening.OpenError.TheVariants as opening
+use Rattle.tw_cli.specs.declared.carry.CarryError.{CarryError}
+use Rattle.tw_cli.specs.declared.carry.CarryError.TheVariants as carry
+use Rattle.tw_cli.specs.declared.syncing.SyncFailure.{SyncFailure}
+use Rattle.tw_cli.specs.declared.syncing.SyncFailure.TheVariants as failure
+use Rattle.tw_cli.specs.declared.cause.Cause.{Cause}
+use Rattle.tw_cli.specs.declared.cause.Cause.TheVariants.{Done, OutFault}
+
+-- ---- an error ends a run as one that failed
+
+open_fails : (e : OpenError) → end_of (open_cause e) ≡ Failed
+open_fails opening.Disk = refl
+open_fails (opening.Damaged offset) = refl
+open_fails opening.Memory = refl
+
+refusal_fails : (r : Refusal) → end_of (refusal_cause r) ≡ Failed
+refusal_fails refusal.NothingToUndo = refl
+refusal_fails (refusal.IdTaken uuid) = refl
+
+pub carry_fails : (e : CarryError) → end_of (carry_cause e) ≡ Failed
+carry_fails (carry.Open e) = open_fails e
+carry_fails (carry.Refused r) = refusal_fails r
+carry_fails (carry.TooLong bytes) = refl
+carry_fails carry.Disk = refl
+carry_fails carry.Memory = refl
+
+journal_fails : (e : JournalError) → end_of (journal_cause e) ≡ Failed
+journal_fails journal.Disk = refl
+journal_fails journal.Closed = refl
+journal_fails (journal.Damaged offset) = refl
+journal_fails (journal.TooLong bytes) = refl
+journal_fails journal.Memory = refl
+
+sync_fails : (e : SyncError) → end_of (sync_cause e) ≡ Failed
+sync_fails (syncs.Journal e) = journal_fails e
+sync_fails syncs.Link = refl
+sync_fails (syncs.Reply kind) = refl
+sync_fails (syncs.Gone base) = refl
+sync_fails (syncs.Busy parent) = refl
+sync_fails (syncs.OutOfSync base parent) = refl
+sync_fails (syncs.Segment version) = refl
+sync_fails (syncs.SegmentTooLong bytes) = refl
+sync_fails (syncs.PullTooLong bytes) = refl
+sync_fails syncs.Memory = refl
+
+failure_fails : (e : SyncFailure) → end_of (failure_cause e) ≡ Failed
+failure_fails (failure.Open e) = open_fails e
+failure_fails (failure.Sync e) = sync_fails e
+
+pub failed_gives : {D O : Type 0} (m : DiskModel D) (request : Request) (ids : IdWords) (d0 d1 : D) (s : SinkModel O) (o : O) (e : CarryError) (cause : Cause) → cause ≡ carry_cause e → NotCarried m request ids d0 d1 e → Gives m request ids d0 d1 s o o cause
+failed_gives m request ids d0 d1 s o e cause is why =
+    subst (Gives m request ids d0 d1 s o o) (sym is) (subst (GivesBy m request ids d0 d1 s o o (carry_cause e)) (sym (carry_fails e)) (e, refl, why, refl))
+
+pub failed_sync_gives : {D O L : Type 0} (m : DiskModel D) (s : SinkModel O) (links : LinkModel L) (server : Server) (d0 d1 : D) (o : O) (l0 l1 : L) (e : SyncFailure) (cause : Cause) → cause ≡ failure_cause e → NotSynced m links server d0 d1 l0 l1 e → SyncGives m s links server d0 d1 o o l0 l1 cause
+failed_sync_gives m s links server d0 d1 o l0 l1 e cause is why =
+    subst (SyncGives m s links server d0 d1 o o l0 l1) (sym is) (subst (SyncGivesBy m s links server d0 d1 o o l0 l1 (failure_cause e)) (sym (failure_fails e)) (e, refl, why, refl))
+
+-- ---- a text is printed
+
+module _ {O : Type 0} (s : SinkModel O) (o0 o1 : O) (text : List ℕ) (cause : Cause) where
+  -- what holds at both ends of a print holds at its end
+  pub at_end : (P : Cause → Type 0) → EndsPrinting s o0 o1 text cause → (Got s o0 o1 text → P Done) → (GotPart s o0 o1 text → Rose (s.faults o0) (s.faults o1) → P OutFault) → P cause
+  at_end P (inl done) whole part = subst P (sym done.0) (whole done.1)
+  at_end P (inr failed) whole part = subst P (sym failed.0) (part failed.1 failed.2)
+
+  pub ends_well : EndsPrinting s o0 o1 text cause → (Rose (s.faults o0) (s.faults o1) → ⊥) → IsDoneOrWant cause
+  ends_well (inl done) well = inl done.0
+  ends_well (inr failed) well = absurd (well failed.2)

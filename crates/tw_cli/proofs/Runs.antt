@@ -1,0 +1,106 @@
+-- All that is known of a run, by what it asks for.
+use Rattle.std.proofs.Common.{◌≡◌, ◌⊎◌, inl, inr, refl, sym, subst, None, Result, Ok, Err, arith}
+use Rattle.tw_world.specs.Disk.{DiskModel, Kept, Rose}
+use Rattle.tw_world.specs.Sink.{SinkModel}
+use Rattle.tw_world.specs.declared.ids.IdWords.{IdWords}
+use Rattle.tw_world.proofs.Moments.{OnlyNow}
+use Rattle.tw_http.specs.Link.{LinkModel}
+use Rattle.tw_protocol.specs.Chain.{Grows}
+use Rattle.tw_sync.proofs.Served.{grows_same}
+use Rattle.tw_sync.specs.declared.error.ReplyKind.TheVariants.{Status}
+use Rattle.tw_sync.specs.Answers.{IsLinkKept}
+use Rattle.tw_http.specs.Link.{IsHonest}
+use Rattle.tw_commands.specs.declared.request.Request.{Request}
+use Rattle.tw_cli.specs.Cause.{line_cause}
+use Rattle.tw_cli.specs.Run.{Gives, CanEnd, Draws, IsDoneOrWant}
+use Rattle.tw_cli.specs.Syncing.{SyncGives, CanBeSynced}
+use Rattle.tw_cli.specs.Crash.{LeavesBy, LeavesSync, next_of}
+use Rattle.tw_cli.specs.declared.server.Server.{Server}
+use Rattle.tw_cli.specs.Whole.{went, IsRun}
+use Rattle.tw_cli.specs.declared.carry.CarryError.TheVariants as carry
+use Rattle.tw_cli.specs.declared.opening.OpenError.TheVariants as opening
+use Rattle.tw_cli.specs.declared.syncing.SyncFailure.TheVariants as failure
+use Rattle.tw_cli.specs.declared.asked.Job.{Job}
+use Rattle.tw_cli.specs.declared.asked.Job.TheVariants.{Here, Sync}
+use Rattle.tw_cli.specs.declared.asked.LineError.{LineError}
+use Rattle.tw_cli.specs.declared.cause.Cause.{Cause}
+use Rattle.tw_cli.specs.declared.cause.Cause.TheVariants.{Memory, BadReply}
+use Rattle.tw_cli.proofs.Openings.{leaves_as_it_was}
+
+module _ {D O L : Type 0} (m : DiskModel D) (s : SinkModel O) (links : LinkModel L) where
+  disk_same : (d : D) → Kept m d d
+  disk_same d = record { faults = omega arith; tells = refl }
+
+  link_same : (l : L) → IsLinkKept links l l
+  link_same l = record { faults = omega arith; tells_list = refl; tells_chain = refl; client = refl; honest = refl }
+
+  -- memory runs out before anything is asked for
+  pub want_is_run : OnlyNow m → (asked : Result Job LineError) (ids : IdWords) (d : D) (o : O) (l : L) → IsRun m s links asked ids ids (went d d o o l l) Memory
+  want_is_run only_now (Ok (Here request)) ids d o l = record {
+    gives = ((carry.Memory, refl, tt, refl), refl);
+    complete = λ can. inr refl;
+    any_moment = leaves_as_it_was m only_now d;
+    grows = λ honest. grows_same (links.chain l);
+    ids = inr (refl, inr (inl refl));
+    kept = disk_same d;
+    link_kept = link_same l;
+  }
+  want_is_run only_now (Ok (Sync server)) ids d o l = record {
+    gives = (failure.Open opening.Memory, refl, (tt, refl), refl);
+    complete = λ can well. inl (inr refl);
+    any_moment = λ tells. record { next = None; end = λ honest state opens. tt; leaves = leaves_as_it_was m only_now d };
+    grows = λ honest. grows_same (links.chain l);
+    ids = refl;
+    kept = disk_same d;
+    link_kept = link_same l;
+  }
+  want_is_run only_now (Err error) ids d o l = record {
+    gives = (inr refl, refl, refl, refl);
+    complete = tt;
+    any_moment = leaves_as_it_was m only_now d;
+    grows = λ honest. grows_same (links.chain l);
+    ids = refl;
+    kept = disk_same d;
+    link_kept = link_same l;
+  }
+
+  -- nothing is asked for
+  pub error_is_run : OnlyNow m → (asked : Result Job LineError) (error : LineError) (cause : Cause) (ids : IdWords) (d : D) (o : O) (l : L) → asked ≡ Err error → cause ≡ line_cause error → IsRun m s links asked ids ids (went d d o o l l) cause
+  error_is_run only_now asked error cause ids d o l wrong is = subst (λ (a : Result Job LineError). IsRun m s links a ids ids (went d d o o l l) cause) (sym wrong) (record {
+    gives = (inl is, refl, refl, refl);
+    complete = tt;
+    any_moment = leaves_as_it_was m only_now d;
+    grows = λ honest. grows_same (links.chain l);
+    ids = refl;
+    kept = disk_same d;
+    link_kept = link_same l;
+  })
+
+  -- a command is asked for
+  pub command_is_run : (asked : Result Job LineError) (request : Request) (old new : IdWords) (d0 d1 : D) (o0 o1 : O) (l : L) (cause : Cause) → asked ≡ Ok (Here request)
+      → Gives m request old d0 d1 s o0 o1 cause → (CanEnd m request old d0 d1 s o0 o1 → IsDoneOrWant cause) → LeavesBy m (next_of request old) d0 d1 cause → Draws m request d0 old new cause → Kept m d0 d1
+      → IsRun m s links asked old new (went d0 d1 o0 o1 l l) cause
+  command_is_run asked request old new d0 d1 o0 o1 l cause here gives complete leaves draws kept = subst (λ (a : Result Job LineError). IsRun m s links a old new (went d0 d1 o0 o1 l l) cause) (sym here) (record {
+    gives = (gives, refl);
+    complete = complete;
+    any_moment = leaves;
+    grows = λ honest. grows_same (links.chain l);
+    ids = draws;
+    kept = kept;
+    link_kept = link_same l;
+  })
+
+  -- a sync is asked for
+  pub sync_is_run : (asked : Result Job LineError) (server : Server) (ids : IdWords) (d0 d1 : D) (o0 o1 : O) (l0 l1 : L) (cause : Cause) → asked ≡ Ok (Sync server)
+      → SyncGives m s links server d0 d1 o0 o1 l0 l1 cause → (CanBeSynced m links server d0 d1 l0 l1 → (Rose (s.faults o0) (s.faults o1) → ⊥) → IsDoneOrWant cause ⊎ (cause ≡ BadReply (Status 500)))
+      → LeavesSync m links server d0 d1 l0 l1 cause → (IsHonest links l0 server.client → Grows (links.chain l0) (links.chain l1)) → Kept m d0 d1 → IsLinkKept links l0 l1
+      → IsRun m s links asked ids ids (went d0 d1 o0 o1 l0 l1) cause
+  sync_is_run asked server ids d0 d1 o0 o1 l0 l1 cause there gives complete leaves grows kept link_kept = subst (λ (a : Result Job LineError). IsRun m s links a ids ids (went d0 d1 o0 o1 l0 l1) cause) (sym there) (record {
+    gives = gives;
+    complete = complete;
+    any_moment = leaves;
+    grows = grows;
+    ids = refl;
+    kept = kept;
+    link_kept = link_kept;
+  })

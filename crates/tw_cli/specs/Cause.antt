@@ -1,0 +1,95 @@
+-- What a cause says, and the cause that each error becomes.
+use Rattle.std.specs.Prelude.{Bool, true, false, Result, Ok, Err}
+use Rattle.tw_journal.specs.declared.journal.JournalError.{JournalError}
+use Rattle.tw_journal.specs.declared.journal.JournalError.TheVariants as journal
+use Rattle.tw_sync.specs.declared.error.SyncError.{SyncError}
+use Rattle.tw_sync.specs.declared.error.SyncError.TheVariants as syncs
+use Rattle.tw_commands.specs.declared.refusal.Refusal.{Refusal}
+use Rattle.tw_commands.specs.declared.refusal.Refusal.TheVariants as refusal
+use Rattle.tw_cli.specs.declared.asked.LineError.{LineError}
+use Rattle.tw_cli.specs.declared.asked.LineError.TheVariants as line
+use Rattle.tw_cli.specs.declared.opening.OpenError.{OpenError}
+use Rattle.tw_cli.specs.declared.opening.OpenError.TheVariants as opening
+use Rattle.tw_cli.specs.declared.carry.CarryError.{CarryError}
+use Rattle.tw_cli.specs.declared.carry.CarryError.TheVariants as carry
+use Rattle.tw_cli.specs.declared.syncing.SyncFailure.{SyncFailure}
+use Rattle.tw_cli.specs.declared.syncing.SyncFailure.TheVariants as failure
+use Rattle.tw_cli.specs.declared.cause.Cause.{Cause}
+use Rattle.tw_cli.specs.declared.cause.Cause.TheVariants.{Done, NothingToUndo, BadWords, BadSetting, NoServer, IdTaken, DiskFault, RecordTooLong, Memory, LinkFault, BadReply, Gone, Busy, OutOfSync, BadSegment, SegmentTooLong, PullTooLong, OutFault, Damaged}
+
+-- how a run ends
+pub data End : Type 0 where
+  -- it was carried out and printed
+  Well : End
+  -- it was carried out, and the output failed
+  Output : End
+  -- it was not carried out
+  Failed : End
+
+abbrev pub end_of : Cause → End
+end_of Done = Well
+end_of OutFault = Output
+end_of cause = Failed
+
+-- whether the record may stand after it
+abbrev pub may_write : Cause → Bool
+may_write Done = true
+may_write OutFault = true
+may_write DiskFault = true
+may_write cause = false
+
+-- the cause that an error becomes: of a line that is not read
+abbrev pub line_cause : LineError → Cause
+line_cause (line.Setting n) = BadSetting n
+line_cause (line.Word bad) = BadWords bad.word bad.kind
+line_cause line.NoServer = NoServer
+
+-- of a replica that is not opened
+abbrev pub open_cause : OpenError → Cause
+open_cause opening.Disk = DiskFault
+open_cause (opening.Damaged offset) = Damaged offset
+open_cause opening.Memory = Memory
+
+-- of a command that does nothing
+abbrev pub refusal_cause : Refusal → Cause
+refusal_cause refusal.NothingToUndo = NothingToUndo
+refusal_cause (refusal.IdTaken uuid) = IdTaken uuid
+
+-- of a command that is not carried out
+abbrev pub carry_cause : CarryError → Cause
+carry_cause (carry.Open e) = open_cause e
+carry_cause (carry.Refused refusal) = refusal_cause refusal
+carry_cause (carry.TooLong bytes) = RecordTooLong bytes
+carry_cause carry.Disk = DiskFault
+carry_cause carry.Memory = Memory
+
+-- of a journal
+abbrev pub journal_cause : JournalError → Cause
+journal_cause journal.Disk = DiskFault
+journal_cause journal.Closed = DiskFault
+journal_cause (journal.Damaged offset) = Damaged offset
+journal_cause (journal.TooLong bytes) = RecordTooLong bytes
+journal_cause journal.Memory = Memory
+
+-- of a sync that was refused
+abbrev pub sync_cause : SyncError → Cause
+sync_cause (syncs.Journal e) = journal_cause e
+sync_cause syncs.Link = LinkFault
+sync_cause (syncs.Reply kind) = BadReply kind
+sync_cause (syncs.Gone base) = Gone base
+sync_cause (syncs.Busy parent) = Busy parent
+sync_cause (syncs.OutOfSync base parent) = OutOfSync base parent
+sync_cause (syncs.Segment version) = BadSegment version
+sync_cause (syncs.SegmentTooLong bytes) = SegmentTooLong bytes
+sync_cause (syncs.PullTooLong bytes) = PullTooLong bytes
+sync_cause syncs.Memory = Memory
+
+-- of a sync that is not done
+abbrev pub failure_cause : SyncFailure → Cause
+failure_cause (failure.Open e) = open_cause e
+failure_cause (failure.Sync e) = sync_cause e
+
+-- the cause of a call's end
+abbrev pub ended : {A E : Type 0} → (E → Cause) → Result A E → Cause
+ended cause_of (Ok a) = Done
+ended cause_of (Err e) = cause_of e

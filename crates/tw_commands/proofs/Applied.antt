@@ -1,0 +1,64 @@
+-- What a command comes to is its step, taken.
+use Rattle.std.proofs.Common.{◌≡◌, ◌∙◌, ap, sym, refl, List, ℕ, Option, Some, None, Result, Ok, Err, Bool, true, false, cond, [], ◌∷◌, ◌++◌, ◌+◌}
+use Rattle.tw_world.specs.declared.Moment.{Moment}
+use Rattle.tw_model.specs.Ops.{TasksValue}
+use Rattle.tw_model.specs.LocalOps.{apply_local, apply_all_local, FitAllLocal}
+use Rattle.tw_model.specs.Changes.{ops_of_all, group_of}
+use Rattle.tw_model.specs.declared.Op.{Op}
+use Rattle.tw_model.specs.declared.Change.{Change}
+use Rattle.tw_model.proofs.Leading.{changes_lead}
+use Rattle.tw_replica.specs.Body.{Step}
+use Rattle.tw_replica.specs.Body.Step.{Commit}
+use Rattle.tw_replica.specs.State.{State, applied, misfit, unless, is_idle, moved_to}
+use Rattle.tw_commands.specs.Plan.{Plan, step_in}
+use Rattle.tw_commands.specs.Texts.{shown}
+use Rattle.tw_commands.specs.Commands.{plan_of}
+use Rattle.tw_commands.specs.Laws.{CarriedIsApplied, ChangesAreCarriedOut}
+use Rattle.tw_commands.specs.Carried.{Carried, then_shown, carried_by}
+use Rattle.tw_commands.specs.declared.request.Request.{Request}
+use Rattle.tw_commands.specs.declared.refusal.Refusal.{Refusal}
+
+then_is : (plan : Plan) (old : State) (step : Step) (o : Option State) (c : Carried) → then_shown plan old step o ≡ Ok c → (c.step ≡ step) × (o ≡ Some c.new)
+then_is plan old step None c e = absurd cc
+then_is plan old step (Some new) c e =
+    let same : record { step = step; new = new; text = shown plan.show old new } ≡ c = cc in
+    (ap (λ (d : Carried). d.step) (sym same), ap (λ (d : Carried). Some d.new) same)
+
+pub by_plan : (request : Request) (old : State) (plan : Plan) (c : Carried) → carried_by request old (Ok plan) ≡ Ok c → applied old (step_in request.at old plan.work) ≡ Some c.new
+by_plan request old plan c e = (then_is plan old (step_in request.at old plan.work) (applied old (step_in request.at old plan.work)) c e).1
+
+by_is : (request : Request) (old : State) (planned : Result Plan Refusal) (c : Carried) → carried_by request old planned ≡ Ok c → applied old c.step ≡ Some c.new
+by_is request old (Err refusal) c e = absurd cc
+by_is request old (Ok plan) c e =
+    let step = step_in request.at old plan.work in
+    let is = then_is plan old step (applied old step) c e in
+    ap (applied old) is.0 ∙ is.1
+
+pub carried_applies : CarriedIsApplied
+carried_applies request ids old c e = by_is request old (plan_of request ids old) c e
+
+-- ---- changes always lead somewhere
+
+none_misfits : (n : ℕ) (tasks : TasksValue) (ops : List Op) → FitAllLocal tasks ops → misfit n tasks ops ≡ None
+none_misfits n tasks [] fit = refl
+none_misfits n tasks (op ∷ ops) fit = ap (λ b. cond b (misfit (n + 1) (apply_local tasks op) ops) (Some n)) fit.0 ∙ none_misfits (n + 1) (apply_local tasks op) ops fit.1
+
+group_fits : (tasks : TasksValue) (ops : List Op) → FitAllLocal tasks ops → FitAllLocal tasks (group_of ops)
+group_fits tasks [] fit = tt
+group_fits tasks (op ∷ ops) fit = (refl, fit)
+
+leads_by : (idle : Bool) (o : Option ℕ) (old moved : State) → o ≡ None → (new : State) × (cond idle (Some old) (unless o moved) ≡ Some new)
+leads_by true o old moved fits = (old, refl)
+leads_by false o old moved fits = (moved, ap (λ n. unless n moved) fits)
+
+leads : (renumber : Bool) (changes : List Change) (now : Moment) (old : State) → (new : State) × (applied old (Commit renumber (group_of (ops_of_all old.tasks changes now))) ≡ Some new)
+leads renumber changes now old =
+    let ops : List Op = ops_of_all old.tasks changes now in
+    leads_by (is_idle renumber (group_of ops)) (misfit 0 old.tasks (group_of ops)) old (moved_to renumber (old.pending ++ group_of ops) (apply_all_local old.tasks (group_of ops)) old)
+    (none_misfits 0 old.tasks (group_of ops) (group_fits old.tasks ops (changes_lead old.tasks changes now).0))
+
+pub changes_carried : ChangesAreCarriedOut
+changes_carried request ids old plan renumber changes planned works =
+    let there = leads renumber changes request.at old in
+    let step : applied old (step_in request.at old plan.work) ≡ Some there.0 = ap (λ w. applied old (step_in request.at old w)) works ∙ there.1 in
+    (record { step = step_in request.at old plan.work; new = there.0; text = shown plan.show old there.0 }, ap (carried_by request old) planned ∙ ap (then_shown plan old (step_in request.at old plan.work)) step)

@@ -1,0 +1,2 @@
+pub mod Applied
+mod Deciding

@@ -1,0 +1,29 @@
+-- What a command comes to, in a replica of some state: its step, the state after it, and its text, or why it does nothing.
+use Rattle.std.specs.Prelude.{ℕ, List, Option, Some, None, Result, Ok, Err}
+use Rattle.tw_world.specs.declared.ids.IdWords.{IdWords}
+use Rattle.tw_replica.specs.Body.{Step}
+use Rattle.tw_replica.specs.State.{State, applied}
+use Rattle.tw_commands.specs.Plan.{Plan, step_in}
+use Rattle.tw_commands.specs.Commands.{plan_of}
+use Rattle.tw_commands.specs.Texts.{shown}
+use Rattle.tw_commands.specs.declared.request.Request.{Request}
+use Rattle.tw_commands.specs.declared.refusal.Refusal.{Refusal}
+use Rattle.tw_commands.specs.declared.refusal.Refusal.TheVariants.{NothingToUndo}
+
+pub record Carried : Type 0 where
+  pub step : Step
+  pub new : State
+  pub text : List ℕ
+
+-- a step that leads nowhere takes back what is not there
+abbrev pub then_shown : Plan → (old : State) → Step → Option State → Result Carried Refusal
+then_shown plan old step None = Err NothingToUndo
+then_shown plan old step (Some new) = Ok (record { step = step; new = new; text = shown plan.show old new })
+
+abbrev pub carried_by : Request → (old : State) → Result Plan Refusal → Result Carried Refusal
+carried_by request old (Err refusal) = Err refusal
+carried_by request old (Ok plan) = then_shown plan old (step_in request.at old plan.work) (applied old (step_in request.at old plan.work))
+
+-- what a request comes to, by the uuids that are drawn for it
+abbrev pub carried_out : Request → IdWords → State → Result Carried Refusal
+carried_out request ids old = carried_by request old (plan_of request ids old)

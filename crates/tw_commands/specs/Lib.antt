@@ -1,0 +1,9 @@
+pub mod Request
+pub mod Plan
+pub mod Makes
+pub mod Looks
+pub mod Commands
+pub mod Texts
+pub mod Carried
+pub mod Ready
+pub mod Laws

@@ -1,0 +1,56 @@
+-- What a command is to do with a replica, and what it is to print.
+use Rattle.std.specs.Prelude.{ℕ, Bool, List, Result, Ok, Err}
+use Rattle.tw_world.specs.declared.Moment.{Moment}
+use Rattle.tw_model.specs.Changes.{ops_of_all, group_of}
+use Rattle.tw_model.specs.declared.changes.Change.{Change}
+use Rattle.tw_replica.specs.Body.{Step}
+use Rattle.tw_replica.specs.Body.Step.{Commit, Undo}
+use Rattle.tw_replica.specs.State.{State}
+use Rattle.tw_commands.specs.declared.plan.Plan as code
+use Rattle.tw_commands.specs.declared.plan.Work as code_work
+use Rattle.tw_commands.specs.declared.plan.Work.TheVariants as work
+use Rattle.tw_commands.specs.declared.plan.Show as code_show
+use Rattle.tw_commands.specs.declared.plan.Show.TheVariants as show
+use Rattle.tw_commands.specs.declared.refusal.Refusal.{Refusal}
+
+-- the step of a command
+pub data Work : Type 0 where
+  -- changes are made, one after another, and the numbers packed if that is asked
+  Changes : (renumber : Bool) → List Change → Work
+  -- the last group is taken back
+  TakeBack : Work
+
+-- what is printed
+pub data Show : Type 0 where
+  -- the number of a task that was added
+  Created : List ℕ → Show
+  -- how many operations were taken back
+  TakenBack : Show
+  -- this text
+  Text : List ℕ → Show
+
+pub record Plan : Type 0 where
+  pub work : Work
+  pub show : Show
+
+-- the step, taken from this state at this moment
+abbrev pub step_in : Moment → State → Work → Step
+step_in now state (Changes renumber changes) = Commit renumber (group_of (ops_of_all state.tasks changes now))
+step_in now state TakeBack = Undo
+
+-- the same of what the code holds
+abbrev pub work_view : code_work.Work → Work
+work_view (work.Changes renumber changes) = Changes renumber changes.items
+work_view work.TakeBack = TakeBack
+
+abbrev pub show_view : code_show.Show → Show
+show_view (show.Created uuid) = Created uuid
+show_view show.TakenBack = TakenBack
+show_view (show.Text text) = Text text.items
+
+abbrev pub plan_view : code.Plan → Plan
+plan_view plan = record { work = work_view plan.work; show = show_view plan.show }
+
+abbrev pub planned : Result code.Plan Refusal → Result Plan Refusal
+planned (Ok plan) = Ok (plan_view plan)
+planned (Err refusal) = Err refusal

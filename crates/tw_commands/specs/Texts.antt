@@ -1,0 +1,38 @@
+-- What commands print.
+use Rattle.std.specs.Prelude.{ℕ, ◌+◌, ◌-◌, ◌==◌, cond, List, [], ◌++◌, length, Option, Some, None, codes}
+use Rattle.std.specs.Fmt.{decimal}
+use Rattle.tw_model.specs.Places.{Places, id_of}
+use Rattle.tw_replica.specs.State.{State}
+use Rattle.tw_commands.specs.Plan.{Show}
+use Rattle.tw_commands.specs.Plan.Show.{Created, TakenBack, Text}
+
+-- a number between two texts
+abbrev pub numbered : List ℕ → ℕ → List ℕ → List ℕ
+numbered front n back = front ++ (decimal n ++ back)
+
+-- a number that is there, and else 0
+abbrev pub or_zero : Option ℕ → ℕ
+or_zero None = 0
+or_zero (Some n) = n
+
+-- the number of a task, and 0 where it has no place
+abbrev pub number_of : List ℕ → Places → ℕ
+number_of u places = or_zero (id_of u places)
+
+-- of a task that was added
+abbrev pub created_text : List ℕ → Places → List ℕ
+created_text u places = numbered (codes "Created task ") (number_of u places) (codes ".\n")
+
+-- of operations that were taken back
+abbrev pub undone_text : ℕ → List ℕ
+undone_text n = numbered (codes "Undone ") n (cond (n == 1) (codes " operation.\n") (codes " operations.\n"))
+
+-- of a number of tasks
+abbrev pub count_text : ℕ → List ℕ
+count_text n = numbered [] n (codes "\n")
+
+-- the text, once the step led from one state to another
+abbrev pub shown : Show → (old new : State) → List ℕ
+shown (Created u) old new = created_text u new.numbers
+shown TakenBack old new = undone_text (length old.pending - (length new.pending + 1))
+shown (Text text) old new = text

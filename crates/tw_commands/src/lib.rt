@@ -1,0 +1,18 @@
+//! The commands of `tw task` that stay on this machine: what each makes of a replica, in memory, and what it prints.
+//! A command is a total function of what was asked and of the replica's state, and no disk is in sight.
+//! It stands on `tw_replica` for the steps, on `tw_model` for tasks and their changes, and on `tw_export` for the JSON.
+#![tactic(auto)]
+
+mod commands;
+pub mod laws;
+mod plan;
+mod ready;
+mod refusal;
+mod request;
+#[cfg(test)]
+mod tests;
+mod texts;
+
+pub use ready::{Ready, decide};
+pub use refusal::Refusal;
+pub use request::{Command, Request};

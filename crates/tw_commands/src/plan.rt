@@ -1,0 +1,33 @@
+// What a command is to do, and what it is to print.
+use tw_model::Change;
+use uuid::Uuid;
+
+/// The step of a command.
+#[derive(Drop)]
+pub(crate) enum Work {
+    /// Changes are made, one after another, and the numbers packed if that is asked.
+    Changes {
+        renumber: bool,
+        changes: Vec<Change>,
+    },
+    /// The last group is taken back.
+    TakeBack,
+}
+
+/// What is printed.
+#[derive(Drop)]
+pub(crate) enum Show {
+    /// The number of a task that was added.
+    Created { uuid: Uuid },
+    /// How many operations were taken back.
+    TakenBack,
+    /// This text.
+    Text(Vec<u8>),
+}
+
+/// What a command is to do, and what it is to print.
+#[derive(Drop)]
+pub(crate) struct Plan {
+    pub work: Work,
+    pub show: Show,
+}

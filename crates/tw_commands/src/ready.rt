@@ -1,0 +1,107 @@
+// A command that is made in memory, with its text.
+ghost use Rattle.std.specs.Prelude.{◌≡◌, length, Ok as AnOk, Err as AnErr, None as Nowhere, IfOk, IfErr, OnOk, OnErr};
+ghost use Rattle.tw_replica.specs.State.{State, applied};
+ghost use Rattle.tw_replica.specs.Replica.{held_state};
+ghost use Rattle.tw_replica.specs.Prepared.{IsPrepared, prepared_state};
+ghost use Rattle.tw_commands.specs.Commands.{ids_after, MayHaveDrawn};
+ghost use Rattle.tw_commands.specs.Plan.{step_in, work_view, show_view};
+ghost use Rattle.tw_commands.specs.Plan.Work.{Changes};
+ghost use Rattle.tw_commands.specs.Texts.{shown};
+ghost use Rattle.tw_commands.specs.Ready.{IsReady, NotReady};
+
+use crate::commands::plan_of;
+use crate::plan::{Plan, Show, Work};
+use crate::refusal::Refusal;
+use crate::request::Request;
+use crate::texts::{created_text, undone_text};
+use std::alloc::Global;
+use tw_model::Change;
+use tw_replica::{Prepared, Replica, ReplicaError};
+use tw_world::{IdWords, Memory, Moment};
+
+/// A command that is made in memory: its step, which is yet to be written, and what is to be printed then.
+#[derive(Drop)]
+pub struct Ready {
+    pub prepared: Prepared,
+    pub text: Vec<u8>,
+}
+
+// Makes the changes of a command in memory.
+fn make_changes(
+    alloc: Global,
+    replica: Replica,
+    changes: Vec<Change>,
+    now: Moment,
+    renumber: bool,
+) -> Result<Prepared, Memory>
+    ensures { IfOk result (IsPrepared replica (step_in now (held_state replica) (Changes renumber changes.items))) }
+{
+    let mut editing = replica.edit(alloc);
+    editing.make(alloc, changes, now)?;
+    editing.prepare(alloc, renumber)
+}
+
+// Takes the step of a command in memory.
+fn prepare(
+    alloc: Global,
+    replica: Replica,
+    work: Work,
+    now: Moment,
+) -> Result<Result<Prepared, Refusal>, Memory>
+    ensures prepared { IfOk result (λ made. IfOk made (IsPrepared replica (step_in now (held_state replica) (work_view work)))) }
+    ensures refused { IfOk result (λ made. IfErr made (λ refusal. (refusal ≡ Refusal.NothingToUndo) × (applied (held_state replica) (step_in now (held_state replica) (work_view work)) ≡ Nowhere))) }
+{
+    match work {
+        Work::Changes { renumber, changes } => {
+            let prepared = make_changes(alloc, replica, changes, now, renumber)?;
+            Ok(Ok(prepared))
+        }
+        Work::TakeBack => match replica.take_back(alloc) {
+            Ok(prepared) => Ok(Ok(prepared)),
+            Err(ReplicaError::NothingToUndo) => Ok(Err(Refusal::NothingToUndo)),
+            Err(_) => Err(Memory),
+        },
+    }
+}
+
+// The text of a command, once its step is taken in memory. Before it, so many operations were pending.
+fn shown(alloc: Global, show: Show, pending: usize, prepared: &Prepared) -> Result<Vec<u8>, Memory>
+    ensures { IfOk result (λ text. (old : State) → pending ≡ length old.pending → text.items ≡ shown (show_view show) old (prepared_state prepared.now)) }
+{
+    match show {
+        Show::Created { uuid } => created_text(alloc, uuid, prepared.numbers()),
+        Show::TakenBack => {
+            let left = prepared.pending().len() + 1;
+            undone_text(alloc, pending.saturating_sub(left) as u64)
+        }
+        Show::Text(text) => Ok(text),
+    }
+}
+
+/// Makes in memory what a request comes to in a replica, with its text, or says why the command does nothing.
+/// All the memory that it wants is taken here. What is refused is dropped with the replica.
+pub fn decide(
+    alloc: Global,
+    request: &Request,
+    ids: &mut IdWords,
+    replica: Replica,
+) -> Result<Result<Ready, Refusal>, Memory>
+    ensures ready { IfOk result (λ decided. IfOk decided (IsReady request.now ids.old replica)) }
+    ensures refused { IfOk result (λ decided. IfErr decided (NotReady request.now ids.old replica)) }
+
+    // how many identifiers are drawn
+    ensures ids { OnOk result (ids.new ≡ ids_after request.now ids.old (held_state replica)) }
+    ensures want { OnErr result (MayHaveDrawn request.now ids.old ids.new (held_state replica)) }
+{
+    let pending = replica.pending().len();
+    let Plan { work, show } = match plan_of(alloc, request, ids, &replica)? {
+        Ok(plan) => plan,
+        Err(refusal) => return Ok(Err(refusal)),
+    };
+    let prepared = match prepare(alloc, replica, work, request.at)? {
+        Ok(prepared) => prepared,
+        Err(refusal) => return Ok(Err(refusal)),
+    };
+    let text = shown(alloc, show, pending, &prepared)?;
+    Ok(Ok(Ready { prepared, text }))
+}

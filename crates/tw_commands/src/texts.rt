@@ -1,0 +1,55 @@
+// What commands print.
+ghost use Rattle.std.specs.Prelude.{◌≡◌, IfOk};
+ghost use Rattle.tw_commands.specs.Texts as spec;
+
+use std::alloc::Global;
+use tw_model::id_of;
+use tw_world::Memory;
+use uuid::Uuid;
+
+// A number between two texts.
+fn numbered(alloc: Global, front: &str, number: u64, back: &str) -> Result<Vec<u8>, Memory>
+    ensures { IfOk result (λ text. text.items ≡ spec.numbered front.now number back.now) }
+{
+    let text = format!(in alloc; "{}{}{}", front, number, back)?;
+    Ok(text.into_bytes())
+}
+
+// The number of the place that holds a uuid, and 0 where none does.
+fn number_of(uuid: Uuid, places: &Vec<Option<Uuid>>) -> u64
+    ensures { result ≡ spec.number_of uuid places.now.items }
+{
+    match id_of(places, uuid) {
+        Some(id) => id,
+        None => 0,
+    }
+}
+
+/// The number of a task that was added.
+pub(crate) fn created_text(
+    alloc: Global,
+    uuid: Uuid,
+    places: &Vec<Option<Uuid>>,
+) -> Result<Vec<u8>, Memory>
+    ensures { IfOk result (λ text. text.items ≡ spec.created_text uuid places.now.items) }
+{
+    numbered(alloc, "Created task ", number_of(uuid, places), ".\n")
+}
+
+/// How many operations were taken back.
+pub(crate) fn undone_text(alloc: Global, count: u64) -> Result<Vec<u8>, Memory>
+    ensures { IfOk result (λ text. text.items ≡ spec.undone_text count) }
+{
+    if count == 1 {
+        numbered(alloc, "Undone ", count, " operation.\n")
+    } else {
+        numbered(alloc, "Undone ", count, " operations.\n")
+    }
+}
+
+/// A number of tasks.
+pub(crate) fn count_text(alloc: Global, count: u64) -> Result<Vec<u8>, Memory>
+    ensures { IfOk result (λ text. text.items ≡ spec.count_text count) }
+{
+    numbered(alloc, "", count, "\n")
+}

@@ -1,0 +1,279 @@
+// Runs over a disk and streams in memory.
+
+use std::alloc::Global;
+use std::test::Fail;
+use tw_cli::{Cause, Outcome, WordKind, task_run};
+use tw_server::MemoryLink;
+use tw_world::{IdWords, MemoryDisk, MemorySink, Moment};
+use uuid::Uuid;
+
+// The journal after a task was added to an empty store: its magic, and one commit of six operations.
+const ADDED: [u8; 263] = [
+    1, 0, 0, 0, 8, 84, 87, 82, 69, 80, 76, 48, 49, 1, 0, 0, 0, 245, 1, 0, 0, 0, 0, 6, 4, 1, 0, 0,
+    0, 0, 0, 0, 64, 0, 128, 0, 0, 0, 0, 0, 0, 1, 3, 0, 0, 0, 0, 0, 0, 64, 0, 128, 0, 0, 0, 0, 0, 0,
+    1, 0, 0, 0, 11, 100, 101, 115, 99, 114, 105, 112, 116, 105, 111, 110, 0, 1, 0, 0, 0, 8, 66,
+    117, 121, 32, 109, 105, 108, 107, 0, 0, 0, 0, 101, 83, 241, 0, 0, 0, 0, 0, 3, 0, 0, 0, 0, 0, 0,
+    64, 0, 128, 0, 0, 0, 0, 0, 0, 1, 0, 0, 0, 5, 101, 110, 116, 114, 121, 0, 1, 0, 0, 0, 10, 49,
+    55, 48, 48, 48, 48, 48, 48, 48, 48, 0, 0, 0, 0, 101, 83, 241, 0, 0, 0, 0, 0, 3, 0, 0, 0, 0, 0,
+    0, 64, 0, 128, 0, 0, 0, 0, 0, 0, 1, 0, 0, 0, 8, 109, 111, 100, 105, 102, 105, 101, 100, 0, 1,
+    0, 0, 0, 10, 49, 55, 48, 48, 48, 48, 48, 48, 48, 48, 0, 0, 0, 0, 101, 83, 241, 0, 0, 0, 0, 0,
+    3, 0, 0, 0, 0, 0, 0, 64, 0, 128, 0, 0, 0, 0, 0, 0, 1, 0, 0, 0, 6, 115, 116, 97, 116, 117, 115,
+    0, 1, 0, 0, 0, 7, 112, 101, 110, 100, 105, 110, 103, 0, 0, 0, 0, 101, 83, 241, 0, 0, 0, 0, 0,
+];
+
+// How a run ended, with what it printed and told.
+#[derive(Drop)]
+struct Ended {
+    outcome: Outcome,
+    out: MemorySink,
+    err: MemorySink,
+}
+
+// The words of a line that are parted by bars.
+fn words_of(alloc: Global, line: &str) -> Result<Vec<String>, Fail> {
+    let mut words = Vec::new(alloc);
+    for word in line.split('|') {
+        words.push(String::from_str(alloc, word)?)?;
+    }
+    Ok(words)
+}
+
+// Runs a line at the moment 2023-11-14T22:13:20Z, with identifiers from `first` on.
+fn run_from(
+    alloc: Global,
+    first: u128,
+    line: &str,
+    disk: &mut MemoryDisk,
+    out_fails: &[u64],
+) -> Result<Ended, Fail> {
+    let words = words_of(alloc, line)?;
+    let Some(now) = Moment::new(1_700_000_000, 0) else {
+        return Err(Fail::new("no moment"));
+    };
+    let mut ids = IdWords {
+        start: first,
+        step: 1,
+    };
+    let settings = Vec::new(alloc);
+    let mut link = MemoryLink::new(
+        alloc,
+        Uuid::nil(),
+        IdWords { start: 0, step: 1 },
+        Vec::new(alloc),
+    )?;
+    let mut out = MemorySink::new(alloc, Vec::new(alloc), out_fails.to_vec(alloc)?)?;
+    let mut err = MemorySink::new(alloc, Vec::new(alloc), Vec::new(alloc))?;
+    let outcome = task_run(
+        alloc, &words, &settings, now, &mut ids, disk, &mut link, &mut out, &mut err,
+    );
+    Ok(Ended { outcome, out, err })
+}
+
+// Runs a line with identifiers from 1 on, over an output that does not fail.
+fn run(alloc: Global, line: &str, disk: &mut MemoryDisk) -> Result<Ended, Fail> {
+    run_from(alloc, 1, line, disk, &[])
+}
+
+fn empty_disk(alloc: Global, fails: &[u64]) -> Result<MemoryDisk, Fail> {
+    Ok(MemoryDisk::new(alloc, Vec::new(alloc), fails.to_vec(alloc)?)?)
+}
+
+#[test]
+fn a_task_is_added(rt: HostRuntime) -> Result<(), Fail> {
+    let alloc = rt.alloc();
+    let mut disk = empty_disk(alloc, &[])?;
+    let ended = run(alloc, "add|Buy|milk", &mut disk)?;
+    assert_eq!(rt;
+        ended.outcome,
+        Outcome {
+            status: 0,
+            cause: Cause::Done
+        }
+    );
+    assert_eq!(rt; ended.out.bytes(), b"Created task 1.\n".as_slice());
+    assert_eq!(rt; ended.err.bytes(), b"".as_slice());
+    assert_eq!(rt; disk.bytes(), ADDED.as_slice());
+    Ok(())
+}
+
+#[test]
+fn words_outside_the_grammar_are_told(rt: HostRuntime) -> Result<(), Fail> {
+    let alloc = rt.alloc();
+    let rows = [
+        ("", 0, WordKind::Unbuilt),
+        ("list", 0, WordKind::Unbuilt),
+        ("add", 0, WordKind::Missing),
+        ("add|", 1, WordKind::Value),
+        ("add|Buy|due:eom", 2, WordKind::Unbuilt),
+        ("add|+shop|Buy", 1, WordKind::Unbuilt),
+        ("add|Buy|-shop", 2, WordKind::Unbuilt),
+        ("add|rc.gc=off|Buy", 1, WordKind::Unbuilt),
+        ("undo|2", 1, WordKind::Extra),
+        ("count|+PENDING", 1, WordKind::Unbuilt),
+        ("export|2", 1, WordKind::Unbuilt),
+    ];
+    for (line, word, kind) in rows {
+        let mut disk = empty_disk(alloc, &[])?;
+        let ended = run(alloc, line, &mut disk)?;
+        let cause = Cause::BadWords { word, kind };
+        assert_eq!(rt; ended.outcome, Outcome { status: 2, cause }, "{line}");
+        assert_eq!(rt; ended.out.bytes(), b"".as_slice());
+        let told = format!(in alloc; "task: bad word {}\n", word)?;
+        assert_eq!(rt; ended.err.bytes(), told.as_bytes());
+        assert_eq!(rt; disk.calls(), 0);
+    }
+    Ok(())
+}
+
+#[test]
+fn a_task_stands_whose_text_is_not_printed(rt: HostRuntime) -> Result<(), Fail> {
+    let alloc = rt.alloc();
+    let mut disk = empty_disk(alloc, &[])?;
+    let ended = run_from(alloc, 1, "add|Buy|milk", &mut disk, &[0])?;
+    assert_eq!(rt;
+        ended.outcome,
+        Outcome {
+            status: 6,
+            cause: Cause::OutFault
+        }
+    );
+    assert_eq!(rt; ended.err.bytes(), b"task: output failed\n".as_slice());
+    assert_eq!(rt; disk.bytes(), ADDED.as_slice());
+    Ok(())
+}
+
+#[test]
+fn an_empty_store_has_nothing_to_undo(rt: HostRuntime) -> Result<(), Fail> {
+    let alloc = rt.alloc();
+    let mut disk = empty_disk(alloc, &[])?;
+    let ended = run(alloc, "undo", &mut disk)?;
+    assert_eq!(rt;
+        ended.outcome,
+        Outcome {
+            status: 1,
+            cause: Cause::NothingToUndo
+        }
+    );
+    assert_eq!(rt; ended.err.bytes(), b"task: nothing to undo\n".as_slice());
+    let ended = run(alloc, "count", &mut disk)?;
+    assert_eq!(rt; ended.out.bytes(), b"0\n".as_slice());
+    Ok(())
+}
+
+#[test]
+fn a_task_is_counted_and_undone(rt: HostRuntime) -> Result<(), Fail> {
+    let alloc = rt.alloc();
+    let mut disk = empty_disk(alloc, &[])?;
+    let _ = run(alloc, "add|Buy|milk", &mut disk)?;
+    assert_eq!(rt;
+        run(alloc, "count", &mut disk)?.out.bytes(),
+        b"1\n".as_slice()
+    );
+    assert_eq!(rt;
+        run(alloc, "undo", &mut disk)?.out.bytes(),
+        b"Undone 5 operations.\n".as_slice()
+    );
+    assert_eq!(rt;
+        run(alloc, "count", &mut disk)?.out.bytes(),
+        b"0\n".as_slice()
+    );
+    assert_eq!(rt;
+        run_from(alloc, 2, "add|Buy|tea", &mut disk, &[])?
+            .out
+            .bytes(),
+        b"Created task 2.\n".as_slice()
+    );
+    Ok(())
+}
+
+#[test]
+fn a_task_is_exported_until_it_is_undone(rt: HostRuntime) -> Result<(), Fail> {
+    let alloc = rt.alloc();
+    let mut disk = empty_disk(alloc, &[])?;
+    let _ = run(alloc, "add|Buy|milk", &mut disk)?;
+    let exported =
+        b"[\n{\"description\":\"Buy milk\",\"entry\":\"20231114T221320Z\",\"modified\":\"20231114T221320Z\",\"status\":\"pending\",\"urgency\":0.000,\"uuid\":\"00000000-0000-4000-8000-000000000001\"}\n]\n";
+    assert_eq!(rt;
+        run(alloc, "export", &mut disk)?.out.bytes(),
+        exported.as_slice()
+    );
+    let _ = run(alloc, "undo", &mut disk)?;
+    assert_eq!(rt;
+        run(alloc, "export", &mut disk)?.out.bytes(),
+        b"[\n]\n".as_slice()
+    );
+    Ok(())
+}
+
+#[test]
+fn a_uuid_is_drawn_once_only(rt: HostRuntime) -> Result<(), Fail> {
+    let alloc = rt.alloc();
+    let mut disk = empty_disk(alloc, &[])?;
+    let _ = run(alloc, "add|Buy|milk", &mut disk)?;
+    let ended = run(alloc, "add|Buy|tea", &mut disk)?;
+    assert_eq!(rt; ended.outcome.status, 2);
+    assert_eq!(rt;
+        ended.err.bytes(),
+        b"task: 00000000-0000-4000-8000-000000000001 is taken\n".as_slice()
+    );
+    assert_eq!(rt; disk.bytes(), ADDED.as_slice());
+    Ok(())
+}
+
+#[test]
+fn each_undo_takes_one_add_back(rt: HostRuntime) -> Result<(), Fail> {
+    let alloc = rt.alloc();
+    for adds in 0..4u64 {
+        let mut disk = empty_disk(alloc, &[])?;
+        for first in 0..adds {
+            let _ = run_from(alloc, first as u128, "add|Buy|milk", &mut disk, &[])?;
+        }
+        for left in (0..adds).rev() {
+            assert_eq!(rt; run(alloc, "undo", &mut disk)?.outcome.status, 0);
+            let counted = format!(in alloc; "{}\n", left)?;
+            assert_eq!(rt;
+                run(alloc, "count", &mut disk)?.out.bytes(),
+                counted.as_bytes()
+            );
+        }
+        assert_eq!(rt;
+            run(alloc, "undo", &mut disk)?.outcome.cause,
+            Cause::NothingToUndo
+        );
+    }
+    Ok(())
+}
+
+#[test]
+fn a_disk_that_fails_is_told_and_keeps_its_records(rt: HostRuntime) -> Result<(), Fail> {
+    let alloc = rt.alloc();
+    let mut whole = empty_disk(alloc, &[])?;
+    let _ = run(alloc, "add|Buy|milk", &mut whole)?;
+    for failing in 0..whole.calls() {
+        let mut disk = empty_disk(alloc, &[failing])?;
+        let ended = run(alloc, "add|Buy|milk", &mut disk)?;
+        assert_eq!(rt;
+            ended.outcome,
+            Outcome {
+                status: 3,
+                cause: Cause::DiskFault
+            },
+            "call {failing}"
+        );
+        assert_eq!(rt; ended.out.bytes(), b"".as_slice());
+        assert_eq!(rt; ended.err.bytes(), b"task: the journal failed\n".as_slice());
+        // Only where the last sync fails does the record stand.
+        let counted = if failing + 1 == whole.calls() {
+            b"1\n"
+        } else {
+            b"0\n"
+        };
+        let mut again = MemoryDisk::new(alloc, disk.bytes().to_vec(alloc)?, Vec::new(alloc))?;
+        assert_eq!(rt;
+            run(alloc, "count", &mut again)?.out.bytes(),
+            counted.as_slice(),
+            "call {failing}"
+        );
+    }
+    Ok(())
+}
