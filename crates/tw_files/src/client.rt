@@ -140,6 +140,7 @@ mod tests {
     }
 
     // A host with two addresses, of which the second answers.
+    #[derive(Drop)]
     struct TwoAddresses {
         alloc: Global,
         bytes: usize,
