@@ -1,6 +1,7 @@
 -- The words of `tw server`, and the statuses that it ends with.
 use Rattle.std.specs.Prelude.{ℕ, ◌^◌, ◌-◌, ◌==◌, ◌&&◌, nat_le, List, [], length, slice_index_or, Option, Some, None, if◌then◌else◌}
 use Rattle.tw_text.specs.Natural.{natural}
+use Rattle.tw_files.specs.declared.connection.Limits.{Limits}
 use Rattle.tw.specs.declared.server_words.Service.{Service}
 use Rattle.tw_journal.specs.declared.journal.JournalError.TheVariants as journal
 use Rattle.tw_server.specs.declared.server.ServerError.{ServerError}
@@ -52,3 +53,7 @@ last_status DiskFault = Some 3
 last_status Closed = Some 3
 last_status (Damaged offset) = Some 7
 last_status Memory = None
+
+-- how long a client may be silent, and take for all
+abbrev pub server_limits : Limits
+server_limits = record { silence_seconds = 10; whole_seconds = 120 }

@@ -1,4 +1,7 @@
 // A link whose every exchange fails.
+ghost use Rattle.std.specs.Prelude.{◌≡◌, Err};
+ghost use Rattle.tw_world.specs.Disk.{Rose};
+ghost use Rattle.tw_http.specs.Link.{IsExchange, IsAnswered};
 
 use tw_http::{Link, LinkError};
 
@@ -10,14 +13,15 @@ pub struct FailingLink {
 
 impl FailingLink {
     /// A link that was asked for none.
-    pub fn new() -> FailingLink {
+    pub fn new() -> FailingLink
+        ensures { result.exchanges ≡ 0 }
+    {
         FailingLink { exchanges: 0 }
     }
 }
 
 impl Link for FailingLink {
-    ghost use Rattle.tw.specs.FileDisk.{none_told};
-    ghost use Rattle.tw.specs.Links.{failing_model};
+    ghost use Rattle.tw.specs.Links.{failing_model, none_told};
 
     ghost model = { failing_model };
 
@@ -25,7 +29,13 @@ impl Link for FailingLink {
 
     ghost own_stand = { λ link tells. none_told tells };
 
-    fn exchange(&mut self, _request: &[u8], _reply: &mut Vec<u8>) -> Result<(), LinkError> {
+    fn exchange(&mut self, _request: &[u8], _reply: &mut Vec<u8>) -> Result<(), LinkError>
+        ensures exchanged { IsExchange failing_model self.old self.new _request.now _reply.new.items result }
+        ensures answered { IsAnswered failing_model self.old self.new _request.now _reply.new.items result }
+        ensures failed { Rose self.old.exchanges self.new.exchanges }
+
+        ensures always { result ≡ Err LinkError.Failed }
+    {
         self.exchanges = self.exchanges.saturating_add(1);
         Err(LinkError::Failed)
     }

@@ -3,27 +3,23 @@
 //! the calls of `tw_cli` and `tw_server`, and ends with the status that they give.
 #![tactic(auto)]
 
-mod connection;
 mod failing_link;
-mod file_disk;
 mod help;
 mod link;
-mod peer;
-mod placed_file;
+mod print;
 mod server;
 mod server_words;
 mod settings;
 mod start;
 mod store;
-mod stream;
 mod task;
 
 use help::{HELP, VERSION};
+use print::{print, tell};
 use server::run_server;
-use start::{StartError, take_first, words};
+use start::{Part, StartError, part_of, take_first, words};
 use std::alloc::Global;
 use std::process::ExitCode;
-use stream::{print, tell};
 use task::run_task;
 
 // Does what the words ask for, and gives the program's status.
@@ -32,12 +28,12 @@ fn run(rt: &HostRuntime, alloc: Global) -> Result<u8, StartError> {
     let Some(first) = take_first(&mut words) else {
         return Err(StartError::CommandLine);
     };
-    match first.as_str() {
-        "--help" => Ok(print(rt, HELP)),
-        "--version" => Ok(print(rt, VERSION)),
-        "task" => run_task(rt, alloc, &words),
-        "server" => run_server(rt, alloc, &words),
-        _ => Err(StartError::CommandLine),
+    match part_of(first.as_str()) {
+        Some(Part::Help) => Ok(print(rt, HELP)),
+        Some(Part::Version) => Ok(print(rt, VERSION)),
+        Some(Part::Task) => run_task(rt, alloc, &words),
+        Some(Part::Server) => run_server(rt, alloc, &words),
+        None => Err(StartError::CommandLine),
     }
 }
 

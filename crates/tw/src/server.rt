@@ -1,16 +1,16 @@
 // `tw server`.
-ghost use Rattle.std.specs.Prelude.{◌≡◌, false};
+ghost use Rattle.std.specs.Prelude.{◌≡◌, false, IfOk};
+ghost use Rattle.tw_files.specs.Waits.{Begins};
 ghost use Rattle.tw_server.specs.Server.{is_closed, server_end};
-ghost use Rattle.tw.specs.Served.{last_status, status_of_refusal};
+ghost use Rattle.tw.specs.Served.{last_status, server_limits, status_of_refusal};
 
-use crate::connection::{Connection, Limits};
-use crate::peer::StreamPeer;
 use crate::server_words::read_service;
 use crate::start::{StartError, seed};
-use crate::store::open_file;
 use std::alloc::Global;
+use std::io;
 use std::io::ErrorKind;
 use std::net::{Ipv4Addr, TcpListener, TcpStream};
+use tw_files::{Busy, Connection, Limits, StreamPeer, TimedStream, Timer, open_disk};
 use tw_journal::JournalError;
 use tw_server::{ServeEnd, Server, ServerError, serve_one};
 use tw_world::{Disk, IdWords};
@@ -23,7 +23,8 @@ const LIMITS: Limits = Limits {
 
 /// Serves the sync protocol on a port of 127.0.0.1, one connection after another, and gives the program's status:
 /// 0 after the last connection, 3 where the file failed, 4 where there was no memory to read it, 5 where the port
-/// can't be listened on, 7 where the file is damaged. The file is not touched before the port is taken.
+/// can't be listened on, 7 where the file is damaged. The file is not touched before the port is taken. A file that another
+/// program uses is an error.
 pub fn run_server(rt: &HostRuntime, alloc: Global, words: &Vec<String>) -> Result<u8, StartError> {
     let Some(service) = read_service(words) else {
         return Err(StartError::CommandLine);
@@ -32,10 +33,14 @@ pub fn run_server(rt: &HostRuntime, alloc: Global, words: &Vec<String>) -> Resul
     let Ok(listener) = TcpListener::bind(rt, (Ipv4Addr::LOCALHOST, service.port)) else {
         return Ok(5);
     };
-    match open_file(rt, words[1].as_str()) {
+    let mut system = rt;
+    match open_disk(&mut system, words[1].as_str(), Busy::Fail) {
         Ok(mut disk) => Ok(serve_all(rt, alloc, &listener, &mut disk, &mut ids, service.count)),
-        Err(error) if error.kind() == ErrorKind::OutOfMemory => Err(StartError::Memory),
-        Err(_) => Ok(3),
+        Err(error) => match error.kind() {
+            ErrorKind::OutOfMemory => Err(StartError::Memory),
+            ErrorKind::WouldBlock => Err(StartError::InUse),
+            _ => Ok(3),
+        },
     }
 }
 
@@ -64,6 +69,16 @@ fn serve_all<D: Disk>(
     0
 }
 
+// A connection with a client.
+fn begin<C: Timer + Drop, S: TimedStream + Drop>(
+    clock: C,
+    stream: S,
+) -> io::Result<Connection<C, S>>
+    ensures { IfOk result (Begins C.has_shown server_limits) }
+{
+    Connection::new(clock, stream, LIMITS)
+}
+
 // Serves one connection.
 fn serve_stream<D: Disk>(
     rt: &HostRuntime,
@@ -76,7 +91,7 @@ fn serve_stream<D: Disk>(
     requires { is_closed server.old ≡ false → D.model.len disk.old ≡ server_end server.old }
     ensures { is_closed server.new ≡ false → D.model.len disk.new ≡ server_end server.new }
 {
-    let Ok(connection) = Connection::new(rt, stream, LIMITS) else {
+    let Ok(connection) = begin(rt, stream) else {
         return ServeEnd::PeerFault;
     };
     let mut peer = StreamPeer::new(connection);

@@ -4,29 +4,57 @@ use crate::failing_link::FailingLink;
 use crate::link::TcpLink;
 use crate::settings::settings;
 use crate::start::{StartError, moment, seed};
-use crate::store::{folder, journal_path, open_file};
-use crate::stream::Stream;
+use crate::store::{folder, journal_path};
 use std::alloc::Global;
 use std::io::ErrorKind;
 use tw_cli::{link_address, task_run};
-use tw_world::{Disk, FailingDisk, IdWords, Moment};
+use tw_files::{Busy, Stream, open_disk};
+use tw_world::{Disk, FailingDisk, IdWords, MemorySink, Moment};
 
-/// Does what the words behind `task` ask for, and gives the program's status. Where the journal's
-/// file can't be opened, it works on a disk whose every call fails.
+/// Does what the words behind `task` ask for, and gives the program's status. Nothing is opened or made for bad words or
+/// settings. Where the journal's file can't be opened, it works on a disk whose every call fails.
 pub fn run_task(rt: &HostRuntime, alloc: Global, words: &Vec<String>) -> Result<u8, StartError> {
     let settings = settings(rt, alloc)?;
     let folder = folder(rt, alloc, &settings)?;
     let path = journal_path(alloc, folder.as_str())?;
     let now = moment(rt)?;
-    let mut ids = IdWords::from_seed(seed(rt)?);
-    match open_file(rt, path.as_str()) {
+    let seed = seed(rt)?;
+    let mut ids = IdWords::from_seed(seed);
+    let mut broken = FailingDisk::new();
+    if are_refused(alloc, words, &settings, now, seed)? {
+        return run_over(rt, alloc, words, &settings, now, &mut ids, &mut broken);
+    }
+    let mut system = rt;
+    match open_disk(&mut system, path.as_str(), Busy::Wait) {
         Ok(mut disk) => run_over(rt, alloc, words, &settings, now, &mut ids, &mut disk),
         Err(error) if error.kind() == ErrorKind::OutOfMemory => Err(StartError::Memory),
-        Err(_) => {
-            let mut disk = FailingDisk::new();
-            run_over(rt, alloc, words, &settings, now, &mut ids, &mut disk)
-        }
+        Err(_) => run_over(rt, alloc, words, &settings, now, &mut ids, &mut broken),
     }
+}
+
+// Whether words or settings are refused. They are judged before the disk is asked for anything, so a run over a disk whose
+// every call fails refuses them as a run over any other does, with status 2, and ends otherwise where they are good.
+fn are_refused(
+    alloc: Global,
+    words: &Vec<String>,
+    settings: &Vec<u8>,
+    now: Moment,
+    seed: [u8; 32],
+) -> Result<bool, StartError> {
+    let mut out = MemorySink::new(alloc, Vec::new(alloc), Vec::new(alloc))?;
+    let mut err = MemorySink::new(alloc, Vec::new(alloc), Vec::new(alloc))?;
+    let outcome = task_run(
+        alloc,
+        words,
+        settings,
+        now,
+        &mut IdWords::from_seed(seed),
+        &mut FailingDisk::new(),
+        &mut FailingLink::new(),
+        &mut out,
+        &mut err,
+    );
+    Ok(outcome.status == 2)
 }
 
 // Carries the words out over a disk. Where the settings name no server, each exchange fails.
@@ -43,7 +71,7 @@ fn run_over<D: Disk>(
     let mut err = Stream::new(rt.stderr());
     let outcome = match link_address(alloc, settings) {
         Ok(Some(address)) => {
-            let mut link = TcpLink::new(rt, address);
+            let mut link = TcpLink::new(rt, rt, address);
             task_run(
                 alloc, words, settings, now, ids, disk, &mut link, &mut out, &mut err,
             )

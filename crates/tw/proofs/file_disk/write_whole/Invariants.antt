@@ -1,9 +1,0 @@
-use Rattle.std.proofs.Common.{◌≤◌, ◌-◌, length, take}
-use Rattle.tw.specs.PlacedFile.{Overwrites}
-use Rattle.tw.proofs.file_disk.write_whole.Given as goal
-
-abbrev pub invariant-loop-done : goal.invariant-loop-done
-invariant-loop-done g l = (l.done ≤ length l.bytes) × Overwrites (g.F.PlacedFile.contents l.fn.file) (g.F.PlacedFile.contents l.file) l.at (take l.done l.bytes)
-
-abbrev pub decreases-loop-done : goal.decreases-loop-done
-decreases-loop-done g l = length l.bytes - l.done

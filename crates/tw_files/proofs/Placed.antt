@@ -1,0 +1,57 @@
+-- Bytes that are read or written at a place in several calls.
+use Rattle.std.proofs.Common.{◌≡◌, ℕ, ◌+◌, ◌≤◌, List, [], ◌++◌, None, Some, length, take, drop, refl, sym, ap, ◌∙◌, arith, append_assoc, append-nil, length-append, length-drop, length-take-le, take-append-drop}
+use Rattle.std.proofs.lemmas.List.{take_at, drop_at, drop-drop, length-take}
+use Rattle.std.proofs.Math.Seq.{take-add}
+use Rattle.std.specs.Prelude.{Option}
+use Rattle.tw_world.specs.Disk.{overwritten}
+use Rattle.tw_files.specs.PlacedFile.{Holds, Overwrites}
+
+pub Holds-nil : (held : Option (List ℕ)) (at : ℕ) → Holds held at []
+Holds-nil None at = tt
+Holds-nil (Some held) at = refl
+
+-- what stands behind other bytes stands there with them
+pub Holds-more : (held : Option (List ℕ)) (at behind : ℕ) (p q : List ℕ) → behind ≡ at + length p → Holds held at p → Holds held behind q → Holds held at (p ++ q)
+Holds-more None at behind p q place first second = tt
+Holds-more (Some held) at behind p q place first second =
+    ap (λ l. l ++ q) first
+    ∙ ap (λ l. take (length p) (drop at held) ++ l) (second ∙ ap (λ n. take (length q) (drop n held)) place ∙ ap (take (length q)) (sym (drop-drop (length p) at held)))
+    ∙ sym (take-add (length p) (length q) (drop at held))
+    ∙ ap (λ n. take n (drop at held)) (sym (length-append p q))
+
+pub Overwrites-nil : (held : Option (List ℕ)) (at : ℕ) → Overwrites held held at []
+Overwrites-nil None at = tt
+Overwrites-nil (Some held) at = λ room.
+    let same : at + 0 ≡ at = omega arith in
+    sym (ap (λ l. l ++ drop (at + 0) held) (append-nil (take at held)) ∙ ap (λ n. take at held ++ drop n held) same ∙ take-append-drop at held)
+
+length-overwritten : (at : ℕ) (bytes held : List ℕ) → at + length bytes ≤ length held → length (overwritten at bytes held) ≡ length held
+length-overwritten at bytes held le = omega (arith, length-append (take at held ++ bytes) (drop (at + length bytes) held), length-append (take at held) bytes, length-take at held, length-drop (at + length bytes) held)
+
+-- one part and the part behind it are one
+two_parts : (at : ℕ) (a b held : List ℕ) → at + length a + length b ≤ length held → overwritten (at + length a) b (overwritten at a held) ≡ overwritten at (a ++ b) held
+two_parts at a b held room =
+    let front : length (take at held) ≡ at = length-take-le at held (omega arith) in
+    let both : length (take at held ++ a) ≡ at + length a = omega (arith, front, length-append (take at held) a) in
+    let x = overwritten at a held in
+    let n : at + length a + length b ≡ at + length (a ++ b) = omega (arith, length-append a b) in
+    let e1 : take (at + length a) x ≡ take at held ++ a = take_at (take at held ++ a) (drop (at + length a) held) (at + length a) both in
+    let e2 : drop (at + length a + length b) x ≡ drop (at + length (a ++ b)) held =
+    sym (drop-drop (length b) (at + length a) x)
+    ∙ ap (λ (l : List ℕ). drop (length b) l) (drop_at (take at held ++ a) (drop (at + length a) held) (at + length a) both)
+    ∙ drop-drop (length b) (at + length a) held
+    ∙ ap (λ (k : ℕ). drop k held) n in
+    ap (λ (l : List ℕ). l ++ b ++ drop (at + length a + length b) x) e1
+    ∙ ap (λ (l : List ℕ). (take at held ++ a) ++ b ++ l) e2
+    ∙ ap (λ (l : List ℕ). l ++ drop (at + length (a ++ b)) held) (append_assoc (take at held) a b)
+
+-- what is written behind other bytes is written with them
+pub Overwrites-more : (a b c : Option (List ℕ)) (at behind : ℕ) (p q : List ℕ) → behind ≡ at + length p → Overwrites a b at p → Overwrites b c behind q → Overwrites a c at (p ++ q)
+Overwrites-more None b c at behind p q place first second = tt
+Overwrites-more (Some x) None c at behind p q place first second = absurd first
+Overwrites-more (Some x) (Some y) None at behind p q place first second = absurd second
+Overwrites-more (Some x) (Some y) (Some z) at behind p q place first second = λ room.
+    let fits : at + length p + length q ≤ length x = omega (arith, room, length-append p q) in
+    let now : y ≡ overwritten at p x = first (omega (arith, fits)) in
+    let long : length y ≡ length x = ap length now ∙ length-overwritten at p x (omega (arith, fits)) in
+    second (omega (arith, fits, long, place)) ∙ ap (λ n. overwritten n q y) place ∙ ap (overwritten (at + length p) q) now ∙ two_parts at p q x fits

@@ -1,0 +1,12 @@
+use Rattle.std.proofs.Common.{refl}
+use Rattle.tw_files.proofs.client.ask.Goals as goal
+
+pub returns : goal.returns
+returns g c = record {
+  begun = c.in_ok-connection.connection;
+  sent = c.write_whole.new.writer;
+  ended = c.read_reply.new.stream;
+  dialled = c.in_ok-connection.ensures;
+  told = c.if-not-write_whole.ensures.whole refl;
+  replied = record { read = c.in_ok-read_reply.ensures.bytes; whole = c.in_ok-read_reply.ensures.whole };
+}

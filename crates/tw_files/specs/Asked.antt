@@ -1,0 +1,32 @@
+-- One exchange with a server.
+use Rattle.std.specs.Prelude.{◌≡◌, ◌⊎◌, ℕ, List, Option, length}
+use Rattle.std.specs.Io.KnownBytes.{Appends, Consumes, IsAtEnd}
+use Rattle.std.specs.declared.net.socket_addr.SocketAddr.{SocketAddr}
+use Rattle.tw_files.specs.declared.connection.Connection.{Connection}
+use Rattle.tw_files.specs.declared.connection.Limits.{Limits}
+use Rattle.tw_files.specs.Waits.{Begins}
+
+-- how long a server may be silent, and take for all
+abbrev pub client_limits : Limits
+client_limits = record { silence_seconds = 30; whole_seconds = 120 }
+
+-- a new connection to one of these addresses, within 30 seconds
+pub record Dialled {C S : Type 0} (is_of : SocketAddr → Type 0) (leads_to : S → SocketAddr → ℕ → Type 0) (has_shown : C → ℕ → Type 0) (connection : Connection C S) : Type 0 where
+  pub address : SocketAddr
+  pub one_of : is_of address
+  pub led : leads_to connection.stream address 30_000_000_000
+  pub limited : Begins has_shown client_limits connection
+
+-- what is left of a connection was read, or as many bytes as the longest reply has
+pub record Replied {C S : Type 0} (remaining : S → Option (List ℕ)) (old new : Connection C S) (reply : List ℕ) : Type 0 where
+  pub read : Consumes (remaining old.stream) (remaining new.stream) reply
+  pub whole : IsAtEnd (remaining new.stream) ⊎ (length reply ≡ 16793600)
+
+-- a new connection to one of these addresses got the request, and gave the reply
+pub record Asked {C S : Type 0} (is_of : SocketAddr → Type 0) (leads_to : S → SocketAddr → ℕ → Type 0) (has_shown : C → ℕ → Type 0) (contents remaining : S → Option (List ℕ)) (request reply : List ℕ) : Type 0 where
+  pub begun : Connection C S
+  pub sent : Connection C S
+  pub ended : Connection C S
+  pub dialled : Dialled is_of leads_to has_shown begun
+  pub told : Appends (contents begun.stream) (contents sent.stream) request
+  pub replied : Replied remaining sent ended reply

@@ -1,0 +1,29 @@
+-- What a file that is read and written at places holds, where that is known.
+use Rattle.std.specs.Prelude.{◌≡◌, ℕ, ◌+◌, ◌≤◌, List, Option, Some, None, length, take, drop}
+use Rattle.std.specs.Option.{ForSome}
+use Rattle.tw_world.specs.Disk.{overwritten, resized}
+
+-- it has so many bytes
+abbrev pub HasLength : Option (List ℕ) → ℕ → Type 0
+HasLength held len = ForSome held (λ bytes. len ≡ length bytes)
+
+-- a length of at least this stays
+abbrev pub KeepsLength : (old new : Option (List ℕ)) → ℕ → Type 0
+KeepsLength old new least = (len : ℕ) → least ≤ len → HasLength old len → HasLength new len
+
+-- these bytes stand at a place
+abbrev pub Holds : Option (List ℕ) → ℕ → List ℕ → Type 0
+Holds None at bytes = Unit {0}
+Holds (Some held) at bytes = bytes ≡ take (length bytes) (drop at held)
+
+-- these bytes were written over what stood at a place inside
+abbrev pub Overwrites : (old new : Option (List ℕ)) → ℕ → List ℕ → Type 0
+Overwrites None new at bytes = Unit {0}
+Overwrites (Some old) None at bytes = ⊥
+Overwrites (Some old) (Some new) at bytes = at + length bytes ≤ length old → new ≡ overwritten at bytes old
+
+-- it was cut to a length, or zeros were added up to it
+abbrev pub Resizes : (old new : Option (List ℕ)) → ℕ → Type 0
+Resizes None new len = Unit {0}
+Resizes (Some old) None len = ⊥
+Resizes (Some old) (Some new) len = new ≡ resized len old

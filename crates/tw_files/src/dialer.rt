@@ -1,0 +1,44 @@
+// The addresses of a host, and connections to them.
+ghost use Rattle.std.specs.Prelude.{ℕ, List, All, IfOk};
+ghost use Rattle.std.specs.Duration.{as_nanos};
+ghost use Rattle.std.specs.declared.net.socket_addr.SocketAddr.{SocketAddr};
+
+use crate::timed_stream::TimedStream;
+use std::io;
+use std::net::{SocketAddr, TcpStream, ToSocketAddrs};
+use std::time::Duration;
+
+/// What the system offers of other machines.
+pub trait Dialer {
+    type Stream: TimedStream + Drop;
+
+    /// Holds of the addresses of a host, a name or an address, at a port.
+    ghost is_of: { List ℕ → ℕ → SocketAddr → Type 0 };
+
+    /// Holds of a new connection to an address, for which it was to wait so many nanoseconds at most.
+    ghost leads_to: { Self.Stream → SocketAddr → ℕ → Type 0 };
+
+    /// The addresses of a host at a port.
+    fn addresses(&self, host: &str, port: u16) -> io::Result<Vec<SocketAddr>>
+        ensures { IfOk result (λ found. All (is_of host.now port) found.items) };
+
+    /// Connects to an address, or fails where it has not answered after this time.
+    fn connect(&self, address: SocketAddr, wait: Duration) -> io::Result<Self::Stream>
+        ensures { IfOk result (λ stream. leads_to stream address (as_nanos wait)) };
+}
+
+impl Dialer for &HostRuntime {
+    type Stream = TcpStream;
+
+    ghost is_of = { λ host port address. Unit {0} };
+
+    ghost leads_to = { λ stream address nanos. Unit {0} };
+
+    fn addresses(&self, host: &str, port: u16) -> io::Result<Vec<SocketAddr>> {
+        Ok((host, port).to_socket_addrs(*self)?.collect(self.alloc())?)
+    }
+
+    fn connect(&self, address: SocketAddr, wait: Duration) -> io::Result<TcpStream> {
+        TcpStream::connect_timeout(*self, &address, wait)
+    }
+}

@@ -1,0 +1,26 @@
+//! The program's edge: the system's files, folders, streams and connections as disks, sinks and peers.
+//! Each call says what it asks of the system, with which bytes, places, addresses and times, and each fault is counted.
+//! It stands on `tw_world`, whose traits it implements.
+#![tactic(auto)]
+
+mod client;
+mod connection;
+mod dialer;
+mod file_disk;
+mod folders;
+mod opening;
+mod peer;
+mod placed_file;
+mod stream;
+mod timed_stream;
+
+pub use client::{AskError, ask};
+pub use connection::{Connection, Limits};
+pub use dialer::Dialer;
+pub use file_disk::FileDisk;
+pub use folders::Folders;
+pub use opening::open_disk;
+pub use peer::StreamPeer;
+pub use placed_file::{Busy, PlacedFile};
+pub use stream::Stream;
+pub use timed_stream::{TimedStream, Timer};

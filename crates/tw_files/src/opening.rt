@@ -1,0 +1,75 @@
+// Opening a journal's file.
+ghost use Rattle.std.specs.Prelude.{◌≡◌, IfOk};
+ghost use Rattle.tw_files.specs.FileDisk.{disk_file, disk_len};
+ghost use Rattle.tw_files.specs.Folders.{EachOnWay};
+
+use crate::file_disk::FileDisk;
+use crate::folders::{Folders, settle_way};
+use crate::placed_file::{Busy, PlacedFile};
+use std::io;
+use std::path::Path;
+
+// Opens a file, and makes it, with its folder, where it is not there.
+fn open_or_make<S: Folders>(system: &mut S, path: &str) -> io::Result<S::File>
+    ensures at { IfOk result (λ file. S.File.is_at file path.now) }
+{
+    match system.open(path) {
+        Err(error) if error.kind() == io::ErrorKind::NotFound => {
+            if let Some(folder) = Path::new(path).parent() {
+                system.make_folder(folder.as_str())?;
+            }
+            system.open_or_make(path)
+        }
+        opened => opened,
+    }
+}
+
+/// Opens a file as a disk. What is not there is made, with the folders on the way to it. The lock of the file is taken
+/// before its length is read. Where the file has no byte yet, it and all folders on the way to it are made stable, since
+/// the run that made them may have ended before it did that.
+pub fn open_disk<S: Folders>(
+    system: &mut S,
+    path: &str,
+    busy: Busy,
+) -> io::Result<FileDisk<S::File>>
+    ensures at { IfOk result (λ disk. S.File.is_at (disk_file disk) path.now) }
+    ensures stable { IfOk result (λ disk. disk_len disk ≡ 0 → S.File.is_stable (disk_file disk)) }
+    ensures settled { IfOk result (λ disk. disk_len disk ≡ 0 → EachOnWay (S.is_settled system.new) path.now) }
+{
+    let file = open_or_make(system, path)?;
+    file.lock(busy)?;
+    let mut disk = FileDisk::new(file)?;
+    if disk.is_empty() {
+        disk.stabilize()?;
+        settle_way(system, path)?;
+    }
+    Ok(disk)
+}
+
+#[cfg(test)]
+mod tests {
+    use super::*;
+    use std::test::Fail;
+    use tw_world::Disk;
+
+    #[test]
+    fn a_file_is_made_with_its_folders_and_used_by_one_at_a_time(
+        rt: HostRuntime,
+    ) -> Result<(), Fail> {
+        let mut system = &rt;
+        for path in ["a.journal", "two/deep/a.journal"] {
+            let mut disk = open_disk(&mut system, path, Busy::Wait)?;
+            assert_eq!(rt; disk.size(), Ok(0));
+            assert_eq!(rt; disk.set_len(3), Ok(()));
+            assert_eq!(rt; disk.write_at(0, b"abc"), Ok(()));
+            match open_disk(&mut system, path, Busy::Fail) {
+                Ok(_) => assert!(rt; false),
+                Err(error) => assert_eq!(rt; error.kind(), io::ErrorKind::WouldBlock),
+            }
+            drop(disk);
+            let mut again = open_disk(&mut system, path, Busy::Fail)?;
+            assert_eq!(rt; again.size(), Ok(3));
+        }
+        Ok(())
+    }
+}

@@ -1,0 +1,101 @@
+// A writer as a sink.
+ghost use Rattle.std.specs.Prelude.{◌≡◌, IsTrue, OnOk, OnErr};
+ghost use Rattle.std.specs.Io.KnownBytes.{Appends};
+ghost use Rattle.tw_world.specs.Disk.{Rose};
+ghost use Rattle.tw_world.specs.Sink.{SinkKept, Got, GotPart};
+
+use std::io::Write;
+use tw_world::{Sink, StreamError};
+
+/// A writer, with how often it has failed. It tells nothing of what it got.
+#[derive(Drop)]
+pub struct Stream<W: Write> {
+    writer: W,
+    faults: u64,
+}
+
+// Writes all the bytes, and answers whether that was possible.
+pub(crate) fn write_whole<W: Write>(writer: &mut W, bytes: &[u8]) -> bool
+    ensures whole { IsTrue result → Appends (W.contents writer.old) (W.contents writer.new) bytes.now }
+{
+    let mut done = 0;
+    while done < bytes.len() {
+        match writer.write(&bytes[done..]) {
+            Ok(0) | Err(_) => return false,
+            Ok(count) => done += count,
+        }
+    }
+    writer.flush().is_ok()
+}
+
+impl<W: Write> Stream<W> {
+    /// A sink over a writer.
+    pub fn new(writer: W) -> Stream<W> {
+        Stream { writer, faults: 0 }
+    }
+}
+
+impl<W: Write> Sink for Stream<W> {
+    ghost use Rattle.tw_files.specs.Stream.{stream_model};
+
+    ghost model = { stream_model };
+
+    fn write_all(&mut self, bytes: &[u8]) -> Result<(), StreamError>
+        ensures written { OnOk result (Got stream_model self.old self.new bytes.now) }
+        ensures part { OnErr result (GotPart stream_model self.old self.new bytes.now) }
+        ensures kept { SinkKept stream_model self.old self.new }
+        ensures failed { OnErr result (Rose self.old.faults self.new.faults) }
+
+        // No call that ends well counts a fault, and the writer has each byte then, where it says what it has.
+        ensures whole { OnOk result (Appends (W.contents self.old.writer) (W.contents self.new.writer) bytes.now) }
+        ensures well { OnOk result (self.new.faults ≡ self.old.faults) }
+    {
+        if write_whole(&mut self.writer, bytes) {
+            return Ok(());
+        }
+        self.faults = self.faults.saturating_add(1);
+        Err(StreamError::Failed)
+    }
+}
+
+#[cfg(test)]
+mod tests {
+    use super::*;
+    use std::io;
+    use std::test::Fail;
+
+    // Takes three bytes a call, and fails where it has no room left.
+    #[derive(Drop)]
+    struct Narrow {
+        got: Vec<u8>,
+        room: usize,
+    }
+
+    impl Write for Narrow {
+        fn write(&mut self, bytes: &[u8]) -> io::Result<usize> {
+            let count = bytes.len().min(3).min(self.room);
+            self.got.extend_from_slice(&bytes[..count])?;
+            self.room -= count;
+            Ok(count)
+        }
+
+        fn flush(&mut self) -> io::Result<()> {
+            Ok(())
+        }
+    }
+
+    #[test]
+    fn a_stream_gets_all_bytes_or_counts_a_fault(rt: HostRuntime) -> Result<(), Fail> {
+        let alloc = rt.alloc();
+        let mut stream = Stream::new(Narrow {
+            got: Vec::new(alloc),
+            room: 12,
+        });
+        assert_eq!(rt; stream.write_all(b"Created"), Ok(()));
+        assert_eq!(rt; stream.faults, 0);
+        assert_eq!(rt; stream.write_all(b" task 1.\n"), Err(StreamError::Failed));
+        assert_eq!(rt; stream.faults, 1);
+        assert_eq!(rt; stream.writer.got.as_slice(), b"Created task".as_slice());
+        Ok(())
+    }
+}
