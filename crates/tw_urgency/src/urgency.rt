@@ -2,12 +2,13 @@
 ghost use Rattle.std.specs.Prelude.{◌≡◌, ◌≤◌, ◌<◌, count_by, is_some, codes, IfSome};
 ghost use Rattle.std.specs.Option.{option_copied};
 ghost use Rattle.std.specs.FinMap as map;
+ghost use Rattle.tw_world.specs.declared.moment.TheConstants.{MOMENT_LIMIT};
 ghost use Rattle.tw_urgency.specs.Stored.{is_tag, is_annotation};
-ghost use Rattle.tw_urgency.specs.Urgency.{IsSmall, IsWithin, AreWeights, share, given, counted, prioritized, has_come, aged, due_at, due_share, of_properties, of_counts, of_moments, of_waiting, is_waiting, task_urgency, urgency};
+ghost use Rattle.tw_urgency.specs.Urgency.{IsSmall, IsWithin, AreWeights, share, term_if, count_term, priority_term, has_come, age_term, due_term_at, due_term, property_terms, count_terms, moment_terms, waiting_terms, is_waiting, task_urgency, urgency};
 
 use crate::coefficients::Coefficients;
 use crate::dependencies::{blocking, is_blocked};
-use crate::status::{is_live, waits};
+use crate::status::{is_pending, waits};
 use crate::stored::{is_annotation, is_tag, moment_at};
 use tw_model::{TaskMap, Tasks};
 use uuid::Uuid;
@@ -26,19 +27,19 @@ fn share(c: i64, part: u64, whole: u64) -> i64
     if c < 0 { -(size as i64) } else { size as i64 }
 }
 
-fn given(holds: bool, c: i64) -> i64
+fn term_if(holds: bool, c: i64) -> i64
     requires small { IsSmall c }
-    ensures value { result ≡ given holds c }
+    ensures value { result ≡ term_if holds c }
     ensures small { IsSmall result }
 {
     if holds { c } else { 0 }
 }
 
 // What a number of tags or annotations weighs.
-#[tactic(auto, unfolding(crate::specs::Urgency::counted))]
-fn counted(n: u64, c: i64) -> i64
+#[tactic(auto, unfolding(crate::specs::Urgency::count_term))]
+fn count_term(n: u64, c: i64) -> i64
     requires small { IsSmall c }
-    ensures value { result ≡ counted n c }
+    ensures value { result ≡ count_term n c }
     ensures small { IsSmall result }
 {
     match n {
@@ -49,9 +50,9 @@ fn counted(n: u64, c: i64) -> i64
     }
 }
 
-fn prioritized(weights: &Coefficients, value: Option<&str>) -> i64
+fn priority_term(weights: &Coefficients, value: Option<&str>) -> i64
     requires { AreWeights weights.now }
-    ensures value { result ≡ prioritized weights.now (option_copied value.entry) }
+    ensures value { result ≡ priority_term weights.now (option_copied value.entry) }
     ensures small { IsSmall result }
 {
     match value {
@@ -72,10 +73,10 @@ fn has_come(now: u64, at: Option<u64>) -> bool
 }
 
 // What an age weighs, up to the greatest one.
-#[tactic(auto, unfolding(crate::specs::Urgency::aged))]
-fn aged(now: u64, weights: &Coefficients, entry: Option<u64>) -> i64
+#[tactic(auto, unfolding(crate::specs::Urgency::age_term))]
+fn age_term(now: u64, weights: &Coefficients, entry: Option<u64>) -> i64
     requires { AreWeights weights.now }
-    ensures value { result ≡ aged now weights.now entry }
+    ensures value { result ≡ age_term now weights.now entry }
     ensures small { IsSmall result }
 {
     let Some(entry) = entry else {
@@ -89,12 +90,12 @@ fn aged(now: u64, weights: &Coefficients, entry: Option<u64>) -> i64
 }
 
 // What a due moment weighs.
-#[tactic(auto, unfolding(crate::specs::Urgency::due_at))]
-fn due_at(now: u64, c: i64, due: u64) -> i64
+#[tactic(auto, unfolding(crate::specs::Urgency::due_term_at))]
+fn due_term_at(now: u64, c: i64, due: u64) -> i64
     requires small { IsSmall c }
-    requires now { now < 253_370_764_800 }
-    requires due { due < 253_370_764_800 }
-    ensures value { result ≡ due_at now c due }
+    requires now { now < MOMENT_LIMIT }
+    requires due { due < MOMENT_LIMIT }
+    ensures value { result ≡ due_term_at now c due }
     ensures small { IsSmall result }
 {
     if due + 604_800 <= now {
@@ -106,15 +107,15 @@ fn due_at(now: u64, c: i64, due: u64) -> i64
     share(c, 3_628_800 + 8 * (now + 1_209_600 - due), 18_144_000)
 }
 
-fn due_share(now: u64, c: i64, due: Option<u64>) -> i64
+fn due_term(now: u64, c: i64, due: Option<u64>) -> i64
     requires small { IsSmall c }
-    requires now { now < 253_370_764_800 }
-    requires due { IfSome due (λ due. due < 253_370_764_800) }
-    ensures value { result ≡ due_share now c due }
+    requires now { now < MOMENT_LIMIT }
+    requires due { IfSome due (λ due. due < MOMENT_LIMIT) }
+    ensures value { result ≡ due_term now c due }
     ensures small { IsSmall result }
 {
     match due {
-        Some(due) => due_at(now, c, due),
+        Some(due) => due_term_at(now, c, due),
         None => 0,
     }
 }
@@ -126,16 +127,16 @@ fn has(task: &TaskMap, property: &str) -> bool
 }
 
 // The terms that go by a property alone.
-#[tactic(auto, unfolding(crate::specs::Urgency::of_properties))]
-fn of_properties(task: &TaskMap, weights: &Coefficients) -> i64
+#[tactic(auto, unfolding(crate::specs::Urgency::property_terms))]
+fn property_terms(task: &TaskMap, weights: &Coefficients) -> i64
     requires { AreWeights weights.now }
-    ensures value { result ≡ of_properties task.now weights.now }
+    ensures value { result ≡ property_terms task.now weights.now }
     ensures small { IsWithin 4 result }
 {
-    given(has(task, "tag_next"), weights.tag_next)
-        + prioritized(weights, task.get("priority"))
-        + given(has(task, "start"), weights.active)
-        + given(has(task, "project"), weights.project)
+    term_if(has(task, "tag_next"), weights.tag_next)
+        + priority_term(weights, task.get("priority"))
+        + term_if(has(task, "start"), weights.active)
+        + term_if(has(task, "project"), weights.project)
 }
 
 // How many of a task's properties are tags.
@@ -165,49 +166,51 @@ fn count_annotations(task: &TaskMap) -> u64
 }
 
 // The terms that count properties.
-#[tactic(auto, unfolding(crate::specs::Urgency::of_counts))]
-fn of_counts(task: &TaskMap, weights: &Coefficients) -> i64
+#[tactic(auto, unfolding(crate::specs::Urgency::count_terms))]
+fn count_terms(task: &TaskMap, weights: &Coefficients) -> i64
     requires { AreWeights weights.now }
-    ensures value { result ≡ of_counts task.now weights.now }
+    ensures value { result ≡ count_terms task.now weights.now }
     ensures small { IsWithin 2 result }
 {
-    counted(count_tags(task), weights.tags) + counted(count_annotations(task), weights.annotations)
+    count_term(count_tags(task), weights.tags)
+        + count_term(count_annotations(task), weights.annotations)
 }
 
 // The terms that go by moments.
-#[tactic(auto, unfolding(crate::specs::Urgency::of_moments))]
-fn of_moments(task: &TaskMap, now: u64, weights: &Coefficients) -> i64
-    requires now { now < 253_370_764_800 }
+#[tactic(auto, unfolding(crate::specs::Urgency::moment_terms))]
+fn moment_terms(task: &TaskMap, now: u64, weights: &Coefficients) -> i64
+    requires now { now < MOMENT_LIMIT }
     requires weights { AreWeights weights.now }
-    ensures value { result ≡ of_moments task.now now weights.now }
+    ensures value { result ≡ moment_terms task.now now weights.now }
     ensures small { IsWithin 3 result }
 {
-    given(
+    term_if(
         has_come(now, moment_at(task, "scheduled")),
         weights.scheduled,
-    ) + aged(now, weights, moment_at(task, "entry"))
-        + due_share(now, weights.due, moment_at(task, "due"))
+    ) + age_term(now, weights, moment_at(task, "entry"))
+        + due_term(now, weights.due, moment_at(task, "due"))
 }
 
 // The terms of what stands in the way.
-#[tactic(auto, unfolding(crate::specs::Urgency::of_waiting))]
-fn of_waiting(blocked: bool, blocking: bool, waiting: bool, weights: &Coefficients) -> i64
+#[tactic(auto, unfolding(crate::specs::Urgency::waiting_terms))]
+fn waiting_terms(blocked: bool, blocking: bool, waiting: bool, weights: &Coefficients) -> i64
     requires { AreWeights weights.now }
-    ensures value { result ≡ of_waiting blocked blocking waiting weights.now }
+    ensures value { result ≡ waiting_terms blocked blocking waiting weights.now }
     ensures small { IsWithin 3 result }
 {
-    given(blocked, weights.blocked)
-        + given(blocking, weights.blocking)
-        + given(waiting, weights.waiting)
+    term_if(blocked, weights.blocked)
+        + term_if(blocking, weights.blocking)
+        + term_if(waiting, weights.waiting)
 }
 
 fn is_waiting(task: &TaskMap, now: u64) -> bool
     ensures { result ≡ is_waiting task.now now }
 {
-    is_live(Some(task)) && waits(task, now)
+    is_pending(Some(task)) && waits(task, now)
 }
 
-/// How urgent a task is, in thousandths, where it is known whether it is blocking (task(1), under "urgency").
+/// How urgent a task is, in thousandths, where it is known whether it is blocking (taskrc(5), "URGENCY"). Each term is cut
+/// toward zero.
 #[tactic(auto, unfolding(crate::specs::Urgency::task_urgency))]
 pub fn task_urgency(
     tasks: &Tasks,
@@ -216,15 +219,15 @@ pub fn task_urgency(
     now: u64,
     weights: &Coefficients,
 ) -> i64
-    requires now { now < 253_370_764_800 }
+    requires now { now < MOMENT_LIMIT }
     requires weights { AreWeights weights.now }
     ensures value { result ≡ task_urgency tasks.now task.now is_blocking now weights.now }
     ensures small { IsWithin 12 result }
 {
-    of_properties(task, weights)
-        + of_counts(task, weights)
-        + of_moments(task, now, weights)
-        + of_waiting(
+    property_terms(task, weights)
+        + count_terms(task, weights)
+        + moment_terms(task, now, weights)
+        + waiting_terms(
             is_blocked(tasks, task),
             is_blocking,
             is_waiting(task, now),
@@ -235,7 +238,7 @@ pub fn task_urgency(
 /// How urgent the task of a uuid is, in thousandths; 0 where there is none. It looks at all tasks;
 /// for many uuids `all_blocking` and `task_urgency` are meant.
 pub fn urgency_of(tasks: &Tasks, uuid: Uuid, now: u64, weights: &Coefficients) -> i64
-    requires now { now < 253_370_764_800 }
+    requires now { now < MOMENT_LIMIT }
     requires weights { AreWeights weights.now }
     ensures { result ≡ urgency tasks.now uuid now weights.now }
 {
