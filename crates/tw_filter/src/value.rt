@@ -1,0 +1,184 @@
+// What a word `name:value` asks.
+ghost use Rattle.std.specs.Prelude.{◌≡◌, ◌<◌, IfOk};
+ghost use Rattle.tw_time.specs.Civil.{limit};
+ghost use Rattle.tw_filter.specs.Gives.{GivesTerm};
+ghost use Rattle.tw_filter.specs.Values.{status_named, asks, presence, priority_term, status_value, uuid_value, moment_value, day_value, dependency_term, valued, unvalued, plain_term};
+
+use crate::attribute::{Attribute, is_priority};
+use crate::bad_word::{TermError, WordKind};
+use crate::name::{number_in, uuid_of_36};
+use crate::term::{Term, Test, asks};
+use std::alloc::Global;
+use tw_time::{Day, Zone, day_of, read_moment};
+use tw_urgency::Status;
+use tw_world::{Memory, Text};
+use uuid::Uuid;
+
+// The status of a word.
+#[tactic(auto, unfolding(crate::specs::Values::status_named))]
+fn status_named(word: &str) -> Option<Status>
+    ensures { result ≡ status_named word.now }
+{
+    match word {
+        "pending" => Some(Status::Pending),
+        "waiting" => Some(Status::Waiting),
+        "completed" => Some(Status::Completed),
+        "deleted" => Some(Status::Deleted),
+        "recurring" => Some(Status::Recurring),
+        _ => None,
+    }
+}
+
+// The test of an attribute's presence.
+pub(crate) fn presence(alloc: Global, attribute: Attribute, name: &str) -> Result<Test, Memory>
+    ensures { IfOk result (λ test. test ≡ presence attribute name.now) }
+{
+    let test = match attribute {
+        Attribute::Moment => Test::HasMoment(Text::from_str(alloc, name)?),
+        Attribute::Depends => Test::HasDependency,
+        _ => Test::Has(Text::from_str(alloc, name)?),
+    };
+    Ok(test)
+}
+
+// A priority that the property is, or is not. Behind `is` and `isnt` the value may be empty.
+pub(crate) fn priority_term(
+    alloc: Global,
+    wanted: bool,
+    name: &str,
+    value: &str,
+) -> Result<Term, TermError>
+    ensures { GivesTerm result (priority_term wanted name.now value.now) }
+{
+    if is_priority(value) || value.is_empty() {
+        is_text(alloc, wanted, name, value)
+    } else {
+        Err(TermError::Bad(WordKind::Value))
+    }
+}
+
+// A text that the property is, or is not.
+pub(crate) fn is_text(
+    alloc: Global,
+    wanted: bool,
+    name: &str,
+    value: &str,
+) -> Result<Term, TermError>
+    ensures { GivesTerm result (asks wanted (Test.Is name.now value.now)) }
+{
+    let name = Text::from_str(alloc, name)?;
+    let value = Text::from_str(alloc, value)?;
+    asks(wanted, Test::Is(name, value))
+}
+
+pub(crate) fn status_value(value: &str) -> Result<Status, WordKind>
+    ensures { result ≡ status_value value.now }
+{
+    status_named(value).ok_or(WordKind::Value)
+}
+
+fn uuid_value(value: &str) -> Result<Uuid, WordKind>
+    ensures { result ≡ uuid_value value.now }
+{
+    uuid_of_36(value).ok_or(WordKind::Value)
+}
+
+pub(crate) fn moment_value(value: &str, now: u64, zone: &Zone) -> Result<u64, WordKind>
+    requires { now < limit }
+    ensures value { result ≡ moment_value value.now now zone.now }
+    ensures in_range { IfOk result (λ at. at < limit) }
+{
+    match read_moment(value, now, zone) {
+        Ok(at) => Ok(at),
+        Err(_) => Err(WordKind::Date),
+    }
+}
+
+fn day_value(at: u64, zone: &Zone) -> Result<Day, WordKind>
+    requires { at < limit }
+    ensures { result ≡ day_value at zone.now }
+{
+    Ok(day_of(at, zone))
+}
+
+// `depends:value`: one task, by its uuid or its number.
+#[tactic(auto, unfolding(crate::specs::Values::dependency_term))]
+fn dependency_term(value: &str) -> Result<Term, TermError>
+    ensures { GivesTerm result (dependency_term value.now) }
+{
+    if let Some(uuid) = uuid_of_36(value) {
+        return asks(true, Test::DependsOn(uuid));
+    }
+    let number = number_in(value).ok_or(WordKind::Value)?;
+    asks(true, Test::DependsOnNumber(number))
+}
+
+// `name:value`, where the value is not empty.
+#[tactic(auto, unfolding(crate::specs::Values::valued))]
+fn valued(
+    alloc: Global,
+    attribute: Attribute,
+    name: &str,
+    value: &str,
+    now: u64,
+    zone: &Zone,
+) -> Result<Term, TermError>
+    requires { now < limit }
+    ensures { GivesTerm result (valued attribute name.now value.now now zone.now) }
+{
+    match attribute {
+        Attribute::Words => is_text(alloc, true, name, value),
+        Attribute::Project => {
+            let name = Text::from_str(alloc, name)?;
+            let value = Text::from_str(alloc, value)?;
+            asks(true, Test::IsWithin(name, value))
+        }
+        Attribute::Priority => priority_term(alloc, true, name, value),
+        Attribute::Moment => {
+            let at = moment_value(value, now, zone)?;
+            let day = day_value(at, zone)?;
+            asks(true, Test::OnDay(Text::from_str(alloc, name)?, day))
+        }
+        Attribute::Status => {
+            let status = status_value(value)?;
+            asks(true, Test::HasStatus(status))
+        }
+        Attribute::Recur => Err(TermError::Bad(WordKind::Value)),
+        Attribute::Depends => dependency_term(value),
+        Attribute::Uuid => {
+            let uuid = uuid_value(value)?;
+            asks(true, Test::IsUuid(uuid))
+        }
+        Attribute::Parent | Attribute::Other => Err(TermError::Bad(WordKind::Attribute)),
+    }
+}
+
+// `name:`, which asks that the attribute is absent.
+fn unvalued(alloc: Global, attribute: Attribute, name: &str) -> Result<Term, TermError>
+    ensures { GivesTerm result (unvalued attribute name.now) }
+{
+    match attribute {
+        Attribute::Uuid => Err(TermError::Bad(WordKind::Value)),
+        Attribute::Parent | Attribute::Other => Err(TermError::Bad(WordKind::Attribute)),
+        _ => asks(false, presence(alloc, attribute, name)?),
+    }
+}
+
+// `name:value`.
+pub(crate) fn plain_term(
+    alloc: Global,
+    attribute: Attribute,
+    name: &str,
+    value: &str,
+    now: u64,
+    zone: &Zone,
+) -> Result<Term, TermError>
+    requires { now < limit }
+    ensures { GivesTerm result (plain_term attribute name.now value.now now zone.now) }
+{
+    if value.is_empty() {
+        unvalued(alloc, attribute, name)
+    } else {
+        valued(alloc, attribute, name, value, now, zone)
+    }
+}

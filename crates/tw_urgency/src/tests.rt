@@ -1,0 +1,249 @@
+ghost use Rattle.tw_urgency.specs.Urgency.{AreWeights};
+
+use super::*;
+use std::alloc::Global;
+use std::test::Fail;
+use tw_model::{TaskMap, Tasks};
+use tw_world::Memory;
+use uuid::Uuid;
+
+// 2026-03-04T10:00:00Z.
+const NOW: u64 = 1_772_618_400;
+
+fn numbered(n: u128) -> Uuid {
+    Uuid::from_u128(0x00000000_0000_4000_8000_000000000000 | n)
+}
+
+// The task of a text `property=value property=value`.
+fn task_of(alloc: Global, text: &str) -> Result<TaskMap, Memory> {
+    let mut task = TaskMap::new(alloc);
+    for pair in text.split(' ') {
+        if let Some((property, value)) = pair.split_once('=') {
+            task.set(alloc, property, Some(value))?;
+        }
+    }
+    Ok(task)
+}
+
+// The coefficients of taskrc(5).
+fn defaults() -> Coefficients
+    ensures { AreWeights result }
+{
+    Coefficients {
+        tag_next: 15_000,
+        due: 12_000,
+        blocking: 8_000,
+        high: 6_000,
+        medium: 3_900,
+        low: 1_800,
+        scheduled: 5_000,
+        active: 4_000,
+        age: 2_000,
+        annotations: 1_000,
+        tags: 1_000,
+        project: 1_000,
+        blocked: -5_000,
+        waiting: -3_000,
+        age_max: 365,
+    }
+}
+
+// Coefficients of which few parts are whole, some of them below zero.
+fn odd() -> Coefficients
+    ensures { AreWeights result }
+{
+    Coefficients {
+        tag_next: 7,
+        due: -777,
+        blocking: 11,
+        high: -13,
+        medium: 17,
+        low: -19,
+        scheduled: 23,
+        active: -29,
+        age: -1_001,
+        annotations: -1_011,
+        tags: 999,
+        project: 31,
+        blocked: 37,
+        waiting: -41,
+        age_max: 3,
+    }
+}
+
+// Tasks, and what a reading of the rule in fractions gives by the default and by the odd coefficients. For the
+// last two Taskwarrior 2.6.2 prints 18 and 11.
+const URGENCIES: [(&str, i64, i64); 40] = [
+    ("", 0, 0),
+    ("due=1773828000", 2400, -155),
+    ("due=1773827999", 2400, -155),
+    ("due=1773828001", 2400, -155),
+    ("due=1772618400", 8800, -569),
+    ("due=1772013600", 12000, -777),
+    ("due=1772013601", 11999, -776),
+    ("due=0", 12000, -777),
+    ("due=soon", 0, 0),
+    ("due=1772964078", 6971, -451),
+    (
+        "tag_next= priority=H project=x entry=1772618400",
+        22800,
+        824,
+    ),
+    ("entry=1772618399", 0, 0),
+    ("entry=1772618401", 0, 0),
+    ("entry=1741082400", 2000, -1001),
+    ("entry=1741082399", 2000, -1001),
+    ("entry=0", 2000, -1001),
+    ("entry=1772518400", 6, -386),
+    ("entry=01", 0, 0),
+    ("tag_a=", 800, 799),
+    ("tag_a= tag_b=x", 900, 899),
+    ("tag_a= tag_b= tag_next= tag_=", 16000, 1006),
+    ("tags=a", 0, 0),
+    ("annotation_1=a", 800, -808),
+    ("annotation_1=a annotation_2=b", 900, -909),
+    ("annotation_1=a annotation_2=b annotation_x=c", 900, -909),
+    (
+        "annotation_1=a annotation_2=b annotation_3=c annotation_4=d",
+        1000,
+        -1011,
+    ),
+    ("priority=M", 3900, 17),
+    ("priority=L", 1800, -19),
+    ("priority=h", 0, 0),
+    ("priority=", 0, 0),
+    ("start=x", 4000, -29),
+    ("project=", 1000, 31),
+    ("scheduled=1772618400", 5000, 23),
+    ("scheduled=1772618401", 0, 0),
+    ("scheduled=x", 0, 0),
+    ("status=pending wait=1772618401", -3000, -41),
+    ("status=pending wait=1772618400", 0, 0),
+    ("status=completed wait=1772618401", 0, 0),
+    (
+        "status=pending priority=H project=Home.Flat entry=1706745599 due=1709208000 wait=2147483648",
+        18000,
+        -1801,
+    ),
+    (
+        "status=completed start=946684800 entry=946684799 scheduled=947923200 end=951786123",
+        11000,
+        -1007,
+    ),
+];
+
+#[test]
+fn urgency_is_the_sum_of_its_terms_cut_toward_zero(rt: HostRuntime) -> Result<(), Fail> {
+    let alloc = rt.alloc();
+    for (text, by_default, by_odd) in URGENCIES {
+        let task = task_of(alloc, text)?;
+        let mut tasks = Tasks::new(alloc);
+        let _ = tasks.insert(numbered(1), task)?;
+        assert_eq!(rt;
+            urgency_of(&tasks, numbered(1), NOW, &defaults()),
+            by_default,
+            "at {text}"
+        );
+        assert_eq!(rt;
+            urgency_of(&tasks, numbered(1), NOW, &odd()),
+            by_odd,
+            "at {text}"
+        );
+    }
+    Ok(())
+}
+
+// Tasks by their numbers, the numbers to which their dependencies lead, their own among them, and whether they are
+// blocked and blocking: a chain from 5 to 1, 6 and 7 in a circle, and 9, which depends on a deleted task and on none.
+const DEPENDENCIES: [(u128, &str, &[u128], bool, bool); 9] = [
+    (1, "status=pending", &[1], false, true),
+    (
+        2,
+        "status=pending dep_00000000-0000-4000-8000-000000000001=",
+        &[1, 2],
+        true,
+        true,
+    ),
+    (
+        3,
+        "status=pending wait=1772618401 dep_00000000-0000-4000-8000-000000000002=",
+        &[1, 2, 3],
+        true,
+        false,
+    ),
+    (
+        4,
+        "status=completed dep_00000000-0000-4000-8000-000000000003=",
+        &[1, 2, 3, 4],
+        false,
+        false,
+    ),
+    (
+        5,
+        "status=pending dep_00000000-0000-4000-8000-000000000004=",
+        &[1, 2, 3, 4, 5],
+        false,
+        true,
+    ),
+    (
+        6,
+        "status=pending dep_00000000-0000-4000-8000-000000000007= dep_00000000-0000-4000-8000-000000000005=",
+        &[1, 2, 3, 4, 5, 6, 7],
+        true,
+        true,
+    ),
+    (
+        7,
+        "status=pending dep_00000000-0000-4000-8000-000000000006= dep_x=",
+        &[1, 2, 3, 4, 5, 6, 7],
+        true,
+        true,
+    ),
+    (
+        8,
+        "status=deleted dep_00000000-0000-4000-8000-000000000008=",
+        &[8],
+        false,
+        false,
+    ),
+    (
+        9,
+        "status=pending dep_00000000-0000-4000-8000-000000000088= dep_00000000-0000-4000-8000-000000000008=",
+        &[8, 9, 0x88],
+        false,
+        false,
+    ),
+];
+
+#[test]
+fn dependencies_lead_along_a_chain_and_round_a_circle(rt: HostRuntime) -> Result<(), Fail> {
+    let alloc = rt.alloc();
+    let mut tasks = Tasks::new(alloc);
+    for (number, text, _, _, _) in DEPENDENCIES {
+        let task = task_of(alloc, text)?;
+        let _ = tasks.insert(numbered(number), task)?;
+    }
+    let all = all_blocking(alloc, &tasks)?;
+    for (number, _, leads, is_blocked, is_blocking) in DEPENDENCIES {
+        let uuid = numbered(number);
+        assert_eq!(rt; blocked(&tasks, uuid), is_blocked, "at {number}");
+        assert_eq!(rt; blocking(&tasks, uuid), is_blocking, "at {number}");
+        assert_eq!(rt; all.contains(&uuid), is_blocking, "at {number}");
+        let met = reached(alloc, &tasks, uuid)?;
+        for other in [1, 2, 3, 4, 5, 6, 7, 8, 9, 0x88] {
+            assert_eq!(rt;
+                met.contains(&numbered(other)),
+                leads.contains(&other),
+                "from {number} to {other}"
+            );
+            assert_eq!(rt;
+                would_cycle(alloc, &tasks, numbered(other), uuid)?,
+                leads.contains(&other),
+                "from {number} to {other}"
+            );
+        }
+    }
+    assert!(rt; !would_cycle(alloc, &tasks, numbered(1), numbered(0x88))?);
+    assert!(rt; would_cycle(alloc, &tasks, numbered(0x99), numbered(0x99))?);
+    Ok(())
+}
