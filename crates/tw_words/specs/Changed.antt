@@ -12,7 +12,7 @@ use Rattle.tw_time.specs.declared.error.DateError.{DateError}
 use Rattle.tw_urgency.specs.Dependencies.{dependency_in}
 use Rattle.tw_filter.specs.Cuts.{parts}
 use Rattle.tw_filter.specs.Holds.{Scene}
-use Rattle.tw_filter.specs.Places.{uuid_of}
+use Rattle.tw_model.specs.Places.{uuid_of}
 use Rattle.tw_filter.specs.declared.bad_word.WordKind.{WordKind}
 use Rattle.tw_filter.specs.declared.bad_word.WordKind.TheVariants as bad
 use Rattle.tw_words.specs.Lines.{Parts}

@@ -11,7 +11,7 @@ use tw_urgency::read_uuid;
 
 /// What the value of a setting is: taskrc(5), under "CONFIGURATION VARIABLES".
 #[derive(Clone, Copy, Debug, PartialEq, Eq, Drop)]
-pub enum Kind {
+pub(crate) enum Kind {
     /// `on`, `yes` or `1`; `off`, `no` or `0`.
     Switch,
     /// A number from 1 to this one.

@@ -7,6 +7,7 @@ ghost use Rattle.tw_words.specs.Faults.{rest_word};
 ghost use Rattle.tw_words.specs.Lines.{round_mark, override_in, first_command, kept, dashed, named, overriding, with_word, taken_from, nothing, filter_end, line_with, line_by, parts_of_line};
 
 use crate::command::{Command, Rest, command_named};
+use crate::setting::parted_at_equals;
 use std::alloc::Global;
 use std::marker::Model;
 use tw_world::{Memory, Text};
@@ -88,24 +89,19 @@ impl Model for Taken {
     ghost view = { λ t. record { command = t.command; place = t.place; before = t.before; plain = t.plain; words = map string_bytes t.words.items; places = t.places.items; overrides = t.overrides.items } };
 }
 
-fn round_colon(text: &str) -> Option<(&str, &str)>
+// What stands round the first colon.
+fn parted_at_colon(text: &str) -> Option<(&str, &str)>
     ensures { option_map (λ x. (x.0.now, x.1.now)) result ≡ parted 58 text.now }
 {
     text.split_once(':')
-}
-
-fn round_equals(text: &str) -> Option<(&str, &str)>
-    ensures { option_map (λ x. (x.0.now, x.1.now)) result ≡ parted 61 text.now }
-{
-    text.split_once('=')
 }
 
 // What stands round the first `:` or `=`.
 fn round_mark(text: &str) -> Option<(&str, &str)>
     ensures { option_map (λ x. (x.0.now, x.1.now)) result ≡ round_mark text.now }
 {
-    let equals = round_equals(text);
-    let Some(colon) = round_colon(text) else {
+    let equals = parted_at_equals(text);
+    let Some(colon) = parted_at_colon(text) else {
         return equals;
     };
     match equals {

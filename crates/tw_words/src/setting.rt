@@ -50,8 +50,8 @@ fn uncommented(line: &str) -> &str
     }
 }
 
-// What stands round the first equals sign.
-fn parted_at_equals(text: &str) -> Option<(&str, &str)>
+/// What stands round the first equals sign.
+pub(crate) fn parted_at_equals(text: &str) -> Option<(&str, &str)>
     ensures { option_map (λ x. (x.0.now, x.1.now)) result ≡ parted 61 text.now }
 {
     text.split_once('=')
