@@ -1,0 +1,8 @@
+pub mod Newlines
+pub mod Tables
+pub mod Slashes
+pub mod Spaces
+pub mod Utf8
+pub mod Decimals
+pub mod FirstFaults
+pub mod UnnamedWords

@@ -1,0 +1,91 @@
+-- The commands: task(1), under "SUBCOMMANDS".
+use Rattle.std.specs.Prelude.{◌≡◌, ℕ, Bool, true, false, List, [], ◌∷◌, Option, Some, map, codes}
+use Rattle.tw_time.specs.Tables.{look_up}
+use Rattle.tw_words.specs.declared.command.Command.{Command}
+use Rattle.tw_words.specs.declared.command.Command.TheVariants.{Add, Log, Modify, Append, Prepend, Annotate, Denotate, Done, Delete, Purge, Start, Stop, Duplicate, Undo, Sync, Import, Count, Ids, Uuids, Export, Information, Projects, Tags, Next, All, Completed, Waiting, Blocked, Generate}
+use Rattle.tw_words.specs.declared.command.Command.TheVariants as command
+use Rattle.tw_words.specs.declared.command.Filtering.{Filtering}
+use Rattle.tw_words.specs.declared.command.Filtering.TheVariants as filtering
+use Rattle.tw_words.specs.declared.command.Rest.{Rest}
+use Rattle.tw_words.specs.declared.command.Rest.TheVariants as rest
+
+-- a command's word, whether it has a filter, and what the words behind it are
+pub record Form : Type 0 where
+  pub word : List ℕ
+  pub filtering : Filtering
+  pub rest : Rest
+
+abbrev pub form : List ℕ → Filtering → Rest → Form
+form word filtering rest = record { word = word; filtering = filtering; rest = rest }
+
+-- the table of commands
+abbrev pub form_of : Command → Form
+form_of Add = form (codes "add") filtering.Nothing rest.Modifications
+form_of Log = form (codes "log") filtering.Nothing rest.Modifications
+form_of Modify = form (codes "modify") filtering.Needed rest.Modifications
+form_of Append = form (codes "append") filtering.Needed rest.Text
+form_of Prepend = form (codes "prepend") filtering.Needed rest.Text
+form_of Annotate = form (codes "annotate") filtering.Needed rest.Text
+form_of Denotate = form (codes "denotate") filtering.Needed rest.Text
+form_of Done = form (codes "done") filtering.Needed rest.Nothing
+form_of Delete = form (codes "delete") filtering.Needed rest.Nothing
+form_of Purge = form (codes "purge") filtering.Needed rest.Nothing
+form_of Start = form (codes "start") filtering.Needed rest.Nothing
+form_of Stop = form (codes "stop") filtering.Needed rest.Nothing
+form_of Duplicate = form (codes "duplicate") filtering.Needed rest.Modifications
+form_of Undo = form (codes "undo") filtering.Nothing rest.Nothing
+form_of Sync = form (codes "sync") filtering.Nothing rest.Nothing
+form_of Import = form (codes "import") filtering.Nothing rest.Dash
+form_of Count = form (codes "count") filtering.Free rest.Filter
+form_of Ids = form (codes "ids") filtering.Free rest.Filter
+form_of Uuids = form (codes "uuids") filtering.Free rest.Filter
+form_of Export = form (codes "export") filtering.Free rest.Filter
+form_of Information = form (codes "information") filtering.Needed rest.Filter
+form_of Projects = form (codes "projects") filtering.Free rest.Filter
+form_of Tags = form (codes "tags") filtering.Free rest.Filter
+form_of command.List = form (codes "list") filtering.Free rest.Filter
+form_of Next = form (codes "next") filtering.Free rest.Filter
+form_of All = form (codes "all") filtering.Free rest.Filter
+form_of Completed = form (codes "completed") filtering.Free rest.Filter
+form_of Waiting = form (codes "waiting") filtering.Free rest.Filter
+form_of Blocked = form (codes "blocked") filtering.Free rest.Filter
+form_of Generate = form (codes "_generate") filtering.Nothing rest.Numbers
+
+abbrev pub all_commands : List Command
+all_commands =
+    Add ∷ Log ∷ Modify ∷ Append ∷ Prepend ∷ Annotate ∷ Denotate ∷ Done ∷ Delete ∷ Purge
+    ∷ Start ∷ Stop ∷ Duplicate ∷ Undo ∷ Sync ∷ Import ∷ Count ∷ Ids ∷ Uuids ∷ Export
+    ∷ Information ∷ Projects ∷ Tags ∷ command.List ∷ Next ∷ All ∷ Completed ∷ Waiting ∷ Blocked ∷ Generate ∷ []
+
+-- the command that a word names
+unfoldable pub command_named : List ℕ → Option Command
+command_named word = look_up word (map (λ command. ((form_of command).word, command)) all_commands)
+
+-- the word of each command names that one
+abbrev pub EachWordNamesItsCommand : Type 0
+EachWordNamesItsCommand = (command : Command) → command_named (form_of command).word ≡ Some command
+
+-- whether a command has a filter
+abbrev pub filtering_of : Command → Filtering
+filtering_of command = (form_of command).filtering
+
+-- what the words behind a command are
+abbrev pub rest_of : Command → Rest
+rest_of command = (form_of command).rest
+
+-- whether the program carries a command out
+abbrev pub is_built : Command → Bool
+is_built Import = false
+is_built Ids = false
+is_built Uuids = false
+is_built Information = false
+is_built Projects = false
+is_built Tags = false
+is_built command.List = false
+is_built Next = false
+is_built All = false
+is_built Completed = false
+is_built Waiting = false
+is_built Blocked = false
+is_built Generate = false
+is_built _ = true

@@ -1,0 +1,15 @@
+pub mod Gives
+pub mod Address
+pub mod Settings
+pub mod Weights
+pub mod Commands
+pub mod Lines
+pub mod Modifications
+pub mod Faults
+pub mod Clocks
+pub mod Changed
+pub mod Makes
+pub mod Unnamed
+pub mod Switches
+pub mod Servers
+pub mod Folder

@@ -1,0 +1,112 @@
+-- Command lines and their parts.
+use Rattle.std.specs.Prelude.{ℕ, ◌<◌, All, ◌+◌, ◌==◌, cond, List, [], ◌∷◌, ◌++◌, Option, Some, None, nat_eq, nat_lt, length, drop, codes}
+use Rattle.std.specs.List.{starts_with}
+use Rattle.tw_model.specs.Maps.{same_bytes}
+use Rattle.tw_filter.specs.Cuts.{parted}
+use Rattle.tw_words.specs.Settings.{Pair}
+use Rattle.tw_words.specs.Commands.{command_named, rest_of}
+use Rattle.tw_words.specs.declared.command.Command.{Command}
+use Rattle.tw_words.specs.declared.command.Command.TheVariants.{Next}
+use Rattle.tw_words.specs.declared.command.Rest.{Rest}
+use Rattle.tw_words.specs.declared.command.Rest.TheVariants as rest
+
+-- the parts of a line
+pub record Parts : Type 0 where
+  pub command : Command
+  pub place : ℕ
+  pub filter_from : ℕ
+  pub filter_to : ℕ
+  pub rest_from : ℕ
+  pub plain_from : ℕ
+  pub words : List (List ℕ)
+  pub places : List ℕ
+  pub overrides : List Pair
+
+-- what is taken of a line: the command, where there is one, with its place and how many words stand before it; how many words stand before
+-- `--`, where there is one; words and their places; overrides
+pub record Taken : Type 0 where
+  pub command : Option Command
+  pub place : ℕ
+  pub before : ℕ
+  pub plain : Option ℕ
+  pub words : List (List ℕ)
+  pub places : List ℕ
+  pub overrides : List Pair
+
+-- numbers of words
+abbrev pub AreFew : List ℕ → Type 0
+AreFew ns = All (λ n. n < 18446744073709551615) ns
+
+-- the one of two that is cut nearer to the front
+abbrev pub nearer : Option Pair → Option Pair → Option Pair
+nearer None y = y
+nearer (Some x) None = Some x
+nearer (Some x) (Some y) = cond (nat_lt (length x.0) (length y.0)) (Some x) (Some y)
+
+-- what stands round the first `:` or `=`
+abbrev pub round_mark : List ℕ → Option Pair
+round_mark text = nearer (parted 58 text) (parted 61 text)
+
+-- an override: `rc.name:value` or `rc.name=value`
+unfoldable pub override_in : List ℕ → Option Pair
+override_in word = cond (starts_with nat_eq word (codes "rc.")) (round_mark (drop 3 word)) None
+
+-- the command that a word names, where there is none before it
+abbrev pub first_command : Option Command → List ℕ → Option Command
+first_command None word = command_named word
+first_command (Some c) word = None
+
+abbrev pub kept : Taken → ℕ → List ℕ → Taken
+kept t n word = record { command = t.command; place = t.place; before = t.before; plain = t.plain; words = t.words ++ word ∷ []; places = t.places ++ n ∷ []; overrides = t.overrides }
+
+abbrev pub dashed : Taken → Taken
+dashed t = record { command = t.command; place = t.place; before = t.before; plain = Some (length t.words); words = t.words; places = t.places; overrides = t.overrides }
+
+abbrev pub named : Taken → ℕ → Command → Taken
+named t n c = record { command = Some c; place = n; before = length t.words; plain = t.plain; words = t.words; places = t.places; overrides = t.overrides }
+
+abbrev pub overriding : Taken → Pair → Taken
+overriding t x = record { command = t.command; place = t.place; before = t.before; plain = t.plain; words = t.words; places = t.places; overrides = t.overrides ++ x ∷ [] }
+
+abbrev pub as_command : Taken → ℕ → List ℕ → Option Command → Taken
+as_command t n word None = kept t n word
+as_command t n word (Some c) = named t n c
+
+abbrev pub as_override : Taken → ℕ → List ℕ → Option Pair → Taken
+as_override t n word None = as_command t n word (first_command t.command word)
+as_override t n word (Some x) = overriding t x
+
+abbrev pub as_word : Taken → ℕ → List ℕ → Option ℕ → Taken
+as_word t n word None = cond (same_bytes word (codes "--")) (dashed t) (as_override t n word (override_in word))
+as_word t n word (Some plain) = kept t n word
+
+-- takes one more word, which has the number n
+abbrev pub with_word : Taken → ℕ → List ℕ → Taken
+with_word t n word = as_word t n word t.plain
+
+abbrev pub taken_from : Taken → ℕ → List (List ℕ) → Taken
+taken_from t n [] = t
+taken_from t n (word ∷ words) = taken_from (with_word t n word) (n + 1) words
+
+abbrev pub nothing : Taken
+nothing = record { command = None; place = 0; before = 0; plain = None; words = []; places = []; overrides = [] }
+
+abbrev pub or_all : ℕ → Option ℕ → ℕ
+or_all all None = all
+or_all all (Some n) = n
+
+-- where the filter ends, and the rest begins
+abbrev pub filter_end : Rest → (before all : ℕ) → ℕ
+filter_end rest.Filter before all = all
+filter_end _ before all = before
+
+abbrev pub line_with : Taken → Command → (to : ℕ) → Parts
+line_with t c to = record { command = c; place = t.place; filter_from = 0; filter_to = to; rest_from = to; plain_from = or_all (length t.words) t.plain; words = t.words; places = t.places; overrides = t.overrides }
+
+abbrev pub line_by : Taken → Option Command → Parts
+line_by t None = line_with t Next (length t.words)
+line_by t (Some c) = line_with t c (filter_end (rest_of c) t.before (length t.words))
+
+-- the parts of a line
+abbrev pub parts_of_line : List (List ℕ) → Parts
+parts_of_line words = let t = taken_from nothing 0 words in line_by t t.command

@@ -1,0 +1,41 @@
+-- The sync server that settings name: taskrc(5), under "SYNC".
+use Rattle.std.specs.Prelude.{ℕ, List, ◌++◌, Option, Some, None, Result, Ok, Err, codes}
+use Rattle.std.specs.Fmt.{decimal}
+use Rattle.uuid.specs.Text.{parsed}
+use Rattle.tw_words.specs.Address.{parts_in, address_at}
+use Rattle.tw_words.specs.Lines.{parts_of_line}
+use Rattle.tw_words.specs.Settings.{Pair, settings_in, value_of}
+use Rattle.tw_words.specs.declared.address.Address.{Address}
+use Rattle.tw_words.specs.declared.server.Server.{Server}
+use Rattle.tw_words.specs.declared.word_error.WordError.{WordError}
+
+-- the address of the server that settings name
+abbrev pub address_set : List Pair → Option Address
+address_set pairs = address_at (value_of (codes "sync.server.url") pairs)
+
+abbrev pub address_if_set : Result (List Pair) WordError → Option Address
+address_if_set (Ok pairs) = address_set pairs
+address_if_set (Err e) = None
+
+-- the address of the server that a text of settings and the overrides of a line name, where each is a setting
+abbrev pub address_in : (words : List (List ℕ)) → (settings : List ℕ) → Option Address
+address_in words settings = address_if_set (settings_in settings (parts_of_line words).overrides)
+
+-- what names a server in a message: its host, a colon and its port
+abbrev pub host_text : List ℕ → ℕ → List ℕ
+host_text host port = (host ++ codes ":") ++ decimal port
+
+-- a server and the client that talks to it, where both are known
+abbrev pub server_of : Option (List ℕ × ℕ) → Option (List ℕ) → Option Server
+server_of None client = None
+server_of (Some x) None = None
+server_of (Some x) (Some client) = Some (record { client = client; host = host_text x.0 x.1 })
+
+-- the value of a setting as this reads it
+abbrev pub read_by : {A : Type 0} → (List ℕ → Option A) → Option (List ℕ) → Option A
+read_by read None = None
+read_by read (Some value) = read value
+
+-- the server that settings name, and the client that talks to it
+abbrev pub server_set : List Pair → Option Server
+server_set pairs = server_of (read_by parts_in (value_of (codes "sync.server.url") pairs)) (read_by parsed (value_of (codes "sync.server.client_id") pairs))

@@ -1,0 +1,62 @@
+// What modification words make of a task: task(1), under "MODIFICATIONS".
+ghost use Rattle.std.specs.Prelude.{◌≡◌, ◌<◌, ◌+◌, length};
+ghost use Rattle.tw_filter.specs.Holds.{scene_of};
+ghost use Rattle.tw_words.specs.Changed.{changed};
+ghost use Rattle.tw_words.specs.Gives.{Gives};
+ghost use Rattle.tw_words.specs.Makes.{Takes};
+
+use crate::draft::Draft;
+use crate::kind_error::KindError;
+use crate::line::Line;
+use crate::modification::{is_add, is_plain, number_at};
+use crate::tally::tally_of;
+use crate::word_error::WordError;
+use std::alloc::Global;
+use tw_filter::{BadWord, View};
+use tw_model::TaskMap;
+
+// Takes a word of a line.
+fn take_word(
+    alloc: Global,
+    draft: &mut Draft,
+    line: &Line,
+    view: &View<'_>,
+    sole: bool,
+    n: u64,
+) -> Result<(), KindError>
+    requires { n < length line.now.words }
+    ensures { Takes (scene_of view.entry.now) sole line.now n result draft.old draft.new }
+{
+    let adding = is_add(line.command);
+    draft.take(alloc, view, adding, sole, is_plain(line, n), line.word(n))
+}
+
+/// What the modification words of a line make of a task, or the first word that is wrong: task(1), under "MODIFICATIONS". The words are
+/// taken in their order, so that a later one wins. Moments are stored in decimal seconds, a tag as `tag_` and its name and a dependency
+/// as `dep_` and its uuid, both with an empty value.
+///
+/// It is meant for the commands whose rest is `Rest::Modifications`. Of the others each word counts as a modification.
+pub fn changed(
+    alloc: Global,
+    line: &Line,
+    map: &TaskMap,
+    view: &View<'_>,
+) -> Result<TaskMap, WordError>
+    ensures { Gives (λ task. task) result (changed (scene_of view.entry.now) line.now map.now) }
+{
+    let sole = tally_of(line).texts == 1;
+    let mut draft = Draft::new(map.copy(alloc)?);
+    for n in line.rest_from..line.words.len() as u64 {
+        match take_word(alloc, &mut draft, line, view, sole, n) {
+            Ok(()) => {}
+            Err(KindError::Bad(kind)) => {
+                return Err(WordError::Bad(BadWord {
+                    word: number_at(line, n),
+                    kind,
+                }));
+            }
+            Err(KindError::Memory) => return Err(WordError::Memory),
+        }
+    }
+    Ok(draft.made(alloc)?)
+}

@@ -1,0 +1,56 @@
+// What settings turn on and off: taskrc(5), the variables `gc`, `recurrence` and `recurrence.limit`.
+ghost use Rattle.std.specs.Prelude.{◌≡◌, ◌≤◌, codes};
+ghost use Rattle.tw_words.specs.Switches.{is_off, is_set_on, recurrence_limit};
+
+use crate::settings::Settings;
+use tw_text::read_u64;
+
+#[tactic(auto, unfolding(crate::specs::Switches::is_off))]
+fn is_off(value: &str) -> bool
+    ensures { result ≡ is_off value.now }
+{
+    match value {
+        "off" | "no" | "0" => true,
+        _ => false,
+    }
+}
+
+impl Settings {
+    fn is_set_on(&self, name: &str) -> bool
+        ensures { result ≡ is_set_on name.now self.now }
+    {
+        match self.get(name) {
+            Some(value) => !is_off(value),
+            None => true,
+        }
+    }
+
+    /// Whether a report packs the numbers of tasks, as it does where nothing else is set. It takes no memory.
+    pub fn gc(&self) -> bool
+        ensures { result ≡ is_set_on (codes "gc") self.now }
+    {
+        self.is_set_on("gc")
+    }
+
+    /// Whether a report makes instances of recurring tasks, as it does where nothing else is set. It takes no memory.
+    pub fn recurrence(&self) -> bool
+        ensures { result ≡ is_set_on (codes "recurrence") self.now }
+    {
+        self.is_set_on("recurrence")
+    }
+
+    /// How many instances of a recurring task there are to be in the future: 1 where nothing else is set. It takes no memory.
+    pub fn recurrence_limit(&self) -> u32
+        ensures value { result ≡ recurrence_limit self.now }
+        ensures least { 1 ≤ result }
+        ensures greatest { result ≤ 100 }
+    {
+        match self.get("recurrence.limit") {
+            Some(text) => match read_u64(text) {
+                Some(number) if number >= 1 && number <= 100 => number as u32,
+                _ => 1,
+            },
+            None => 1,
+        }
+    }
+}
