@@ -105,8 +105,10 @@ fn push_made(alloc: Global, changes: &mut Vec<Change>, made: &Tasks) -> Result<(
     Ok(())
 }
 
-/// What becomes of tasks by the instances that are to be made by now: each instance in byte order of its uuid, and then the parents whose masks grow.
-/// Each instance is due a multiple of its parent's `recur` after the parent's own `due`; `limit` of them lie ahead, and at most a thousand of one parent are made at once.
+/// What becomes of tasks by the instances that are to be made by now, in Unix seconds (task(1), under "recur"): each instance in byte order of its uuid, and then the parents whose masks grow.
+/// Instance `i` is due `i` times its parent's `recur` after the parent's own `due`, so a month keeps its end. Those that are due are made and `limit` more, none after `until`, and at most a thousand of one parent at once.
+/// One whose uuid is a task already stays as it is, and the mask grows all the same: it has a character for each instance, `W` for one that waits and `-` for any other.
+/// A task whose `due` or `recur` can't be read makes none; a `wait` or `scheduled` that can't be read is copied as it is.
 #[tactic(auto, unfolding(crate::specs::Instances::instance_changes))]
 pub fn due_changes(
     alloc: Global,
@@ -210,7 +212,7 @@ fn push_each(
     Ok(())
 }
 
-/// The operations of the instances that are to be made by now, without an undo point.
+/// The operations of the same changes, without an undo point. Each has the moment `now`.
 #[tactic(auto, unfolding(crate::specs::Instances::instances_of))]
 pub fn due_instances(
     alloc: Global,
