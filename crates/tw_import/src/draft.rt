@@ -1,0 +1,94 @@
+// A task that is being made.
+ghost use Rattle.std.specs.Prelude.{◌≡◌, ◌++◌, T, is_some, map, IfOk, OnOk};
+ghost use Rattle.std.specs.FinMap as map;
+ghost use Rattle.tw_model.specs.Maps.{bytes_cmp};
+
+use std::alloc::Global;
+use std::collections::BTreeMap;
+use std::marker::Model;
+use tw_model::TaskMap;
+use tw_world::{Memory, Text};
+
+/// A task that is being made. Its properties come in any order, each in a time that grows with the logarithm of their number.
+#[derive(Drop)]
+pub(crate) struct Draft {
+    entries: BTreeMap<Text, Text>,
+}
+
+impl Model for Draft {
+    ghost use Rattle.std.specs.Prelude.{List, ℕ, T};
+    ghost use Rattle.std.specs.FinMap as map;
+    ghost use Rattle.std.specs.Coded.{coded_ℕ, coded_list};
+    ghost use Rattle.tw_model.specs.Maps.{bytes_cmp};
+
+    ghost Value = { map.FinMap bytes_cmp (List ℕ) };
+
+    ghost coded = { map.code (coded_list coded_ℕ) (coded_list coded_ℕ) };
+
+    ghost view = { λ a. map.from_sorted a.entries.entries };
+
+    ghost invariant = { λ a. T (map.is_sorted bytes_cmp a.entries.entries) };
+}
+
+impl Draft {
+    pub(crate) fn new(alloc: Global) -> Draft
+        ensures { result ≡ map.empty }
+    {
+        Draft {
+            entries: BTreeMap::new(alloc),
+        }
+    }
+
+    /// How many properties it has.
+    pub(crate) fn len(&self) -> u64
+        ensures { result ≡ map.len self.now }
+    {
+        self.entries.len() as u64
+    }
+
+    /// Whether it has a property.
+    pub(crate) fn has(&self, name: &Text) -> bool
+        ensures { result ≡ is_some (map.get self.now name.now) }
+    {
+        self.entries.contains_key(name)
+    }
+
+    /// Sets a property.
+    pub(crate) fn put(&mut self, alloc: Global, name: &str, value: &str) -> Result<(), Memory>
+        ensures { OnOk result (self.new ≡ map.insert self.old name.now value.now) }
+    {
+        let key = Text::from_str(alloc, name)?;
+        let text = Text::from_str(alloc, value)?;
+        put_entry(&mut self.entries, key, text)
+    }
+
+    /// The task.
+    pub(crate) fn to_task(&self, alloc: Global) -> Result<TaskMap, Memory>
+        ensures { IfOk result (λ task. task ≡ self.now) }
+    {
+        let pairs = pairs_of(alloc, &self.entries)?;
+        Ok(TaskMap::from_pairs(pairs).unwrap())
+    }
+}
+
+fn put_entry(entries: &mut BTreeMap<Text, Text>, key: Text, value: Text) -> Result<(), Memory>
+    requires { T (map.is_sorted bytes_cmp entries.old.entries) }
+    ensures sorted { T (map.is_sorted bytes_cmp entries.new.entries) }
+    ensures ok { OnOk result (map.from_sorted {R = bytes_cmp} entries.new.entries ≡ map.insert (map.from_sorted entries.old.entries) key value) }
+{
+    let _ = entries.insert(key, value)?;
+    Ok(())
+}
+
+fn pairs_of(alloc: Global, entries: &BTreeMap<Text, Text>) -> Result<Vec<(Text, Text)>, Memory>
+    ensures { IfOk result (λ pairs. pairs.items ≡ entries.now.entries) }
+{
+    let mut pairs = Vec::new(alloc);
+    for (name, value) in entries {
+        pairs.push((
+            Text::from_str(alloc, name.as_str())?,
+            Text::from_str(alloc, value.as_str())?,
+        ))?;
+    }
+    Ok(pairs)
+}

@@ -1,0 +1,248 @@
+// The task of an element.
+ghost use Rattle.std.specs.Prelude.{◌≡◌, ◌++◌, [], codes, IfOk, OnOk};
+ghost use Rattle.std.specs.Option.{option_copied};
+ghost use Rattle.std.specs.FinMap as map;
+ghost use Rattle.uuid.specs.Text.{hyphenated_text, lower};
+ghost use Rattle.tw_import.specs.Import.{is_bad, is_value, first_bad, has_description, lesser, offending, uuid_of, with_value, with_values, with_item, with_items, with_list, with_lists, with_default, with_defaults, annotation_at, free_second, task_of, made};
+ghost use Rattle.tw_import.specs.Held.{item_in, items_in, told_in, fields_in};
+ghost use Rattle.tw_import.specs.Seconds.{AreSkips};
+ghost use Rattle.tw_import.specs.Element.{IsMade};
+
+use crate::draft::Draft;
+use crate::import::Imported;
+use crate::seconds::{annotation_at, free_second};
+use crate::told::{Held, HeldItem};
+use std::alloc::Global;
+use std::collections::BTreeMap;
+use tw_model::TaskMap;
+use tw_world::{Memory, Text};
+use uuid::Uuid;
+
+fn is_bad(held: &Held) -> bool
+    ensures { result ≡ is_bad (told_in held.now) }
+{
+    match held {
+        Held::Bad => true,
+        _ => false,
+    }
+}
+
+fn is_value(held: &Held) -> bool
+    ensures { result ≡ is_value (told_in held.now) }
+{
+    match held {
+        Held::Value(_) => true,
+        _ => false,
+    }
+}
+
+fn first_bad(fields: &BTreeMap<Text, Held>) -> Option<&str>
+    ensures { option_copied result ≡ first_bad (fields_in fields.now.entries) }
+{
+    for (name, held) in fields {
+        if is_bad(held) {
+            return Some(name.as_str());
+        }
+    }
+    None
+}
+
+fn has_description(fields: &BTreeMap<Text, Held>) -> bool
+    ensures { result ≡ has_description (fields_in fields.now.entries) }
+{
+    for (name, held) in fields {
+        if name.as_str() == "description" && is_value(held) {
+            return true;
+        }
+    }
+    false
+}
+
+fn lesser<'a>(first: Option<&'a str>, second: &'a str) -> &'a str
+    ensures { result.now ≡ lesser (option_copied first.entry) second.now }
+{
+    match first {
+        Some(first) => if first < second { first } else { second },
+        None => second,
+    }
+}
+
+// The first name in byte order that keeps the fields from being a task's.
+fn offending(fields: &BTreeMap<Text, Held>) -> Option<&str>
+    ensures { option_copied result ≡ offending (fields_in fields.now.entries) }
+{
+    if has_description(fields) {
+        first_bad(fields)
+    } else {
+        Some(lesser(first_bad(fields), "description"))
+    }
+}
+
+fn uuid_of(fields: &BTreeMap<Text, Held>) -> Option<Uuid>
+    ensures { result ≡ uuid_of (fields_in fields.now.entries) }
+{
+    for (_, held) in fields {
+        if let Held::Identity(uuid) = held {
+            return Some(*uuid);
+        }
+    }
+    None
+}
+
+fn put_value(alloc: Global, draft: &mut Draft, name: &str, held: &Held) -> Result<(), Memory>
+    ensures { OnOk result (draft.new ≡ with_value draft.old name.now (told_in held.now)) }
+{
+    match held {
+        Held::Value(value) => draft.put(alloc, name, value.as_str()),
+        _ => Ok(()),
+    }
+}
+
+fn put_values(alloc: Global, draft: &mut Draft, fields: &BTreeMap<Text, Held>) -> Result<(), Memory>
+    ensures { OnOk result (draft.new ≡ with_values draft.old (fields_in fields.now.entries)) }
+{
+    for (name, held) in fields {
+        put_value(alloc, draft, name.as_str(), held)?;
+    }
+    Ok(())
+}
+
+fn put_tag(alloc: Global, draft: &mut Draft, tag: &str) -> Result<(), Memory>
+    ensures { OnOk result (draft.new ≡ map.insert draft.old (codes "tag_" ++ tag.now) []) }
+{
+    let name = format!(in alloc; "tag_{tag}")?;
+    draft.put(alloc, name.as_str(), "")
+}
+
+fn put_dependency(alloc: Global, draft: &mut Draft, uuid: Uuid) -> Result<(), Memory>
+    ensures { OnOk result (draft.new ≡ map.insert draft.old (codes "dep_" ++ hyphenated_text lower uuid) []) }
+{
+    let mut buffer = Uuid::encode_buffer();
+    let text: &str = uuid.hyphenated().encode_lower(&mut buffer);
+    let name = format!(in alloc; "dep_{text}")?;
+    draft.put(alloc, name.as_str(), "")
+}
+
+fn put_annotation(
+    alloc: Global,
+    draft: &mut Draft,
+    skips: &mut BTreeMap<u64, u64>,
+    at: u64,
+    text: &str,
+) -> Result<(), Memory>
+    requires { AreSkips draft.old skips.old.entries }
+    ensures put { OnOk result (draft.new ≡ map.insert draft.old (annotation_at (free_second (map.len draft.old) draft.old at)) text.now) }
+    ensures skips { OnOk result (AreSkips draft.old skips.new.entries) }
+{
+    let second = free_second(alloc, draft, skips, at)?;
+    draft.put(alloc, annotation_at(alloc, second)?.as_str(), text)
+}
+
+// A property more leaves the seconds taken.
+fn put_item(
+    alloc: Global,
+    draft: &mut Draft,
+    skips: &mut BTreeMap<u64, u64>,
+    item: &HeldItem,
+) -> Result<(), Memory>
+    requires { AreSkips draft.old skips.old.entries }
+    ensures put { OnOk result (draft.new ≡ with_item draft.old (item_in item.now)) }
+    ensures skips { OnOk result (AreSkips draft.new skips.new.entries) }
+{
+    match item {
+        HeldItem::Tag(tag) => put_tag(alloc, draft, tag.as_str()),
+        HeldItem::Dependency(uuid) => put_dependency(alloc, draft, *uuid),
+        HeldItem::Annotation(at, text) => put_annotation(alloc, draft, skips, *at, text.as_str()),
+    }
+}
+
+fn put_items(alloc: Global, draft: &mut Draft, items: &Vec<HeldItem>) -> Result<(), Memory>
+    ensures { OnOk result (draft.new ≡ with_items draft.old (items_in items.now.items)) }
+{
+    let mut skips = BTreeMap::new(alloc);
+    for item in items {
+        put_item(alloc, draft, &mut skips, item)?;
+    }
+    Ok(())
+}
+
+fn put_list(alloc: Global, draft: &mut Draft, held: &Held) -> Result<(), Memory>
+    ensures { OnOk result (draft.new ≡ with_list draft.old (told_in held.now)) }
+{
+    match held {
+        Held::Items(items) => put_items(alloc, draft, items),
+        _ => Ok(()),
+    }
+}
+
+fn put_lists(alloc: Global, draft: &mut Draft, fields: &BTreeMap<Text, Held>) -> Result<(), Memory>
+    ensures { OnOk result (draft.new ≡ with_lists draft.old (fields_in fields.now.entries)) }
+{
+    for (_, held) in fields {
+        put_list(alloc, draft, held)?;
+    }
+    Ok(())
+}
+
+fn put_default(alloc: Global, draft: &mut Draft, name: &str, value: &str) -> Result<(), Memory>
+    ensures { OnOk result (draft.new ≡ with_default draft.old name.now value.now) }
+{
+    if draft.has(&Text::from_str(alloc, name)?) {
+        return Ok(());
+    }
+    draft.put(alloc, name, value)
+}
+
+fn put_defaults(alloc: Global, draft: &mut Draft, now: u64) -> Result<(), Memory>
+    ensures { OnOk result (draft.new ≡ with_defaults now draft.old) }
+{
+    let digits = format!(in alloc; "{now}")?;
+    put_default(alloc, draft, "status", "pending")?;
+    put_default(alloc, draft, "entry", digits.as_str())?;
+    put_default(alloc, draft, "modified", digits.as_str())
+}
+
+fn task_of(alloc: Global, now: u64, fields: &BTreeMap<Text, Held>) -> Result<TaskMap, Memory>
+    ensures { IfOk result (λ task. task ≡ task_of now (fields_in fields.now.entries)) }
+{
+    let mut draft = Draft::new(alloc);
+    put_values(alloc, &mut draft, fields)?;
+    put_lists(alloc, &mut draft, fields)?;
+    put_defaults(alloc, &mut draft, now)?;
+    draft.to_task(alloc)
+}
+
+/// Why an element is no task: its first offending key, or no memory.
+#[derive(Drop)]
+pub(crate) enum NoTask {
+    Key(Text),
+    Memory,
+}
+
+impl From<Memory> for NoTask {
+    ghost use Rattle.std.specs.Prelude.{◌≡◌};
+    ghost use Rattle.tw_import.specs.declared.element.NoTask.TheVariants as no_task;
+
+    ghost from_gives = { λ _ e. e ≡ no_task.Memory };
+
+    fn from(_: Memory) -> NoTask {
+        NoTask::Memory
+    }
+}
+
+/// The task of an element's fields.
+pub(crate) fn made(
+    alloc: Global,
+    now: u64,
+    fields: &BTreeMap<Text, Held>,
+) -> Result<Imported, NoTask>
+    ensures { IsMade result (made now (fields_in fields.now.entries)) }
+{
+    if let Some(name) = offending(fields) {
+        return Err(NoTask::Key(Text::from_str(alloc, name)?));
+    }
+    Ok(Imported {
+        uuid: uuid_of(fields),
+        map: task_of(alloc, now, fields)?,
+    })
+}

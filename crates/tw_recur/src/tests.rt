@@ -1,0 +1,283 @@
+use crate::{due_changes, due_instances};
+use std::alloc::Global;
+use std::test::Fail;
+use tw_model::{Change, Op, TaskMap, Tasks, make};
+use tw_time::Zone;
+use tw_world::{Memory, Moment};
+use uuid::Uuid;
+
+const PARENT: u128 = 0x00000000_0000_4000_8000_000000000001;
+
+// 2026-05-01T00:00:00Z
+const MAY: Moment = Moment {
+    seconds: 1_777_593_600,
+    nanos: 0,
+};
+
+fn template(alloc: Global, pairs: &[(&str, &str)]) -> Result<Tasks, Memory> {
+    let mut task = TaskMap::new(alloc);
+    task.set(alloc, "status", Some("recurring"))?;
+    for (property, value) in pairs {
+        task.set(alloc, property, Some(value))?;
+    }
+    let mut tasks = Tasks::new(alloc);
+    let _ = tasks.insert(Uuid::from_u128(PARENT), task)?;
+    Ok(tasks)
+}
+
+fn make_all(
+    alloc: Global,
+    tasks: &mut Tasks,
+    changes: Vec<Change>,
+    at: Moment,
+) -> Result<Vec<Op>, Memory> {
+    let mut ops = Vec::new(alloc);
+    for change in changes {
+        make(alloc, tasks, &mut ops, change, at)?;
+    }
+    Ok(ops)
+}
+
+fn value_of<'a>(tasks: &'a Tasks, uuid: Uuid, property: &str) -> Option<&'a str> {
+    tasks.get(uuid)?.get(property)
+}
+
+// The uuids are of version 5 (RFC 9562, section 5.5), in byte order, with the number, the due moment and the day that is due.
+const RENT: [(u128, &str, &str); 5] = [
+    (0x13d304d6_7527_53a3_94fe_cbf12b26c020, "4", "1780185600"),
+    (0x1473064a_566e_5c85_9bd7_e437b86f2b05, "0", "1769817600"),
+    (0x8d4035dc_2470_5da4_8dfe_3942ac4f1762, "1", "1772236800"),
+    (0xd396cd91_59ff_5a32_a9a3_a70124abd63a, "3", "1777507200"),
+    (0xec828c2b_30cf_583d_8660_1d587530a97e, "2", "1774915200"),
+];
+
+#[test]
+fn months_keep_their_ends(rt: HostRuntime) -> Result<(), Fail> {
+    let alloc = rt.alloc();
+    let pairs = [
+        ("description", "Rent"),
+        ("due", "1769817600"),
+        ("entry", "1777593500"),
+        ("recur", "monthly"),
+    ];
+    let mut tasks = template(alloc, &pairs)?;
+    let zone = Zone::utc();
+    let ops = due_instances(alloc, &tasks, MAY, &zone, 1)?;
+    let changes = due_changes(alloc, &tasks, MAY.seconds, &zone, 1)?;
+    assert_eq!(rt; changes.len(), 6);
+    for (change, want) in changes.iter().zip(RENT.iter()) {
+        assert_eq!(rt; change.uuid, Uuid::from_u128(want.0));
+    }
+    let mut applied = tasks.copy(alloc)?;
+    for op in &ops {
+        assert!(rt; applied.apply(alloc, op)?);
+    }
+    assert_eq!(rt; make_all(alloc, &mut tasks, changes, MAY)?.len(), ops.len());
+    for (uuid, number, due) in RENT {
+        let uuid = Uuid::from_u128(uuid);
+        let properties = [
+            ("description", Some("Rent")),
+            ("due", Some(due)),
+            ("entry", Some("1777593600")),
+            ("imask", Some(number)),
+            ("mask", None),
+            ("modified", Some("1777593600")),
+            ("parent", Some("00000000-0000-4000-8000-000000000001")),
+            ("recur", Some("monthly")),
+            ("status", Some("pending")),
+        ];
+        for (property, want) in properties {
+            assert_eq!(rt; value_of(&tasks, uuid, property), want);
+            assert_eq!(rt; value_of(&applied, uuid, property), want);
+        }
+    }
+    assert_eq!(rt;
+        value_of(&tasks, Uuid::from_u128(PARENT), "mask"),
+        Some("-----")
+    );
+    assert_eq!(rt;
+        value_of(&tasks, Uuid::from_u128(PARENT), "modified"),
+        Some("1777593600")
+    );
+    assert!(rt; due_changes(alloc, &tasks, MAY.seconds, &zone, 1)?.is_empty());
+    Ok(())
+}
+
+// A day of 2,000 ago that comes again each day: a thousand instances at once, the rest later.
+#[test]
+fn a_thousand_are_made_at_once(rt: HostRuntime) -> Result<(), Fail> {
+    let alloc = rt.alloc();
+    let mut tasks = template(alloc, &[("due", "1604793600"), ("recur", "1d")])?;
+    for want in [1001, 1001, 3, 0] {
+        let changes = due_changes(alloc, &tasks, MAY.seconds, &Zone::utc(), 1)?;
+        assert_eq!(rt; changes.len(), want);
+        let _ = make_all(alloc, &mut tasks, changes, MAY)?;
+    }
+    Ok(())
+}
+
+struct Case {
+    pairs: [(&'static str, &'static str); 4],
+    zone: &'static str,
+    now: u64,
+    limit: u32,
+    mask: Option<&'static str>,
+    dues: [u64; 4],
+}
+
+const CASES: [Case; 8] = [
+    // The 29th of February of each year, on the 1st of March 2026.
+    Case {
+        pairs: [
+            ("due", "1709164800"),
+            ("recur", "yearly"),
+            ("mask", ""),
+            ("x", ""),
+        ],
+        zone: "",
+        now: 1_772_323_200,
+        limit: 1,
+        mask: Some("----"),
+        dues: [1_709_164_800, 1_740_700_800, 1_772_236_800, 1_803_772_800],
+    },
+    // A midnight that the clock leaps over.
+    Case {
+        pairs: [
+            ("due", "1541214000"),
+            ("recur", "daily"),
+            ("mask", ""),
+            ("x", ""),
+        ],
+        zone: "<-03>3<-02>,M11.1.0/0,M2.3.0/0",
+        now: 1_541_300_400,
+        limit: 1,
+        mask: Some("---"),
+        dues: [1_541_214_000, 1_541_300_400, 1_541_383_200, 0],
+    },
+    // `until` is the day of the third.
+    Case {
+        pairs: [
+            ("due", "1767225600"),
+            ("recur", "daily"),
+            ("until", "1767398400"),
+            ("x", ""),
+        ],
+        zone: "",
+        now: 1_767_355_200,
+        limit: 5,
+        mask: Some("---"),
+        dues: [1_767_225_600, 1_767_312_000, 1_767_398_400, 0],
+    },
+    // Each waits for the day before, the third still does.
+    Case {
+        pairs: [
+            ("due", "1767225600"),
+            ("recur", "1d"),
+            ("wait", "1767139200"),
+            ("x", ""),
+        ],
+        zone: "",
+        now: 1_767_268_800,
+        limit: 2,
+        mask: Some("--W"),
+        dues: [1_767_225_600, 1_767_312_000, 1_767_398_400, 0],
+    },
+    // Only those that are due.
+    Case {
+        pairs: [
+            ("due", "1767225600"),
+            ("recur", "1d"),
+            ("mask", "+"),
+            ("x", ""),
+        ],
+        zone: "",
+        now: 1_767_355_200,
+        limit: 0,
+        mask: Some("+-"),
+        dues: [1_767_312_000, 0, 0, 0],
+    },
+    // A mask is counted in characters.
+    Case {
+        pairs: [
+            ("due", "1767225600"),
+            ("recur", "1d"),
+            ("mask", "\u{e9}"),
+            ("x", ""),
+        ],
+        zone: "",
+        now: 1_767_355_200,
+        limit: 0,
+        mask: Some("\u{e9}-"),
+        dues: [1_767_312_000, 0, 0, 0],
+    },
+    // The first lies ahead by more than the limit lets.
+    Case {
+        pairs: [
+            ("due", "1767312000"),
+            ("recur", "1d"),
+            ("mask", ""),
+            ("x", ""),
+        ],
+        zone: "",
+        now: 1_767_268_800,
+        limit: 0,
+        mask: Some(""),
+        dues: [0, 0, 0, 0],
+    },
+    // No such length.
+    Case {
+        pairs: [
+            ("due", "1767225600"),
+            ("recur", "often"),
+            ("until", "soon"),
+            ("x", ""),
+        ],
+        zone: "",
+        now: 1_767_355_200,
+        limit: 1,
+        mask: None,
+        dues: [0, 0, 0, 0],
+    },
+];
+
+fn is_due(tasks: &Tasks, due: u64) -> bool {
+    for (_, task) in tasks.iter() {
+        if task.get("imask").is_some() && tw_urgency::moment_at(task, "due") == Some(due) {
+            return true;
+        }
+    }
+    false
+}
+
+fn count_dues(dues: &[u64]) -> usize {
+    let mut count = 0usize;
+    for due in dues {
+        if *due > 0 {
+            count = count.saturating_add(1);
+        }
+    }
+    count
+}
+
+#[test]
+fn instances_end_where_the_template_says(rt: HostRuntime) -> Result<(), Fail> {
+    let alloc = rt.alloc();
+    for case in &CASES {
+        let mut tasks = template(alloc, &case.pairs)?;
+        let zone = Zone::read(case.zone).or(Err("no zone"))?;
+        let changes = due_changes(alloc, &tasks, case.now, &zone, case.limit)?;
+        let _ = make_all(alloc, &mut tasks, changes, MAY)?;
+        assert_eq!(rt;
+            value_of(&tasks, Uuid::from_u128(PARENT), "mask"),
+            case.mask
+        );
+        assert_eq!(rt;
+            tasks.len() as usize,
+            count_dues(&case.dues).saturating_add(1)
+        );
+        for due in case.dues {
+            assert!(rt; due == 0 || is_due(&tasks, due));
+        }
+    }
+    Ok(())
+}

@@ -1,0 +1,155 @@
+// The lines of a table.
+ghost use Rattle.std.specs.Prelude.{◌≡◌, ◌++◌, codes, map, string_bytes, IfOk, OnOk};
+ghost use Rattle.tw_table.specs.Table.{widened, widths_of, parted, line, lines, headings, heading_widths, table, layout_of, row_texts};
+
+use std::alloc::Global;
+use tw_text::{pad_left, pad_right};
+use tw_world::Memory;
+
+/// A column of a table.
+#[derive(Clone, Copy, Debug, PartialEq, Eq)]
+pub struct Column {
+    /// What stands above its cells. It is printed as it is, and a control character counts as one column.
+    pub heading: &'static str,
+    /// Whether its cells stand at the right, as numbers do.
+    pub is_right: bool,
+}
+
+/// A line of the headings, and one of each row, with one space between two columns.
+/// Widths are columns of a terminal and not bytes or characters. Cells are printed as they are: one with a newline breaks its line.
+/// A row ends where its cells or the columns do; its last cell is not padded, so where that is empty the line ends in a space.
+pub fn table_text(
+    alloc: Global,
+    columns: &[Column],
+    rows: &Vec<Vec<String>>,
+) -> Result<Vec<u8>, Memory>
+    ensures { IfOk result (λ text. text.items ≡ table (layout_of columns.now) (map row_texts rows.now.items)) }
+{
+    let heads = heading_cells(alloc, columns)?;
+    let widths = widths_of(alloc, columns, rows)?;
+    let mut text = Vec::new(alloc);
+    push_line(
+        alloc,
+        &mut text,
+        columns,
+        widths.as_slice(),
+        heads.as_slice(),
+    )?;
+    push_lines(alloc, &mut text, columns, widths.as_slice(), rows)?;
+    Ok(text)
+}
+
+fn heading_cells(alloc: Global, columns: &[Column]) -> Result<Vec<String>, Memory>
+    ensures { IfOk result (λ cells. map string_bytes cells.items ≡ headings (layout_of columns.now)) }
+{
+    let mut cells = Vec::new(alloc);
+    for column in columns {
+        cells.push(String::from_str(alloc, column.heading)?)?;
+    }
+    Ok(cells)
+}
+
+fn heading_widths(alloc: Global, columns: &[Column]) -> Result<Vec<u64>, Memory>
+    ensures { IfOk result (λ widths. widths.items ≡ heading_widths (layout_of columns.now)) }
+{
+    let mut widths = Vec::new(alloc);
+    for column in columns {
+        widths.push(tw_text::columns(column.heading))?;
+    }
+    Ok(widths)
+}
+
+// As wide as the headings and as the cells of each row.
+fn widths_of(alloc: Global, columns: &[Column], rows: &Vec<Vec<String>>) -> Result<Vec<u64>, Memory>
+    ensures { IfOk result (λ widths. widths.items ≡ widths_of (heading_widths (layout_of columns.now)) (map row_texts rows.now.items)) }
+{
+    let mut widths = heading_widths(alloc, columns)?;
+    for row in rows {
+        widen(&mut widths, row);
+    }
+    Ok(widths)
+}
+
+// Widens columns to the cells of a row.
+fn widen(widths: &mut Vec<u64>, cells: &Vec<String>)
+    ensures { widths.new.items ≡ widened widths.old.items (map string_bytes cells.now.items) }
+{
+    let mut n = 0;
+    while n < widths.len() && n < cells.len() {
+        widths[n] = widths[n].max(tw_text::columns(cells[n].as_str()));
+        n += 1;
+    }
+}
+
+fn push_parted(
+    alloc: Global,
+    text: &mut Vec<u8>,
+    is_right: bool,
+    cell: &str,
+    width: u64,
+) -> Result<(), Memory>
+    ensures { OnOk result (text.new.items ≡ text.old.items ++ parted is_right cell.now width) }
+{
+    let padded = if is_right {
+        pad_left(alloc, cell, width)?
+    } else {
+        pad_right(alloc, cell, width)?
+    };
+    text.extend_from_slice(padded.as_str().as_bytes())?;
+    text.push(b' ')?;
+    Ok(())
+}
+
+fn end_line(text: &mut Vec<u8>) -> Result<(), Memory>
+    ensures { OnOk result (text.new.items ≡ text.old.items ++ codes "\n") }
+{
+    text.push(b'\n')?;
+    Ok(())
+}
+
+fn push_last(text: &mut Vec<u8>, cell: &str) -> Result<(), Memory>
+    ensures { OnOk result (text.new.items ≡ text.old.items ++ (cell.now ++ codes "\n")) }
+{
+    text.extend_from_slice(cell.as_bytes())?;
+    end_line(text)
+}
+
+fn push_line(
+    alloc: Global,
+    text: &mut Vec<u8>,
+    columns: &[Column],
+    widths: &[u64],
+    cells: &[String],
+) -> Result<(), Memory>
+    ensures { OnOk result (text.new.items ≡ text.old.items ++ line (layout_of columns.now) widths.now (map string_bytes cells.now)) }
+{
+    let [column, columns @ ..] = columns else {
+        return end_line(text);
+    };
+    let [width, widths @ ..] = widths else {
+        return end_line(text);
+    };
+    let [cell, cells @ ..] = cells else {
+        return end_line(text);
+    };
+    if cells.is_empty() {
+        return push_last(text, cell.as_str());
+    }
+    push_parted(alloc, text, column.is_right, cell.as_str(), *width)?;
+    push_line(alloc, text, columns, widths, cells)
+}
+
+fn push_lines(
+    alloc: Global,
+    text: &mut Vec<u8>,
+    columns: &[Column],
+    widths: &[u64],
+    rows: &Vec<Vec<String>>,
+) -> Result<(), Memory>
+    ensures { OnOk result (text.new.items ≡ text.old.items ++ lines (layout_of columns.now) widths.now (map row_texts rows.now.items)) }
+{
+    for row in rows {
+        push_line(alloc, text, columns, widths, row.as_slice())?;
+    }
+    Ok(())
+}
