@@ -7,7 +7,7 @@ use Rattle.timew_store.specs.Held.{replaced}
 use Rattle.timew_store.specs.Interval.{AreRows}
 use Rattle.timew_store.specs.Rows.{rows_of}
 use Rattle.timew_store.specs.Months.{changes_to}
-use Rattle.timew_store.proofs.LineBack.{IsWritable}
+use Rattle.timew_store.specs.Writable.{IsWritable}
 use Rattle.timew_store.proofs.MonthNames.{rows_months_rise, names_good}
 use Rattle.timew_store.proofs.OneLine.{all_back, all_dated}
 use Rattle.timew_store.proofs.Stored.{rows_stored, none_empty}

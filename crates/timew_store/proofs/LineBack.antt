@@ -4,22 +4,17 @@ use Rattle.std.proofs.Common.{◌≡◌, ℕ, ◌+◌, Bool, true, false, cond, 
 use Rattle.std.proofs.lemmas.List.{take_at, drop_at}
 use Rattle.std.proofs.lemmas.Bool.{le-leb}
 use Rattle.std.specs.List.{list_all, AllByRecursion}
-use Rattle.std.specs.Str.{is_utf8}
 use Rattle.tw_time.specs.Basic.{basic, basic_moment}
 use Rattle.tw_world.specs.Folder.{same_bytes}
 use Rattle.timew_store.specs.declared.interval.Interval.{Interval}
-use Rattle.timew_store.specs.Interval.{IsRow, IsEnd}
+use Rattle.timew_store.specs.Interval.{IsEnd}
 use Rattle.timew_store.specs.Body.{◌>>=◌}
 use Rattle.timew_store.specs.Tail.{tail_text}
 use Rattle.timew_store.specs.Line.{end_text, line_text, after, moment_at, end_behind, end_at, is_end, row_with, row_of}
 use Rattle.timew_store.specs.Month.{on_first, lines, rows_from, month_rows, lines_text, with_row, with_line}
 use Rattle.timew_store.proofs.Finishing.{same_bytes_itself}
-use Rattle.timew_store.proofs.TailBack.{IsGoodTag, tail_back}
-
--- the moment is read back from its 16 bytes
-pub record IsPrinted (at : ℕ) : Type 0 where
-  pub back : basic_moment (basic at) ≡ Some at
-  pub size : length (basic at) ≡ 16
+use Rattle.timew_store.specs.Writable.{IsPrinted, IsWritable}
+use Rattle.timew_store.proofs.TailBack.{tail_back}
 
 after_front : (front rest : List ℕ) → after front (front ++ rest) ≡ Some rest
 after_front front rest =
@@ -50,14 +45,6 @@ end_back (Some end) tags note is =
 ends_late : (start : ℕ) (end : Option ℕ) → IsEnd start end → is_end start end ≡ true
 ends_late start None is = refl
 ends_late start (Some end) is = le-leb start end is.0
-
--- what an interval of the program is, for its line
-pub record IsWritable (r : Interval) : Type 0 where
-  pub row : IsRow r
-  pub start : IsPrinted r.start
-  pub end : IfSome r.end IsPrinted
-  pub tags : AllByRecursion IsGoodTag r.tags
-  pub note : is_utf8 r.annotation ≡ true
 
 pub line_back : (r : Interval) → IsWritable r → row_of (line_text r) ≡ Some r
 unfolding row_of

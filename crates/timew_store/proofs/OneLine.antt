@@ -10,7 +10,8 @@ use Rattle.timew_store.specs.declared.interval.Interval.{Interval}
 use Rattle.timew_store.specs.Interval.{is_printable, is_tag}
 use Rattle.timew_store.specs.Tail.{is_special, is_escaped, escaped, quoted, tag_text, tags_text, note_text, tail_text}
 use Rattle.timew_store.specs.Line.{end_text, line_text}
-use Rattle.timew_store.proofs.LineBack.{IsPrinted, IsWritable, IsBack, line_back}
+use Rattle.timew_store.specs.Writable.{IsPrinted, IsWritable}
+use Rattle.timew_store.proofs.LineBack.{IsBack, line_back}
 use Rattle.timew_store.proofs.MonthNames.{IsDated, dated}
 
 abbrev pub stays : ℕ → Bool

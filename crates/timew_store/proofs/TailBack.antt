@@ -13,6 +13,7 @@ use Rattle.std.specs.declared.cmp.Ordering.TheVariants.{Less, Equal, Greater}
 use Rattle.std.specs.Ordering.{is_lt, ordering_reverse}
 use Rattle.tw_world.specs.Folder.{bytes_cmp}
 use Rattle.tw_world.specs.Folder.{add_name as add_tag}
+use Rattle.timew_store.specs.Writable.{IsGoodTag}
 use Rattle.timew_store.specs.declared.tail.Mode.{Mode}
 use Rattle.timew_store.specs.declared.tail.Mode.TheVariants.{Ahead, Bare, Quoted, Escaped, Closed, Sign, Quote, Backslash, Failed}
 use Rattle.timew_store.specs.Interval.{is_printable, is_tag, tags_rise, tags_rise_from}
@@ -112,14 +113,11 @@ tag_read t tags is = ⊎_elim
     printable [] is = refl
     printable (b ∷ t) is = is
 
--- behind a tag comes a space, or the end
-abbrev pub IsGoodTag : List ℕ → Type 0
-IsGoodTag t = (is_tag t ≡ true) × (is_utf8 t ≡ true)
-
 long_tag : (t : List ℕ) → is_tag t ≡ true → (length t == 0) ≡ false
 long_tag [] is = absurd (cc)
 long_tag (b ∷ t) is = grind (arith, nat_tests)
 
+-- behind a tag comes a space, or the end
 tag_ended : (t : List ℕ) (tags : List (List ℕ)) (r : Reading) → IsGoodTag t → IsRead t tags r → (stepped r 32 ≡ record { mode = Ahead; text = []; tags = add_tag t tags }) × (ended r ≡ Some (add_tag t tags, []))
 tag_ended t tags r good (inl bare) = (
   ap (λ (x : Reading). stepped x 32) bare ∙ ap (λ c. cond c (record { mode = Ahead; text = []; tags = add_tag t tags }) (record { mode = Failed; text = t; tags = tags })) good.1,

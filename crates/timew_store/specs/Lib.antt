@@ -12,3 +12,4 @@ pub mod Tail
 pub mod History
 pub mod Held
 pub mod Writing
+pub mod Writable

@@ -7,6 +7,7 @@ mod body;
 mod fields;
 mod interval;
 mod intervals;
+pub mod laws;
 mod line;
 mod load;
 mod month;
@@ -19,6 +20,9 @@ mod writing;
 
 pub use interval::{Interval, Texts};
 pub use intervals::Intervals;
-pub use month::{MonthError, in_order, read_month};
+pub use month::{MonthError, read_month};
 pub use months::write_month;
 pub use writing::put_line;
+
+#[cfg(test)]
+mod tests;

@@ -104,6 +104,7 @@ pub fn open_and_finish<F: Folder, D: Disk>(
     disk: &mut D,
 ) -> Result<Journal, StoreError>
     ensures loaded { IfOk result (λ journal. Tells F.model folder.old → Settled F.model folder.old → tells.Tells D.model disk.old → IsLoaded F.model D.model folder.old folder.new disk.old disk.new journal) }
+    ensures length { IfOk result (λ journal. D.model.len disk.new ≡ journal_end journal) }
     ensures any_moment { Tells F.model folder.old → Settled F.model folder.old → tells.Tells D.model disk.old → InTurns F.model (crash_of D.model) (OpensAlike F.model D.model folder.old disk.old) folder.old disk.old folder.new disk.new }
 {
     let journal = Journal::open(alloc, disk, b"TIMEWJ01")?;

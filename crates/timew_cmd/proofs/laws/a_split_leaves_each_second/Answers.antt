@@ -1,0 +1,5 @@
+use Rattle.timew_cmd.proofs.SplitAt.{split_at}
+use Rattle.timew_cmd.proofs.laws.a_split_leaves_each_second.Goals as goal
+
+pub returns : goal.returns
+returns c = split_at

@@ -1,0 +1,32 @@
+//! What follows from the definitions, as contracts of functions that do nothing.
+ghost use Rattle.std.specs.Prelude.{◌≡◌, ℕ, List, cond, Some, Ok};
+ghost use Rattle.std.specs.List.{AllByRecursion};
+ghost use Rattle.tw_world.specs.Folder.{Files};
+ghost use Rattle.timew_store.specs.declared.interval.Interval.{Interval};
+ghost use Rattle.timew_store.specs.Interval.{at, has, content, IsRow, AreRows};
+ghost use Rattle.timew_store.specs.Placing.{placed};
+ghost use Rattle.timew_store.specs.Month.{lines_text, month_rows};
+ghost use Rattle.timew_store.specs.Writable.{IsWritable};
+ghost use Rattle.timew_store.specs.Held.{replaced};
+ghost use Rattle.timew_store.specs.Rows.{rows_of};
+ghost use Rattle.timew_store.specs.Months.{changes_to};
+
+/// An interval that is placed has its own seconds, and every other second has what it had.
+pub fn a_placed_interval_has_its_seconds()
+    ensures { (new : Interval) (rows : List Interval) (second : ℕ) → at (placed new rows) second ≡ cond (has new second) (Some (content new)) (at rows second) }
+{}
+
+/// Intervals in order among which one is placed are in order, and none overlaps another.
+pub fn placing_keeps_the_order()
+    ensures { (new : Interval) (rows : List Interval) → IsRow new → AreRows rows → AreRows (placed new rows) }
+{}
+
+/// The lines of intervals are read back as these intervals.
+pub fn lines_are_read_back()
+    ensures { (rows : List Interval) → AllByRecursion IsWritable rows → month_rows (lines_text rows) ≡ Ok rows }
+{}
+
+/// After a change to intervals the month files hold these intervals, whatever they held before.
+pub fn month_files_hold_the_intervals()
+    ensures { (files : Files) (rows : List Interval) → AreRows rows → AllByRecursion IsWritable rows → rows_of (replaced files (changes_to files rows)) ≡ Ok rows }
+{}

@@ -1,0 +1,168 @@
+use crate::body::read_record;
+use crate::fields::ReadError;
+use crate::load::open_and_finish;
+use crate::record::{change_body, undo_body};
+use crate::write::{StoreError, write_change};
+use crate::{Intervals, MonthError, Texts, read_month, write_month};
+use std::test::Fail;
+use tw_world::{Folder, MemoryDisk, MemoryFolder, Text};
+
+// Lines, with each liberty that a reader has, and the one text of what they say.
+#[test]
+fn a_line_is_read_with_its_liberties(rt: HostRuntime) -> Result<(), Fail> {
+    let alloc = rt.alloc();
+    let table = [
+        (
+            "inc 20260105T090000Z - 20260105T090005Z # code",
+            "inc 20260105T090000Z - 20260105T090005Z # code\n",
+        ),
+        ("inc 20260131T235959Z", "inc 20260131T235959Z\n"),
+        (
+            "inc 20260105T090000Z - 20260105T090000Z # # \"a \\\"b\\\" \\\\ #\"",
+            "inc 20260105T090000Z - 20260105T090000Z # # \"a \\\"b\\\" \\\\ #\"\n",
+        ),
+        (
+            "inc 20260105T090000Z # work \"two words\" a work # so far",
+            "inc 20260105T090000Z # a \"two words\" work # \"so far\"\n",
+        ),
+        (
+            "inc 20260105T090000Z # \"needless\" # plain \"quotes\" stay",
+            "inc 20260105T090000Z # needless # \"plain \\\"quotes\\\" stay\"\n",
+        ),
+        (
+            "\n\ninc 20260105T090000Z - 20260105T090001Z\n\ninc 20260105T090001Z\n\n",
+            "inc 20260105T090000Z - 20260105T090001Z\ninc 20260105T090001Z\n",
+        ),
+        ("inc 20260201T000000Z # another month", ""),
+    ];
+    for (lines, want) in table {
+        let rows = read_month(alloc, lines.as_bytes())
+            .ok()
+            .ok_or("a bad line")?;
+        let rows = Intervals::in_order(rows).ok_or("out of order")?;
+        let text = write_month(alloc, &rows, 2026, 1)?;
+        assert_eq!(rt; text.as_slice(), want.as_bytes(), "{lines}");
+    }
+    Ok(())
+}
+
+#[test]
+fn a_bad_line_is_named_by_its_number(rt: HostRuntime) -> Result<(), Fail> {
+    let alloc = rt.alloc();
+    let table = [
+        "inc 20260105T090000Z - 20260105T085959Z",
+        "inc 20260230T090000Z",
+        "inc 20260105T090000Z ",
+        "inc 20260105T090000Z -",
+        "inc 20260105T090000Z #",
+        "inc 20260105T090000Z # ",
+        "inc 20260105T090000Z # a  b",
+        "inc 20260105T090000Z # a ",
+        "inc 20260105T090000Z # a\tb",
+        "inc 20260105T090000Z # \"\"",
+        "inc 20260105T090000Z # \"a",
+        "inc 20260105T090000Z # \"a\"b",
+        "inc 20260105T090000Z # a\"b",
+        "inc 20260105T090000Z # \"a\\b\"",
+        "inc 20260105T090000Z # a # \"b\" c",
+        "Inc 20260105T090000Z",
+    ];
+    for line in table {
+        let lines = format!(in alloc; "inc 20260105T080000Z\n\n{line}\ninc nothing\n")?;
+        let read = read_month(alloc, lines.as_bytes());
+        let is = match read {
+            Err(MonthError::Line { line: number }) => number == 3,
+            _ => false,
+        };
+        assert!(rt; is, "{line}");
+    }
+    Ok(())
+}
+
+#[test]
+fn tags_are_added_and_taken_away(rt: HostRuntime) -> Result<(), Fail> {
+    let alloc = rt.alloc();
+    let mut had = Texts::new(alloc);
+    had.push(Text::from_str(alloc, "b")?)?;
+    had.push(Text::from_str(alloc, "d")?)?;
+    let mut others = Texts::new(alloc);
+    others.push(Text::from_str(alloc, "d")?)?;
+    others.push(Text::from_str(alloc, "a")?)?;
+    let with = had.with(alloc, &others)?;
+    assert_eq!(rt; with.len(), 3);
+    assert_eq!(rt; with.at(0), "a");
+    assert_eq!(rt; with.at(2), "d");
+    let without = had.without(alloc, &others)?;
+    assert_eq!(rt; without.len(), 1);
+    assert_eq!(rt; without.copy(alloc)?.at(0), "b");
+    Ok(())
+}
+
+// One file, which is made: its name, no bytes before, and one byte after.
+const CHANGE: &[u8] = b"\x01\0\0\0\x01\0\0\0\x0c2026-01.data\0\0\0\0\0\0\0\x01x";
+
+#[test]
+fn a_body_is_its_fields(rt: HostRuntime) -> Result<(), Fail> {
+    let alloc = rt.alloc();
+    let files = read_record(alloc, CHANGE)
+        .ok()
+        .ok_or("no record")?
+        .into_files();
+    assert_eq!(rt; files.len(), 1);
+    assert_eq!(rt; files[0].name.as_str(), "2026-01.data");
+    assert_eq!(rt; files[0].new.as_slice(), b"x".as_slice());
+    assert_eq!(rt; change_body(alloc, &files)?.as_slice(), CHANGE);
+    let undo = undo_body(alloc, &files)?;
+    assert_eq!(rt; undo[0], 2);
+    assert_eq!(rt; &undo[1..], &CHANGE[1..]);
+    Ok(())
+}
+
+#[test]
+fn a_body_outside_the_grammar_is_none(rt: HostRuntime) {
+    let table = [
+        b"".as_slice(),
+        b"\0\0\0\0\0".as_slice(),
+        b"\x03\0\0\0\0".as_slice(),
+        b"\x01\0\0\0\0\0".as_slice(),
+        b"\x01\0\0\0\x01\0\0\0\x0c2026-13.data\0\0\0\0\0\0\0\0".as_slice(),
+        b"\x01\0\0\0\x01\0\0\0\x0c2026-1x.data\0\0\0\0\0\0\0\0".as_slice(),
+        b"\x01\0\0\0\x01\0\0\0\x0c2026-01.data\0\0\0\0\0\0\0\x02x".as_slice(),
+        b"\x01\0\0\0\x02\0\0\0\x0c2026-01.data\0\0\0\0\0\0\0\0\0\0\0\x0c2026-01.data\0\0\0\0\0\0\0\0".as_slice(),
+    ];
+    for (n, body) in table.iter().enumerate() {
+        let is = match read_record(rt.alloc(), body) {
+            Err(ReadError::Malformed) => true,
+            _ => false,
+        };
+        assert!(rt; is, "{n}");
+    }
+}
+
+// The folder fails once the record stands, and the next opening finishes the change.
+#[test]
+fn a_change_that_was_cut_off_is_finished(rt: HostRuntime) -> Result<(), Fail> {
+    let alloc = rt.alloc();
+    let mut folder = MemoryFolder::new(alloc, Vec::new(alloc), [0].to_vec(alloc)?)?;
+    let mut disk = MemoryDisk::new(alloc, Vec::new(alloc), Vec::new(alloc))?;
+    let files = read_record(alloc, CHANGE)
+        .ok()
+        .ok_or("no record")?
+        .into_files();
+    let mut journal = open_and_finish(alloc, &mut folder, &mut disk)
+        .ok()
+        .ok_or("no journal")?;
+    let written = write_change(&mut journal, &mut folder, &mut disk, &files, CHANGE);
+    assert_eq!(rt; written, Err(StoreError::Folder));
+    assert_eq!(rt; disk.bytes().len(), 13 + 5 + CHANGE.len());
+    let names = folder.names(alloc).ok().ok_or("no names")?;
+    assert_eq!(rt; names.len(), 0);
+    assert!(rt; open_and_finish(alloc, &mut folder, &mut disk).is_ok());
+    let file = folder
+        .read(alloc, "2026-01.data")
+        .ok()
+        .ok_or("no folder")?
+        .ok_or("no file")?;
+    assert_eq!(rt; file.as_slice(), b"x".as_slice());
+    Ok(())
+}
