@@ -120,10 +120,11 @@ fn digits_of(alloc: Global, filter: &Filter, view: &View<'_>) -> Result<String, 
     if looks.taken() != u128::from(view.tasks.len()) {
         return Err("another count of looks")?;
     }
+    let chosen = chosen_of(alloc, &uuids)?;
     let mut digits = String::new(alloc);
     for (number, _) in TASKS {
         let holds = holds_alone(filter, view, uuid_ending(number));
-        if holds != uuids.contains(&uuid_ending(number)) {
+        if holds != chosen.contains(&uuid_ending(number)) {
             return Err("another answer alone")?;
         }
         if holds {
