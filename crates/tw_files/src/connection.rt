@@ -61,7 +61,8 @@ impl<C: Timer, S: TimedStream> Connection<C, S> {
 
     // Brings the end nearer, to so many seconds from now.
     fn end_within(&mut self, seconds: u64) -> io::Result<()>
-        ensures { as_nanos self.new.end ≤ as_nanos self.old.end }
+        ensures nearer { as_nanos self.new.end ≤ as_nanos self.old.end }
+        ensures near { OnOk result ((time : ℕ) × C.has_shown self.new.clock time × (as_nanos self.new.end ≤ time + seconds * 1_000_000_000)) }
     {
         let end = end_after(&self.clock, seconds)?;
         self.end = shorter(end, self.end);
