@@ -2,7 +2,7 @@
 ghost use Rattle.std.specs.Prelude.{◌≡◌, ◌+◌, ◌*◌, ◌≤◌, min, ℕ, IfOk, OnOk};
 ghost use Rattle.std.specs.Duration.{as_nanos};
 ghost use Rattle.std.specs.Io.{ReadsAtMost, WritesAtMost};
-ghost use Rattle.std.specs.Io.KnownBytes.{Keeps, ReadConsumes, WriteAppends};
+ghost use Rattle.std.specs.Io.KnownBytes.{ReadConsumes, WriteAppends};
 ghost use Rattle.tw_files.specs.Waits.{Begins, MayWait, Waited};
 
 use crate::timed_stream::{TimedStream, Timer};
@@ -61,7 +61,8 @@ impl<C: Timer, S: TimedStream> Connection<C, S> {
 
     // Brings the end nearer, to so many seconds from now.
     fn end_within(&mut self, seconds: u64) -> io::Result<()>
-        ensures { as_nanos self.new.end ≤ as_nanos self.old.end }
+        ensures nearer { as_nanos self.new.end ≤ as_nanos self.old.end }
+        ensures near { OnOk result ((time : ℕ) × C.has_shown self.new.clock time × (as_nanos self.new.end ≤ time + seconds * 1_000_000_000)) }
     {
         let end = end_after(&self.clock, seconds)?;
         self.end = shorter(end, self.end);

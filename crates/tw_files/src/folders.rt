@@ -1,5 +1,6 @@
 // The folders on the way to a file.
-ghost use Rattle.std.specs.Prelude.{◌≡◌, List, ℕ, IfOk, OnOk};
+ghost use Rattle.std.specs.Prelude.{◌≡◌, ◌≢◌, List, ℕ, IfOk, OnOk, IfErr};
+ghost use Rattle.std.specs.IoError.{error_kind};
 ghost use Rattle.tw_files.specs.Folders.{EachOnWay};
 
 use crate::placed_file::PlacedFile;
@@ -61,7 +62,9 @@ impl Folders for &HostRuntime {
 }
 
 // An error of this kind is none.
-fn passed_over(done: io::Result<()>, kind: io::ErrorKind) -> io::Result<()> {
+fn passed_over(done: io::Result<()>, kind: io::ErrorKind) -> io::Result<()>
+    ensures { IfErr done (λ e. error_kind e ≢ kind → result ≡ Err e) }
+{
     match done {
         Err(error) if error.kind() == kind => Ok(()),
         done => done,
