@@ -1,0 +1,5 @@
+pub mod Sight
+pub mod Fields
+pub mod Order
+pub mod Texts
+pub mod Ids

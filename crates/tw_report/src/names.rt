@@ -1,0 +1,71 @@
+// The names that tasks have, and how often they occur.
+ghost use Rattle.std.specs.Prelude.{◌≡◌, IfOk, OnOk};
+ghost use Rattle.std.specs.Option.{option_copied};
+ghost use Rattle.tw_report.specs.Texts.{tag_in, count_name, count_project, count_tags, projects_text, tags_text};
+
+use crate::count::Counts;
+use std::alloc::Global;
+use tw_filter::{View, chosen_of};
+use tw_model::TaskMap;
+use tw_world::Memory;
+use uuid::Uuid;
+
+/// A line for each project of the rows' tasks, in byte order: its name, and how many of them have it (task(1), under "projects").
+/// Names are printed as they are stored.
+pub fn projects_text(alloc: Global, rows: &Vec<Uuid>, view: &View<'_>) -> Result<Vec<u8>, Memory>
+    ensures { IfOk result (λ text. text.items ≡ projects_text rows.now.items view.entry.now.tasks.now) }
+{
+    let chosen = chosen_of(alloc, rows)?;
+    let mut counts = Counts::new(alloc);
+    for (uuid, task) in view.tasks.iter() {
+        if chosen.contains(uuid) {
+            count_project(alloc, &mut counts, task)?;
+        }
+    }
+    counts.lines(alloc)
+}
+
+/// A line for each tag of the rows' tasks, in byte order: its name, and how many of them have it (task(1), under "tags").
+/// A tag is a property whose name begins with `tag_`, whatever its value. Names are printed as they are stored.
+pub fn tags_text(alloc: Global, rows: &Vec<Uuid>, view: &View<'_>) -> Result<Vec<u8>, Memory>
+    ensures { IfOk result (λ text. text.items ≡ tags_text rows.now.items view.entry.now.tasks.now) }
+{
+    let chosen = chosen_of(alloc, rows)?;
+    let mut counts = Counts::new(alloc);
+    for (uuid, task) in view.tasks.iter() {
+        if chosen.contains(uuid) {
+            count_tags(alloc, &mut counts, task)?;
+        }
+    }
+    counts.lines(alloc)
+}
+
+fn count_project(alloc: Global, counts: &mut Counts, task: &TaskMap) -> Result<(), Memory>
+    ensures { OnOk result (counts.new ≡ count_project counts.old task.now) }
+{
+    count_any(alloc, counts, task.get("project"))
+}
+
+fn count_tags(alloc: Global, counts: &mut Counts, task: &TaskMap) -> Result<(), Memory>
+    ensures { OnOk result (counts.new ≡ count_tags counts.old task.now) }
+{
+    for n in 0..task.len() {
+        count_any(alloc, counts, tag_in(task.key(n)))?;
+    }
+    Ok(())
+}
+
+fn tag_in(property: &str) -> Option<&str>
+    ensures { option_copied result ≡ tag_in property.now }
+{
+    property.strip_prefix("tag_")
+}
+
+fn count_any(alloc: Global, counts: &mut Counts, name: Option<&str>) -> Result<(), Memory>
+    ensures { OnOk result (counts.new ≡ count_name counts.old (option_copied name.entry)) }
+{
+    match name {
+        Some(name) => counts.add(alloc, name),
+        None => Ok(()),
+    }
+}
