@@ -39,3 +39,6 @@ pub use naming::first_unnamed;
 pub use server::Server;
 pub use settings::{Settings, read_settings};
 pub use word_error::WordError;
+
+#[cfg(test)]
+mod tests;
