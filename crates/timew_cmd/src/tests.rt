@@ -1,3 +1,5 @@
+ghost use Rattle.timew_cmd.specs.Given.{IsGiven};
+
 use crate::{Command, TimewError, plan};
 use std::alloc::Global;
 use std::test::Fail;
@@ -13,15 +15,35 @@ const TWO: &str =
     "inc 20260105T080000Z - 20260105T083000Z # a # \"note\"\ninc 20260105T090000Z # b\n";
 
 fn read(alloc: Global, lines: &str) -> Result<Intervals, Fail> {
-    let rows = read_month(alloc, lines.as_bytes())
-        .ok()
-        .ok_or("a bad line")?;
-    Ok(Intervals::in_order(rows).ok_or("out of order")?)
+    let Ok(rows) = read_month(alloc, lines.as_bytes()) else {
+        return Err(Fail::from("a bad line"));
+    };
+    match Intervals::in_order(rows) {
+        Some(rows) => Ok(rows),
+        None => Err(Fail::from("out of order")),
+    }
 }
 
-fn text(alloc: Global, planned: Result<Intervals, TimewError>) -> Result<Vec<u8>, Fail> {
-    let rows = planned.ok().ok_or("refused")?;
-    Ok(write_month(alloc, &rows, 2026, 1)?)
+// Whether a command leads to the intervals of these lines.
+fn leads_to(alloc: Global, command: &Command, rows: &Intervals, lines: &str) -> Result<bool, Fail>
+    requires { IsGiven command.now }
+{
+    match plan(alloc, command, rows, NOW) {
+        Ok(next) => {
+            let text = write_month(alloc, &next, 2026, 1)?;
+            Ok(text.as_slice() == lines.as_bytes())
+        }
+        Err(_) => Ok(false),
+    }
+}
+
+fn is_refused(alloc: Global, command: &Command, rows: &Intervals, why: TimewError) -> bool
+    requires { IsGiven command.now }
+{
+    match plan(alloc, command, rows, NOW) {
+        Ok(_) => false,
+        Err(error) => error == why,
+    }
 }
 
 #[test]
@@ -31,10 +53,9 @@ fn a_split_gives_the_odd_second_to_the_second_part(rt: HostRuntime) -> Result<()
     let command = Command::Split {
         ids: [1].to_vec(alloc)?,
     };
-    let after = text(alloc, plan(alloc, &command, &rows, NOW))?;
     let want =
         "inc 20260105T090000Z - 20260105T090002Z # code\ninc 20260105T090002Z - 20260105T090005Z # code\n";
-    assert_eq!(rt; after.as_slice(), want.as_bytes());
+    assert!(rt; leads_to(alloc, &command, &rows, want)?);
     Ok(())
 }
 
@@ -49,11 +70,7 @@ fn an_interval_is_placed_where_it_is_free_or_adjusted(rt: HostRuntime) -> Result
         tags: Texts::new(alloc),
         adjust: false,
     };
-    let is = match plan(alloc, &command, &rows, NOW) {
-        Err(error) => error == TimewError::Overlap { id: 1 },
-        Ok(_) => false,
-    };
-    assert!(rt; is);
+    assert!(rt; is_refused(alloc, &command, &rows, TimewError::Overlap { id: 1 }));
     let command = Command::Track {
         word: 3,
         start: NOW - 3_598,
@@ -61,10 +78,9 @@ fn an_interval_is_placed_where_it_is_free_or_adjusted(rt: HostRuntime) -> Result
         tags: Texts::new(alloc),
         adjust: true,
     };
-    let after = text(alloc, plan(alloc, &command, &rows, NOW))?;
     let want =
         "inc 20260105T090000Z - 20260105T090002Z # code\ninc 20260105T090002Z - 20260105T090003Z\ninc 20260105T090003Z - 20260105T090005Z # code\n";
-    assert_eq!(rt; after.as_slice(), want.as_bytes());
+    assert!(rt; leads_to(alloc, &command, &rows, want)?);
     Ok(())
 }
 
@@ -72,74 +88,73 @@ fn an_interval_is_placed_where_it_is_free_or_adjusted(rt: HostRuntime) -> Result
 fn each_command_leads_to_its_intervals(rt: HostRuntime) -> Result<(), Fail> {
     let alloc = rt.alloc();
     let rows = read(alloc, TWO)?;
-    let hour = Length {
-        months: 0,
-        days: 0,
-        seconds: 3_600,
+    assert!(rt; leads_to(alloc, &Command::Show, &rows, TWO)?);
+    let stop = Command::Stop {
+        word: 0,
+        moment: None,
     };
-    let table = [
-        (
-            Command::Stop {
-                word: 0,
-                moment: None,
-            },
-            "inc 20260105T080000Z - 20260105T083000Z # a # \"note\"\ninc 20260105T090000Z - 20260105T100000Z # b\n",
-        ),
-        (
-            Command::Cancel,
-            "inc 20260105T080000Z - 20260105T083000Z # a # \"note\"\n",
-        ),
-        (
-            Command::Continue {
-                id: Some(2),
-                adjust: false,
-            },
-            "inc 20260105T080000Z - 20260105T083000Z # a # \"note\"\ninc 20260105T090000Z - 20260105T100000Z # b\ninc 20260105T100000Z # a\n",
-        ),
-        (
-            Command::Delete {
-                ids: [2, 2].to_vec(alloc)?,
-            },
-            "inc 20260105T090000Z # b\n",
-        ),
-        (
-            Command::Join {
-                first: 1,
-                second: 2,
-                adjust: false,
-            },
-            "inc 20260105T080000Z # a b # \"note\"\n",
-        ),
-        (
-            Command::Split {
-                ids: [1].to_vec(alloc)?,
-            },
-            "inc 20260105T080000Z - 20260105T083000Z # a # \"note\"\ninc 20260105T090000Z - 20260105T093000Z # b\ninc 20260105T093000Z # b\n",
-        ),
-        (
-            Command::Move {
-                id: 2,
-                word: 2,
-                start: NOW - 10_800,
-                adjust: false,
-            },
-            "inc 20260105T070000Z - 20260105T073000Z # a # \"note\"\ninc 20260105T090000Z # b\n",
-        ),
-        (
-            Command::Lengthen {
-                id: 2,
-                word: 2,
-                length: hour,
-                adjust: true,
-            },
-            "inc 20260105T080000Z - 20260105T093000Z # a # \"note\"\ninc 20260105T093000Z # b\n",
-        ),
-        (Command::Show, TWO),
-    ];
-    for (command, want) in &table {
-        let after = text(alloc, plan(alloc, command, &rows, NOW))?;
-        assert_eq!(rt; after.as_slice(), want.as_bytes());
-    }
+    let want =
+        "inc 20260105T080000Z - 20260105T083000Z # a # \"note\"\ninc 20260105T090000Z - 20260105T100000Z # b\n";
+    assert!(rt; leads_to(alloc, &stop, &rows, want)?);
+    let want = "inc 20260105T080000Z - 20260105T083000Z # a # \"note\"\n";
+    assert!(rt; leads_to(alloc, &Command::Cancel, &rows, want)?);
+    let go_on = Command::Continue {
+        id: Some(2),
+        adjust: false,
+    };
+    let want =
+        "inc 20260105T080000Z - 20260105T083000Z # a # \"note\"\ninc 20260105T090000Z - 20260105T100000Z # b\ninc 20260105T100000Z # a\n";
+    assert!(rt; leads_to(alloc, &go_on, &rows, want)?);
+    let delete = Command::Delete {
+        ids: [2, 2].to_vec(alloc)?,
+    };
+    assert!(rt; leads_to(alloc, &delete, &rows, "inc 20260105T090000Z # b\n")?);
+    let join = Command::Join {
+        first: 1,
+        second: 2,
+        adjust: false,
+    };
+    assert!(rt;
+        leads_to(
+            alloc,
+            &join,
+            &rows,
+            "inc 20260105T080000Z # a b # \"note\"\n"
+        )?
+    );
+    Ok(())
+}
+
+#[test]
+fn each_change_of_an_interval_leads_to_its_intervals(rt: HostRuntime) -> Result<(), Fail> {
+    let alloc = rt.alloc();
+    let rows = read(alloc, TWO)?;
+    let split = Command::Split {
+        ids: [1].to_vec(alloc)?,
+    };
+    let want =
+        "inc 20260105T080000Z - 20260105T083000Z # a # \"note\"\ninc 20260105T090000Z - 20260105T093000Z # b\ninc 20260105T093000Z # b\n";
+    assert!(rt; leads_to(alloc, &split, &rows, want)?);
+    let moved = Command::Move {
+        id: 2,
+        word: 2,
+        start: NOW - 10_800,
+        adjust: false,
+    };
+    let want = "inc 20260105T070000Z - 20260105T073000Z # a # \"note\"\ninc 20260105T090000Z # b\n";
+    assert!(rt; leads_to(alloc, &moved, &rows, want)?);
+    let lengthen = Command::Lengthen {
+        id: 2,
+        word: 2,
+        length: Length {
+            months: 0,
+            days: 0,
+            seconds: 3_600,
+        },
+        adjust: true,
+    };
+    let want = "inc 20260105T080000Z - 20260105T093000Z # a # \"note\"\ninc 20260105T093000Z # b\n";
+    assert!(rt; leads_to(alloc, &lengthen, &rows, want)?);
     Ok(())
 }
 
@@ -149,79 +164,29 @@ fn each_refusal_comes_where_it_is_due(rt: HostRuntime) -> Result<(), Fail> {
     let none = read(alloc, "")?;
     let closed = read(alloc, CODE)?;
     let rows = read(alloc, TWO)?;
-    let month = Length {
-        months: 1,
-        days: 0,
-        seconds: 0,
+    let stop = Command::Stop {
+        word: 1,
+        moment: Some(NOW - 7_200),
     };
-    let table = [
-        (
-            Command::Stop {
-                word: 1,
-                moment: None,
-            },
-            &closed,
-            TimewError::NoOpen,
-        ),
-        (Command::Cancel, &none, TimewError::NoOpen),
-        (
-            Command::Continue {
-                id: None,
-                adjust: false,
-            },
-            &rows,
-            TimewError::AlreadyOpen { id: 1 },
-        ),
-        (
-            Command::Continue {
-                id: None,
-                adjust: false,
-            },
-            &none,
-            TimewError::NoInterval { id: 1 },
-        ),
-        (
-            Command::Delete {
-                ids: [1, 9].to_vec(alloc)?,
-            },
-            &rows,
-            TimewError::NoInterval { id: 9 },
-        ),
-        (
-            Command::Stop {
-                word: 1,
-                moment: Some(NOW - 7_200),
-            },
-            &rows,
-            TimewError::Range { word: 1 },
-        ),
-        (
-            Command::Lengthen {
-                id: 2,
-                word: 2,
-                length: month,
-                adjust: false,
-            },
-            &rows,
-            TimewError::Range { word: 2 },
-        ),
-        (
-            Command::Move {
-                id: 2,
-                word: 2,
-                start: NOW,
-                adjust: false,
-            },
-            &rows,
-            TimewError::Overlap { id: 1 },
-        ),
-    ];
-    for (command, rows, want) in &table {
-        let is = match plan(alloc, command, rows, NOW) {
-            Err(error) => error == *want,
-            Ok(_) => false,
-        };
-        assert!(rt; is);
-    }
+    assert!(rt; is_refused(alloc, &stop, &closed, TimewError::NoOpen));
+    assert!(rt; is_refused(alloc, &stop, &rows, TimewError::Range { word: 1 }));
+    assert!(rt; is_refused(alloc, &Command::Cancel, &none, TimewError::NoOpen));
+    let go_on = Command::Continue {
+        id: None,
+        adjust: false,
+    };
+    assert!(rt; is_refused(alloc, &go_on, &rows, TimewError::AlreadyOpen { id: 1 }));
+    assert!(rt; is_refused(alloc, &go_on, &none, TimewError::NoInterval { id: 1 }));
+    let delete = Command::Delete {
+        ids: [1, 9].to_vec(alloc)?,
+    };
+    assert!(rt; is_refused(alloc, &delete, &rows, TimewError::NoInterval { id: 9 }));
+    let moved = Command::Move {
+        id: 2,
+        word: 2,
+        start: NOW,
+        adjust: false,
+    };
+    assert!(rt; is_refused(alloc, &moved, &rows, TimewError::Overlap { id: 1 }));
     Ok(())
 }

@@ -36,10 +36,12 @@ fn a_line_is_read_with_its_liberties(rt: HostRuntime) -> Result<(), Fail> {
         ("inc 20260201T000000Z # another month", ""),
     ];
     for (lines, want) in table {
-        let rows = read_month(alloc, lines.as_bytes())
-            .ok()
-            .ok_or("a bad line")?;
-        let rows = Intervals::in_order(rows).ok_or("out of order")?;
+        let Ok(rows) = read_month(alloc, lines.as_bytes()) else {
+            return Err(Fail::from("a bad line"));
+        };
+        let Some(rows) = Intervals::in_order(rows) else {
+            return Err(Fail::from("out of order"));
+        };
         let text = write_month(alloc, &rows, 2026, 1)?;
         assert_eq!(rt; text.as_slice(), want.as_bytes(), "{lines}");
     }
@@ -104,10 +106,10 @@ const CHANGE: &[u8] = b"\x01\0\0\0\x01\0\0\0\x0c2026-01.data\0\0\0\0\0\0\0\x01x"
 #[test]
 fn a_body_is_its_fields(rt: HostRuntime) -> Result<(), Fail> {
     let alloc = rt.alloc();
-    let files = read_record(alloc, CHANGE)
-        .ok()
-        .ok_or("no record")?
-        .into_files();
+    let Ok(held) = read_record(alloc, CHANGE) else {
+        return Err(Fail::from("no record"));
+    };
+    let files = held.into_files();
     assert_eq!(rt; files.len(), 1);
     assert_eq!(rt; files[0].name.as_str(), "2026-01.data");
     assert_eq!(rt; files[0].new.as_slice(), b"x".as_slice());
@@ -145,13 +147,13 @@ fn a_change_that_was_cut_off_is_finished(rt: HostRuntime) -> Result<(), Fail> {
     let alloc = rt.alloc();
     let mut folder = MemoryFolder::new(alloc, Vec::new(alloc), [0].to_vec(alloc)?)?;
     let mut disk = MemoryDisk::new(alloc, Vec::new(alloc), Vec::new(alloc))?;
-    let files = read_record(alloc, CHANGE)
-        .ok()
-        .ok_or("no record")?
-        .into_files();
-    let mut journal = open_and_finish(alloc, &mut folder, &mut disk)
-        .ok()
-        .ok_or("no journal")?;
+    let Ok(held) = read_record(alloc, CHANGE) else {
+        return Err(Fail::from("no record"));
+    };
+    let files = held.into_files();
+    let Ok(mut journal) = open_and_finish(alloc, &mut folder, &mut disk) else {
+        return Err(Fail::from("no journal"));
+    };
     let written = write_change(&mut journal, &mut folder, &mut disk, &files, CHANGE);
     assert_eq!(rt; written, Err(StoreError::Folder));
     assert_eq!(rt; disk.bytes().len(), 13 + 5 + CHANGE.len());
