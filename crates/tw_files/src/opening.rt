@@ -49,6 +49,7 @@ pub fn open_disk<S: Folders>(
 #[cfg(test)]
 mod tests {
     use super::*;
+    use std::fs;
     use std::test::Fail;
     use tw_world::Disk;
 
@@ -58,6 +59,7 @@ mod tests {
     ) -> Result<(), Fail> {
         let mut system = &rt;
         for path in ["a.journal", "two/deep/a.journal"] {
+            let _ = fs::remove_file(&rt, path);
             let mut disk = open_disk(&mut system, path, Busy::Wait)?;
             assert_eq!(rt; disk.size(), Ok(0));
             assert_eq!(rt; disk.set_len(3), Ok(()));
