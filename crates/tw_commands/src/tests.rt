@@ -50,23 +50,23 @@ fn each_command_has_its_text(rt: HostRuntime) -> Result<(), Fail> {
     let exported =
         b"[\n{\"description\":\"Buy milk\",\"entry\":\"20231114T221320Z\",\"modified\":\"20231114T221320Z\",\"status\":\"pending\",\"urgency\":0.000,\"uuid\":\"00000000-0000-4000-8000-000000000001\"}\n]\n";
     assert_eq!(rt;
-        carried(alloc, buy_milk(alloc)?, &mut disk)?,
+        carried(alloc, buy_milk(alloc)?, &mut disk)?.as_slice(),
         b"Created task 1.\n".as_slice()
     );
     assert_eq!(rt;
-        carried(alloc, Command::Count, &mut disk)?,
+        carried(alloc, Command::Count, &mut disk)?.as_slice(),
         b"1\n".as_slice()
     );
     assert_eq!(rt;
-        carried(alloc, Command::Export, &mut disk)?,
+        carried(alloc, Command::Export, &mut disk)?.as_slice(),
         exported.as_slice()
     );
     assert_eq!(rt;
-        carried(alloc, Command::Undo, &mut disk)?,
+        carried(alloc, Command::Undo, &mut disk)?.as_slice(),
         b"Undone 5 operations.\n".as_slice()
     );
     assert_eq!(rt;
-        carried(alloc, Command::Count, &mut disk)?,
+        carried(alloc, Command::Count, &mut disk)?.as_slice(),
         b"0\n".as_slice()
     );
     Ok(())
