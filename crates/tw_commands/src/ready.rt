@@ -49,7 +49,8 @@ fn prepare(
     now: Moment,
 ) -> Result<Result<Prepared, Refusal>, Memory>
     ensures prepared { IfOk result (λ made. IfOk made (IsPrepared replica (step_in now (held_state replica) (work_view work)))) }
-    ensures refused { IfOk result (λ made. IfErr made (λ refusal. (refusal ≡ Refusal.NothingToUndo) × (applied (held_state replica) (step_in now (held_state replica) (work_view work)) ≡ Nowhere))) }
+    ensures refused { IfOk result (λ made. IfErr made (λ refusal. (refusal ≡ Refusal.NothingToUndo)
+        × (applied (held_state replica) (step_in now (held_state replica) (work_view work)) ≡ Nowhere))) }
 {
     match work {
         Work::Changes { renumber, changes } => {
@@ -66,7 +67,8 @@ fn prepare(
 
 // The text of a command, once its step is taken in memory. Before it, so many operations were pending.
 fn shown(alloc: Global, show: Show, pending: usize, prepared: &Prepared) -> Result<Vec<u8>, Memory>
-    ensures { IfOk result (λ text. (old : State) → pending ≡ length old.pending → text.items ≡ shown (show_view show) old (prepared_state prepared.now)) }
+    ensures { IfOk result (λ text. (old : State) → pending ≡ length old.pending
+        → text.items ≡ shown (show_view show) old (prepared_state prepared.now)) }
 {
     match show {
         Show::Created { uuid } => created_text(alloc, uuid, prepared.numbers()),
