@@ -11,7 +11,6 @@ use Rattle.tw_sync.specs.declared.error.ReplyKind.TheVariants.{Status}
 use Rattle.tw_sync.specs.Answers.{IsLinkKept}
 use Rattle.tw_http.specs.Link.{IsHonest}
 use Rattle.tw_commands.specs.declared.request.Request.{Request}
-use Rattle.tw_cli.specs.Cause.{line_cause}
 use Rattle.tw_cli.specs.Run.{Gives, CanEnd, Draws, IsDoneOrWant}
 use Rattle.tw_cli.specs.Syncing.{SyncGives, CanBeSynced}
 use Rattle.tw_cli.specs.Crash.{LeavesBy, LeavesSync, next_of}
@@ -63,18 +62,6 @@ module _ {D O L : Type 0} (m : DiskModel D) (s : SinkModel O) (links : LinkModel
     kept = disk_same d;
     link_kept = link_same l;
   }
-
-  -- nothing is asked for
-  pub error_is_run : OnlyNow m → (asked : Result Job LineError) (error : LineError) (cause : Cause) (ids : IdWords) (d : D) (o : O) (l : L) → asked ≡ Err error → cause ≡ line_cause error → IsRun m s links asked ids ids (went d d o o l l) cause
-  error_is_run only_now asked error cause ids d o l wrong is = subst (λ (a : Result Job LineError). IsRun m s links a ids ids (went d d o o l l) cause) (sym wrong) (record {
-    gives = (inl is, refl, refl, refl);
-    complete = tt;
-    any_moment = leaves_as_it_was m only_now d;
-    grows = λ honest. grows_same (links.chain l);
-    ids = refl;
-    kept = disk_same d;
-    link_kept = link_same l;
-  })
 
   -- a command is asked for
   pub command_is_run : (asked : Result Job LineError) (request : Request) (old new : IdWords) (d0 d1 : D) (o0 o1 : O) (l : L) (cause : Cause) → asked ≡ Ok (Here request)

@@ -1,2 +1,5 @@
 pub mod Applied
 mod Deciding
+pub mod Copying
+pub mod Joining
+pub mod Taken

@@ -1,42 +1,121 @@
 -- What each command is to do, and how many uuids it draws.
-use Rattle.std.specs.Prelude.{◌≡◌, ◌⊎◌, Result, Ok}
+use Rattle.std.specs.Prelude.{◌≡◌, ◌⊎◌, Option, Some, None, Result, Ok, Err}
+use Rattle.tw_world.specs.declared.Moment.{Moment}
 use Rattle.tw_world.specs.declared.ids.IdWords.{IdWords}
+use Rattle.tw_model.specs.Ops.{TaskValue}
 use Rattle.tw_replica.specs.State.{State}
-use Rattle.tw_commands.specs.Request.{after_draw}
+use Rattle.tw_filter.specs.Holds.{Scene}
+use Rattle.tw_filter.specs.declared.bad_word.BadWord.{BadWord}
+use Rattle.tw_filter.specs.declared.bad_word.WordKind.TheVariants.{Unbuilt}
+use Rattle.tw_words.specs.Lines.{Parts}
+use Rattle.tw_words.specs.Unnamed.{first_unnamed}
+use Rattle.tw_words.specs.declared.command.Command.{Command}
+use Rattle.tw_words.specs.declared.command.Command.TheVariants as command
+use Rattle.tw_commands.specs.Request.{scene_in, selected_in, after_draw}
+use Rattle.tw_commands.specs.Spaced.{rest_text}
 use Rattle.tw_commands.specs.Plan.{Plan}
 use Rattle.tw_commands.specs.Plan.Work.{TakeBack}
 use Rattle.tw_commands.specs.Plan.Show.{TakenBack}
-use Rattle.tw_commands.specs.Makes.Add.{adding}
+use Rattle.tw_commands.specs.Effects.{changes_by, acting}
+use Rattle.tw_commands.specs.Effects.Modify.{modify}
+use Rattle.tw_commands.specs.Effects.Texts.{append, prepend}
+use Rattle.tw_commands.specs.Effects.Annotate.{annotate}
+use Rattle.tw_commands.specs.Effects.Denotate.{denotate}
+use Rattle.tw_commands.specs.Effects.Done.{done, delete}
+use Rattle.tw_commands.specs.Effects.Purge.{purge}
+use Rattle.tw_commands.specs.Effects.Start.{start, stop}
+use Rattle.tw_commands.specs.Makes.Add.{adding, logging}
+use Rattle.tw_commands.specs.Makes.Duplicate.{copies_in, copying}
 use Rattle.tw_commands.specs.Looks.Count.{counting}
+use Rattle.tw_commands.specs.Looks.Names.{numbering, naming}
 use Rattle.tw_commands.specs.Looks.Export.{exporting}
+use Rattle.tw_commands.specs.declared.effect.Effect.{Effect}
+use Rattle.tw_commands.specs.declared.effect.Effect.TheVariants.{Nothing}
+use Rattle.tw_commands.specs.declared.plan.Deed.{Deed}
+use Rattle.tw_commands.specs.declared.plan.Deed.TheVariants as deed
 use Rattle.tw_commands.specs.declared.request.Request.{Request}
-use Rattle.tw_commands.specs.declared.request.Command.{Command}
-use Rattle.tw_commands.specs.declared.request.Command.TheVariants.{Add, Undo, Count, Export}
 use Rattle.tw_commands.specs.declared.refusal.Refusal.{Refusal}
+use Rattle.tw_commands.specs.declared.refusal.Refusal.TheVariants.{BadWords}
+
+-- what a command that acts on selected tasks makes of one
+abbrev pub effect_of : Command → Scene → Parts → Moment → TaskValue → Effect
+effect_of command.Modify scene line now task = modify scene line task
+effect_of command.Append scene line now task = append (rest_text line) task
+effect_of command.Prepend scene line now task = prepend (rest_text line) task
+effect_of command.Annotate scene line now task = annotate now (rest_text line) task
+effect_of command.Denotate scene line now task = denotate (rest_text line) task
+effect_of command.Done scene line now task = done now task
+effect_of command.Delete scene line now task = delete now task
+effect_of command.Purge scene line now task = purge now task
+effect_of command.Start scene line now task = start now task
+effect_of command.Stop scene line now task = stop now task
+effect_of _ scene line now task = Nothing
+
+-- the same by a line
+abbrev pub effect_by : Scene → Parts → Moment → TaskValue → Effect
+effect_by scene line now task = effect_of line.command scene line now task
+
+-- what a request makes of a task
+abbrev pub effect_in : Request → State → TaskValue → Effect
+effect_in request state task = effect_by (scene_in request state) request.line request.at task
+
+-- what a command that acts on selected tasks is to do
+abbrev pub editing : Deed → Request → State → Result Plan Refusal
+editing deed request state = acting deed (changes_by (effect_in request state) request.at state.tasks (selected_in request state))
 
 -- what `undo` is to do
 abbrev pub undoing : Plan
 undoing = record { work = TakeBack; show = TakenBack }
 
--- what a command is to do
+-- what a command is to do; a command that is not built is refused at its word
 abbrev pub plan_by : Command → Request → IdWords → State → Result Plan Refusal
-plan_by (Add description) request ids state = adding description request.at ids state.tasks
-plan_by Undo request ids state = Ok undoing
-plan_by Count request ids state = Ok (counting state.tasks)
-plan_by Export request ids state = Ok (exporting state.tasks)
+plan_by command.Add request ids state = adding request ids state
+plan_by command.Log request ids state = logging request ids state
+plan_by command.Modify request ids state = editing deed.Modified request state
+plan_by command.Append request ids state = editing deed.Modified request state
+plan_by command.Prepend request ids state = editing deed.Modified request state
+plan_by command.Annotate request ids state = editing deed.Annotated request state
+plan_by command.Denotate request ids state = editing deed.Denotated request state
+plan_by command.Done request ids state = editing deed.Completed request state
+plan_by command.Delete request ids state = editing deed.Deleted request state
+plan_by command.Purge request ids state = editing deed.Purged request state
+plan_by command.Start request ids state = editing deed.Started request state
+plan_by command.Stop request ids state = editing deed.Stopped request state
+plan_by command.Duplicate request ids state = copying request ids state
+plan_by command.Undo request ids state = Ok undoing
+plan_by command.Count request ids state = Ok (counting request state)
+plan_by command.Ids request ids state = Ok (numbering request state)
+plan_by command.Uuids request ids state = Ok (naming request state)
+plan_by command.Export request ids state = Ok (exporting request state)
+plan_by _ request ids state = Err (BadWords request.line.place Unbuilt)
 
--- what a request is to do with a replica in this state, or why it does nothing
+abbrev pub unless_unnamed : Option BadWord → Result Plan Refusal → Result Plan Refusal
+unless_unnamed None plan = plan
+unless_unnamed (Some bad) plan = Err (BadWords bad.word bad.kind)
+
+-- what a request is to do with a replica in this state, or why it does nothing; a word that names no task comes first
 abbrev pub plan_of : Request → IdWords → State → Result Plan Refusal
-plan_of request ids state = plan_by request.command request ids state
+plan_of request ids state =
+    unless_unnamed (first_unnamed (scene_in request state) request.line) (plan_by request.line.command request ids state)
 
 -- the identifiers once a command is decided on
-abbrev pub ids_by : Command → IdWords → State → IdWords
-ids_by (Add description) ids state = after_draw ids
-ids_by other ids state = ids
+abbrev pub ids_by : Command → Request → IdWords → State → IdWords
+ids_by command.Add request ids state = after_draw ids
+ids_by command.Log request ids state = after_draw ids
+ids_by command.Duplicate request ids state = (copies_in request ids state).ids
+ids_by _ request ids state = ids
+
+abbrev pub ids_unless : Option BadWord → (old left : IdWords) → IdWords
+ids_unless None old left = left
+ids_unless (Some bad) old left = old
 
 abbrev pub ids_after : Request → IdWords → State → IdWords
-ids_after request ids state = ids_by request.command ids state
+ids_after request ids state =
+    ids_unless (first_unnamed (scene_in request state) request.line) ids (ids_by request.line.command request ids state)
 
 -- no identifier was drawn yet, or all were
+abbrev pub DrewNoneOr : (all old new : IdWords) → Type 0
+DrewNoneOr all old new = (new ≡ old) ⊎ (new ≡ all)
+
 abbrev pub MayHaveDrawn : Request → (old new : IdWords) → State → Type 0
-MayHaveDrawn request old new state = (new ≡ old) ⊎ (new ≡ ids_after request old state)
+MayHaveDrawn request old new state = DrewNoneOr (ids_after request old state) old new

@@ -1,5 +1,9 @@
 pub mod Request
+pub mod Spaced
+pub mod Stamps
+pub mod Worded
 pub mod Plan
+pub mod Effects
 pub mod Makes
 pub mod Looks
 pub mod Commands

@@ -4,6 +4,7 @@ use Rattle.tw_commands.specs.Plan.{Plan}
 use Rattle.tw_commands.specs.Plan.Work.{Changes}
 use Rattle.tw_commands.specs.Plan.Show.{Text}
 pub mod Count
+pub mod Names
 pub mod Export
 
 -- nothing is changed, and a text is printed

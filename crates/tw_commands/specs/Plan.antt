@@ -6,6 +6,7 @@ use Rattle.tw_model.specs.declared.changes.Change.{Change}
 use Rattle.tw_replica.specs.Body.{Step}
 use Rattle.tw_replica.specs.Body.Step.{Commit, Undo}
 use Rattle.tw_replica.specs.State.{State}
+use Rattle.tw_commands.specs.declared.plan.Deed.{Deed}
 use Rattle.tw_commands.specs.declared.plan.Plan as code
 use Rattle.tw_commands.specs.declared.plan.Work as code_work
 use Rattle.tw_commands.specs.declared.plan.Work.TheVariants as work
@@ -22,8 +23,12 @@ pub data Work : Type 0 where
 
 -- what is printed
 pub data Show : Type 0 where
+  -- on how many tasks it acted
+  Counted : Deed → ℕ → Show
   -- the number of a task that was added
   Created : List ℕ → Show
+  -- that a task was logged
+  Logged : Show
   -- how many operations were taken back
   TakenBack : Show
   -- this text
@@ -44,7 +49,9 @@ work_view (work.Changes renumber changes) = Changes renumber changes.items
 work_view work.TakeBack = TakeBack
 
 abbrev pub show_view : code_show.Show → Show
+show_view (show.Counted deed count) = Counted deed count
 show_view (show.Created uuid) = Created uuid
+show_view show.Logged = Logged
 show_view show.TakenBack = TakenBack
 show_view (show.Text text) = Text text.items
 

@@ -4,7 +4,9 @@ use Rattle.std.specs.Fmt.{decimal}
 use Rattle.tw_model.specs.Places.{Places, id_of}
 use Rattle.tw_replica.specs.State.{State}
 use Rattle.tw_commands.specs.Plan.{Show}
-use Rattle.tw_commands.specs.Plan.Show.{Created, TakenBack, Text}
+use Rattle.tw_commands.specs.Plan.Show.{Counted, Created, Logged, TakenBack, Text}
+use Rattle.tw_commands.specs.declared.plan.Deed.{Deed}
+use Rattle.tw_commands.specs.declared.plan.Deed.TheVariants.{Modified, Annotated, Denotated, Completed, Deleted, Purged, Started, Stopped, Duplicated}
 
 -- a number between two texts
 abbrev pub numbered : List ℕ → ℕ → List ℕ → List ℕ
@@ -18,6 +20,22 @@ or_zero (Some n) = n
 -- the number of a task, and 0 where it has no place
 abbrev pub number_of : List ℕ → Places → ℕ
 number_of u places = or_zero (id_of u places)
+
+-- the word for what was done
+abbrev pub deed_word : Deed → List ℕ
+deed_word Modified = codes "Modified "
+deed_word Annotated = codes "Annotated "
+deed_word Denotated = codes "Denotated "
+deed_word Completed = codes "Completed "
+deed_word Deleted = codes "Deleted "
+deed_word Purged = codes "Purged "
+deed_word Started = codes "Started "
+deed_word Stopped = codes "Stopped "
+deed_word Duplicated = codes "Duplicated "
+
+-- of tasks on which a command acted
+abbrev pub counted_text : Deed → ℕ → List ℕ
+counted_text deed n = numbered (deed_word deed) n (cond (n == 1) (codes " task.\n") (codes " tasks.\n"))
 
 -- of a task that was added
 abbrev pub created_text : List ℕ → Places → List ℕ
@@ -33,6 +51,8 @@ count_text n = numbered [] n (codes "\n")
 
 -- the text, once the step led from one state to another
 abbrev pub shown : Show → (old new : State) → List ℕ
+shown (Counted deed n) old new = counted_text deed n
 shown (Created u) old new = created_text u new.numbers
+shown Logged old new = codes "Logged task.\n"
 shown TakenBack old new = undone_text (length old.pending - (length new.pending + 1))
 shown (Text text) old new = text

@@ -1,25 +1,80 @@
 // What each command is to do.
 ghost use Rattle.std.specs.Prelude.{◌≡◌, IfOk, OnOk, OnErr};
 ghost use Rattle.tw_replica.specs.Replica.{held_state};
+ghost use Rattle.tw_filter.specs.Holds.{scene_of};
+ghost use Rattle.tw_words.specs.Unnamed.{first_unnamed};
 ghost use Rattle.tw_commands.specs.Plan.{planned};
+ghost use Rattle.tw_commands.specs.Request.{scene_in};
 ghost use Rattle.tw_commands.specs.Commands as spec;
 
 mod add;
+mod annotate;
 mod count;
+mod denotate;
+mod done;
+mod duplicate;
+mod editing;
 mod export;
+mod modify;
+mod names;
+mod purge;
+mod start;
+mod texts;
 mod undo;
 
-use crate::plan::Plan;
+use crate::plan::{Deed, Plan};
 use crate::refusal::Refusal;
-use crate::request::{Command, Request};
+use crate::request::{Request, view_of};
 use std::alloc::Global;
+use tw_filter::{BadWord, WordKind};
 use tw_replica::Replica;
+use tw_words::{Command, first_unnamed};
 use tw_world::{IdWords, Memory};
+
+// What a command is to do, whose words all name tasks.
+fn plan_by(
+    alloc: Global,
+    request: &Request<'_>,
+    ids: &mut IdWords,
+    replica: &Replica,
+) -> Result<Result<Plan, Refusal>, Memory>
+    ensures plan { IfOk result (λ plan. planned plan
+        ≡ spec.plan_by request.now.line.command request.now ids.old (held_state replica.now)) }
+    ensures ids { OnOk result (ids.new ≡ spec.ids_by request.now.line.command request.now ids.old (held_state replica.now)) }
+    ensures want { OnErr result
+        (spec.DrewNoneOr (spec.ids_by request.now.line.command request.now ids.old (held_state replica.now)) ids.old ids.new) }
+{
+    let deed = match request.line.command {
+        Command::Add => return add::adding(alloc, request, ids, replica),
+        Command::Log => return add::logging(alloc, request, ids, replica),
+        Command::Duplicate => return duplicate::copying(alloc, request, ids, replica),
+        Command::Undo => return Ok(Ok(undo::undoing())),
+        Command::Count => return Ok(Ok(count::counting(alloc, request, replica)?)),
+        Command::Ids => return Ok(Ok(names::numbering(alloc, request, replica)?)),
+        Command::Uuids => return Ok(Ok(names::naming(alloc, request, replica)?)),
+        Command::Export => return Ok(Ok(export::exporting(alloc, request, replica)?)),
+        Command::Modify | Command::Append | Command::Prepend => Deed::Modified,
+        Command::Annotate => Deed::Annotated,
+        Command::Denotate => Deed::Denotated,
+        Command::Done => Deed::Completed,
+        Command::Delete => Deed::Deleted,
+        Command::Purge => Deed::Purged,
+        Command::Start => Deed::Started,
+        Command::Stop => Deed::Stopped,
+        _ => {
+            return Ok(Err(Refusal::BadWords {
+                word: request.line.place,
+                kind: WordKind::Unbuilt,
+            }));
+        }
+    };
+    editing::editing(alloc, deed, request, replica)
+}
 
 /// What a request is to do with a replica, or why it does nothing.
 pub(crate) fn plan_of(
     alloc: Global,
-    request: &Request,
+    request: &Request<'_>,
     ids: &mut IdWords,
     replica: &Replica,
 ) -> Result<Result<Plan, Refusal>, Memory>
@@ -27,18 +82,8 @@ pub(crate) fn plan_of(
     ensures ids { OnOk result (ids.new ≡ spec.ids_after request.now ids.old (held_state replica.now)) }
     ensures want { OnErr result (spec.MayHaveDrawn request.now ids.old ids.new (held_state replica.now)) }
 {
-    match &request.command {
-        Command::Add { description } => {
-            add::adding(
-                alloc,
-                description.as_str(),
-                request.at,
-                ids,
-                replica.tasks(),
-            )
-        }
-        Command::Undo => Ok(Ok(undo::undoing())),
-        Command::Count => Ok(Ok(count::counting(alloc, replica.tasks())?)),
-        Command::Export => Ok(Ok(export::exporting(alloc, replica.tasks())?)),
+    if let Some(BadWord { word, kind }) = first_unnamed(&request.line, &view_of(request, replica)) {
+        return Ok(Err(Refusal::BadWords { word, kind }));
     }
+    plan_by(alloc, request, ids, replica)
 }

@@ -1,18 +1,21 @@
 //! The commands of `tw task` that stay on this machine: what each makes of a replica, in memory, and what it prints.
 //! A command is a total function of what was asked and of the replica's state, and no disk is in sight.
-//! It stands on `tw_replica` for the steps, on `tw_model` for tasks and their changes, and on `tw_export` for the JSON.
+//! It stands on `tw_replica` for the steps, on `tw_words` and `tw_filter` for what was asked, and on `tw_export` for the JSON.
 #![tactic(auto)]
 
 mod commands;
+mod effect;
 pub mod laws;
 mod plan;
 mod ready;
 mod refusal;
 mod request;
+mod spaced;
 #[cfg(test)]
 mod tests;
 mod texts;
+mod worded;
 
 pub use ready::{Ready, decide};
 pub use refusal::Refusal;
-pub use request::{Command, Request};
+pub use request::Request;

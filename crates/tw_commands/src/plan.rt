@@ -2,6 +2,20 @@
 use tw_model::Change;
 use uuid::Uuid;
 
+/// What was done to tasks.
+#[derive(Clone, Copy, Debug, PartialEq, Eq, Drop)]
+pub(crate) enum Deed {
+    Modified,
+    Annotated,
+    Denotated,
+    Completed,
+    Deleted,
+    Purged,
+    Started,
+    Stopped,
+    Duplicated,
+}
+
 /// The step of a command.
 #[derive(Drop)]
 pub(crate) enum Work {
@@ -17,8 +31,12 @@ pub(crate) enum Work {
 /// What is printed.
 #[derive(Drop)]
 pub(crate) enum Show {
+    /// On how many tasks it acted.
+    Counted { deed: Deed, count: u64 },
     /// The number of a task that was added.
     Created { uuid: Uuid },
+    /// That a task was logged.
+    Logged,
     /// How many operations were taken back.
     TakenBack,
     /// This text.

@@ -13,7 +13,7 @@ use crate::commands::plan_of;
 use crate::plan::{Plan, Show, Work};
 use crate::refusal::Refusal;
 use crate::request::Request;
-use crate::texts::{created_text, undone_text};
+use crate::texts::{counted_text, created_text, logged_text, undone_text};
 use std::alloc::Global;
 use tw_model::Change;
 use tw_replica::{Prepared, Replica, ReplicaError};
@@ -71,7 +71,9 @@ fn shown(alloc: Global, show: Show, pending: usize, prepared: &Prepared) -> Resu
         → text.items ≡ shown (show_view show) old (prepared_state prepared.now)) }
 {
     match show {
+        Show::Counted { deed, count } => counted_text(alloc, deed, count),
         Show::Created { uuid } => created_text(alloc, uuid, prepared.numbers()),
+        Show::Logged => logged_text(alloc),
         Show::TakenBack => {
             let left = prepared.pending().len() + 1;
             undone_text(alloc, pending.saturating_sub(left) as u64)
@@ -84,7 +86,7 @@ fn shown(alloc: Global, show: Show, pending: usize, prepared: &Prepared) -> Resu
 /// All the memory that it wants is taken here. What is refused is dropped with the replica.
 pub fn decide(
     alloc: Global,
-    request: &Request,
+    request: &Request<'_>,
     ids: &mut IdWords,
     replica: Replica,
 ) -> Result<Result<Ready, Refusal>, Memory>

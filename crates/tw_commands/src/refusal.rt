@@ -1,11 +1,16 @@
 // Why a command does nothing.
+use tw_filter::WordKind;
 use uuid::Uuid;
 
 /// Why a command does nothing, in a replica that is open.
 #[derive(Debug, PartialEq, Eq, Drop)]
 pub enum Refusal {
+    /// It needs a task, and acts on none of those that are selected.
+    NoMatch,
     /// Nothing is pending that an undo can take back.
     NothingToUndo,
+    /// The word with this number names no task, or is of a command that is not built.
+    BadWords { word: u64, kind: WordKind },
     /// This uuid was drawn for a task, and has one already.
     IdTaken { uuid: Uuid },
 }

@@ -1,28 +1,50 @@
 // What is asked for.
-ghost use Rattle.std.specs.Prelude.{◌≡◌};
-ghost use Rattle.tw_commands.specs.Request.{drawn, after_draw};
+ghost use Rattle.std.specs.Prelude.{◌≡◌, IfOk};
+ghost use Rattle.tw_replica.specs.Replica.{held_state};
+ghost use Rattle.tw_filter.specs.Holds.{scene_of};
+ghost use Rattle.tw_commands.specs.Request.{scene_in, selected_in, drawn, after_draw};
 
-use tw_world::{IdWords, Moment, Text};
+use std::alloc::Global;
+use tw_filter::{Filter, Looks, View, select};
+use tw_replica::Replica;
+use tw_time::Zone;
+use tw_words::{Line, Settings};
+use tw_world::{IdWords, Memory, Moment};
 use uuid::Uuid;
 
-/// A command, with what its words say.
+/// What is asked for: the line, the filter of its words, the settings with the line's overrides, and the moment and the zone at which all
+/// is read.
 #[derive(Drop)]
-pub enum Command {
-    /// Adds a pending task.
-    Add { description: Text },
-    /// Takes the last group of operations back.
-    Undo,
-    /// Counts the tasks.
-    Count,
-    /// Prints the tasks as JSON.
-    Export,
+pub struct Request<'a> {
+    pub line: Line,
+    pub filter: Filter,
+    pub settings: Settings,
+    pub at: Moment,
+    pub zone: &'a Zone,
 }
 
-/// What is asked for: a command, and the moment at which it is.
-#[derive(Drop)]
-pub struct Request {
-    pub command: Command,
-    pub at: Moment,
+/// What a request looks at.
+pub(crate) fn view_of<'a>(request: &'a Request<'_>, replica: &'a Replica) -> View<'a>
+    ensures { scene_of result ≡ scene_in request.now (held_state replica.now) }
+{
+    View {
+        tasks: replica.tasks(),
+        numbers: replica.numbers(),
+        now: request.at,
+        zone: request.zone,
+    }
+}
+
+/// The uuids of the tasks that its filter selects, in byte order.
+pub(crate) fn selected(
+    alloc: Global,
+    request: &Request<'_>,
+    replica: &Replica,
+) -> Result<Vec<Uuid>, Memory>
+    ensures { IfOk result (λ rows. rows.items ≡ selected_in request.now (held_state replica.now)) }
+{
+    let view = view_of(request, replica);
+    select(alloc, &request.filter, &view, &mut Looks::new())
 }
 
 /// Draws a uuid.

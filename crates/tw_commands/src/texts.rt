@@ -1,7 +1,8 @@
 // What commands print.
-ghost use Rattle.std.specs.Prelude.{◌≡◌, IfOk};
+ghost use Rattle.std.specs.Prelude.{◌≡◌, IfOk, codes};
 ghost use Rattle.tw_commands.specs.Texts as spec;
 
+use crate::plan::Deed;
 use std::alloc::Global;
 use tw_model::id_of;
 use tw_world::Memory;
@@ -23,6 +24,40 @@ fn number_of(uuid: Uuid, places: &Vec<Option<Uuid>>) -> u64
         Some(id) => id,
         None => 0,
     }
+}
+
+fn deed_word(deed: Deed) -> &'static str
+    ensures { result.now ≡ spec.deed_word deed }
+{
+    match deed {
+        Deed::Modified => "Modified ",
+        Deed::Annotated => "Annotated ",
+        Deed::Denotated => "Denotated ",
+        Deed::Completed => "Completed ",
+        Deed::Deleted => "Deleted ",
+        Deed::Purged => "Purged ",
+        Deed::Started => "Started ",
+        Deed::Stopped => "Stopped ",
+        Deed::Duplicated => "Duplicated ",
+    }
+}
+
+/// On how many tasks a command acted.
+pub(crate) fn counted_text(alloc: Global, deed: Deed, count: u64) -> Result<Vec<u8>, Memory>
+    ensures { IfOk result (λ text. text.items ≡ spec.counted_text deed count) }
+{
+    if count == 1 {
+        numbered(alloc, deed_word(deed), count, " task.\n")
+    } else {
+        numbered(alloc, deed_word(deed), count, " tasks.\n")
+    }
+}
+
+/// That a task was logged.
+pub(crate) fn logged_text(alloc: Global) -> Result<Vec<u8>, Memory>
+    ensures { IfOk result (λ text. text.items ≡ codes "Logged task.\n") }
+{
+    Ok(String::from_str(alloc, "Logged task.\n")?.into_bytes())
 }
 
 /// The number of a task that was added.

@@ -215,8 +215,6 @@ impl Command {
     {
         match self {
             Command::Import
-            | Command::Ids
-            | Command::Uuids
             | Command::Information
             | Command::Projects
             | Command::Tags

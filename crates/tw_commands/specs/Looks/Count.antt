@@ -1,10 +1,12 @@
--- `count`: how many tasks there are.
-use Rattle.std.specs.FinMap.{len}
-use Rattle.tw_model.specs.Ops.{TasksValue}
+-- `count`: how many tasks are selected.
+use Rattle.std.specs.Prelude.{length}
+use Rattle.tw_replica.specs.State.{State}
+use Rattle.tw_commands.specs.Request.{selected_in}
 use Rattle.tw_commands.specs.Plan.{Plan}
 use Rattle.tw_commands.specs.Looks.{looking}
 use Rattle.tw_commands.specs.Texts.{count_text}
+use Rattle.tw_commands.specs.declared.request.Request.{Request}
 
 -- what `count` is to do
-abbrev pub counting : TasksValue → Plan
-counting tasks = looking (count_text (len tasks))
+abbrev pub counting : Request → State → Plan
+counting request state = looking (count_text (length (selected_in request state)))

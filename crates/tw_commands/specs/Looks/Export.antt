@@ -1,10 +1,11 @@
 -- `export`: the tasks as JSON.
-use Rattle.std.specs.FinMap.{keys}
-use Rattle.tw_model.specs.Ops.{TasksValue}
+use Rattle.tw_replica.specs.State.{State}
 use Rattle.tw_export.specs.Export.{export_text}
+use Rattle.tw_commands.specs.Request.{selected_in}
 use Rattle.tw_commands.specs.Plan.{Plan}
 use Rattle.tw_commands.specs.Looks.{looking}
+use Rattle.tw_commands.specs.declared.request.Request.{Request}
 
 -- what `export` is to do
-abbrev pub exporting : TasksValue → Plan
-exporting tasks = looking (export_text (keys tasks) tasks)
+abbrev pub exporting : Request → State → Plan
+exporting request state = looking (export_text (selected_in request state) state.tasks)

@@ -1,19 +1,34 @@
--- `add`: a pending task of a drawn uuid.
-use Rattle.std.specs.Prelude.{ℕ, List, Result, codes}
+-- `add` and `log`: a task of a drawn uuid.
+use Rattle.std.specs.Prelude.{Result, codes}
 use Rattle.std.specs.Fmt.{decimal}
 use Rattle.std.specs.FinMap.{get, insert, empty}
 use Rattle.tw_world.specs.declared.Moment.{Moment}
 use Rattle.tw_world.specs.declared.ids.IdWords.{IdWords}
-use Rattle.tw_model.specs.Ops.{TaskValue, TasksValue}
-use Rattle.tw_commands.specs.Request.{drawn}
+use Rattle.tw_model.specs.Ops.{TaskValue}
+use Rattle.tw_replica.specs.State.{State}
+use Rattle.tw_filter.specs.Holds.{Scene}
+use Rattle.tw_words.specs.Lines.{Parts}
+use Rattle.tw_commands.specs.Request.{drawn, scene_in}
+use Rattle.tw_commands.specs.Worded.{worded}
 use Rattle.tw_commands.specs.Plan.{Plan}
-use Rattle.tw_commands.specs.Makes.{making}
+use Rattle.tw_commands.specs.Plan.Show.{Created, Logged}
+use Rattle.tw_commands.specs.Makes.{made_task, making}
+use Rattle.tw_commands.specs.declared.request.Request.{Request}
 use Rattle.tw_commands.specs.declared.refusal.Refusal.{Refusal}
 
--- a pending task with a description, made at a moment
-abbrev pub new_task : (description : List ℕ) → Moment → TaskValue
-new_task description now = insert (insert (insert (insert empty (codes "description") description) (codes "entry") (decimal now.seconds)) (codes "modified") (decimal now.seconds)) (codes "status") (codes "pending")
+-- the task that `add` makes: a pending one
+abbrev pub added : Scene → Parts → Moment → TaskValue
+added scene line now = worded scene line (made_task now (codes "pending") empty)
 
--- what `add` is to do
-abbrev pub adding : (description : List ℕ) → Moment → IdWords → TasksValue → Result Plan Refusal
-adding description now ids tasks = making (drawn ids) (new_task description now) (get tasks (drawn ids))
+-- the task that `log` makes: a completed one
+abbrev pub logged : Scene → Parts → Moment → TaskValue
+logged scene line now = worded scene line (insert (made_task now (codes "completed") empty) (codes "end") (decimal now.seconds))
+
+-- what they are to do
+abbrev pub adding : Request → IdWords → State → Result Plan Refusal
+adding request ids state =
+    making (Created (drawn ids)) (drawn ids) (added (scene_in request state) request.line request.at) (get state.tasks (drawn ids))
+
+abbrev pub logging : Request → IdWords → State → Result Plan Refusal
+logging request ids state =
+    making Logged (drawn ids) (logged (scene_in request state) request.line request.at) (get state.tasks (drawn ids))

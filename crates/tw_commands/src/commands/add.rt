@@ -1,53 +1,70 @@
-// `add`: a pending task of a drawn uuid.
-ghost use Rattle.std.specs.Prelude.{◌≡◌, IfOk, OnOk, string_bytes};
-ghost use Rattle.std.specs.Fmt.{decimal};
+// `add` and `log`: a task of a drawn uuid.
+ghost use Rattle.std.specs.Prelude.{◌≡◌, IfOk};
 ghost use Rattle.std.specs.FinMap as map;
+ghost use Rattle.tw_replica.specs.Replica.{held_state};
+ghost use Rattle.tw_filter.specs.Holds.{scene_of};
 ghost use Rattle.tw_commands.specs.Request.{after_draw};
-ghost use Rattle.tw_commands.specs.Plan.{planned};
-ghost use Rattle.tw_commands.specs.Makes as makes;
+ghost use Rattle.tw_commands.specs.Plan.{planned, show_view};
+ghost use Rattle.tw_commands.specs.Makes.{made_task, making};
 ghost use Rattle.tw_commands.specs.Makes.Add as spec;
 
+use crate::effect::second_text;
 use crate::plan::{Plan, Show, Work};
 use crate::refusal::Refusal;
-use crate::request::draw;
+use crate::request::{Request, draw, view_of};
+use crate::worded::worded;
 use std::alloc::Global;
+use tw_filter::View;
 use tw_model::{Change, TaskMap, Tasks};
+use tw_replica::Replica;
+use tw_words::Line;
 use tw_world::{IdWords, Memory, Moment};
 use uuid::Uuid;
 
-fn second_text(alloc: Global, now: Moment) -> Result<String, Memory>
-    ensures { IfOk result (λ text. string_bytes text ≡ decimal now.seconds) }
-{
-    Ok(format!(in alloc; "{}", now.seconds)?)
-}
-
-fn put(alloc: Global, task: &mut TaskMap, property: &str, value: &str) -> Result<(), Memory>
-    ensures { OnOk result (task.new ≡ map.insert task.old property.now value.now) }
-{
-    task.set(alloc, property, Some(value))
-}
-
-// A pending task with this description.
-fn new_task(alloc: Global, description: &str, now: Moment) -> Result<TaskMap, Memory>
-    ensures { IfOk result (λ task. task ≡ spec.new_task description.now now) }
+/// A task with a status, made at this moment of another.
+pub(crate) fn made_task(
+    alloc: Global,
+    now: Moment,
+    status: &str,
+    task: TaskMap,
+) -> Result<TaskMap, Memory>
+    ensures { IfOk result (λ made. made ≡ made_task now status.now task) }
 {
     let second = second_text(alloc, now)?;
-    let mut task = TaskMap::new(alloc);
-    put(alloc, &mut task, "description", description)?;
-    put(alloc, &mut task, "entry", second.as_str())?;
-    put(alloc, &mut task, "modified", second.as_str())?;
-    put(alloc, &mut task, "status", "pending")?;
+    let mut task = task;
+    task.set(alloc, "entry", Some(second.as_str()))?;
+    task.set(alloc, "modified", Some(second.as_str()))?;
+    task.set(alloc, "status", Some(status))?;
     Ok(task)
 }
 
-// What a command is to do that makes this task, and prints its number.
+// The task that `add` makes.
+fn added(alloc: Global, line: &Line, view: &View<'_>, now: Moment) -> Result<TaskMap, Memory>
+    ensures { IfOk result (λ task. task ≡ spec.added (scene_of view.entry.now) line.now now) }
+{
+    let task = made_task(alloc, now, "pending", TaskMap::new(alloc))?;
+    worded(alloc, line, view, &task)
+}
+
+// The task that `log` makes.
+fn logged(alloc: Global, line: &Line, view: &View<'_>, now: Moment) -> Result<TaskMap, Memory>
+    ensures { IfOk result (λ task. task ≡ spec.logged (scene_of view.entry.now) line.now now) }
+{
+    let second = second_text(alloc, now)?;
+    let mut task = made_task(alloc, now, "completed", TaskMap::new(alloc))?;
+    task.set(alloc, "end", Some(second.as_str()))?;
+    worded(alloc, line, view, &task)
+}
+
+// What a command is to do that makes this task.
 fn making(
     alloc: Global,
+    show: Show,
     uuid: Uuid,
     task: TaskMap,
     tasks: &Tasks,
 ) -> Result<Result<Plan, Refusal>, Memory>
-    ensures { IfOk result (λ plan. planned plan ≡ makes.making uuid task (map.get tasks.now uuid)) }
+    ensures { IfOk result (λ plan. planned plan ≡ making (show_view show) uuid task (map.get tasks.now uuid)) }
 {
     if tasks.get(uuid).is_some() {
         return Ok(Err(Refusal::IdTaken { uuid }));
@@ -62,22 +79,38 @@ fn making(
             renumber: false,
             changes,
         },
-        show: Show::Created { uuid },
+        show,
     }))
 }
 
 /// What `add` is to do (task(1), "add"). It draws the uuid of the task.
 pub(crate) fn adding(
     alloc: Global,
-    description: &str,
-    now: Moment,
+    request: &Request<'_>,
     ids: &mut IdWords,
-    tasks: &Tasks,
+    replica: &Replica,
 ) -> Result<Result<Plan, Refusal>, Memory>
-    ensures plan { IfOk result (λ plan. planned plan ≡ spec.adding description.now now ids.old tasks.now) }
+    ensures plan { IfOk result (λ plan. planned plan ≡ spec.adding request.now ids.old (held_state replica.now)) }
     ensures ids { ids.new ≡ after_draw ids.old }
 {
     let uuid = draw(ids);
-    let task = new_task(alloc, description, now)?;
-    making(alloc, uuid, task, tasks)
+    let view = view_of(request, replica);
+    let task = added(alloc, &request.line, &view, request.at)?;
+    making(alloc, Show::Created { uuid }, uuid, task, replica.tasks())
+}
+
+/// What `log` is to do (task(1), "log"). It draws the uuid of the task.
+pub(crate) fn logging(
+    alloc: Global,
+    request: &Request<'_>,
+    ids: &mut IdWords,
+    replica: &Replica,
+) -> Result<Result<Plan, Refusal>, Memory>
+    ensures plan { IfOk result (λ plan. planned plan ≡ spec.logging request.now ids.old (held_state replica.now)) }
+    ensures ids { ids.new ≡ after_draw ids.old }
+{
+    let uuid = draw(ids);
+    let view = view_of(request, replica);
+    let task = logged(alloc, &request.line, &view, request.at)?;
+    making(alloc, Show::Logged, uuid, task, replica.tasks())
 }

@@ -1,0 +1,6 @@
+use Rattle.std.proofs.Common.{◌∙◌, string_bytes, codes}
+use Rattle.tw_commands.proofs.Joining.{join_by-map}
+use Rattle.tw_commands.proofs.spaced.spaced.Goals as goal
+
+pub returns : goal.returns
+returns c = c.in_ok-join.ensures.ok ∙ join_by-map string_bytes (codes " ") c.args.words.now

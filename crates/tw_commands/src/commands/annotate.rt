@@ -1,0 +1,38 @@
+// `annotate`: a text at the moment, or the next free second.
+ghost use Rattle.std.specs.Prelude.{◌≡◌, ◌≤◌, ◌+◌, ◌<◌, ◌^◌, suc, IfOk, string_bytes};
+ghost use Rattle.std.specs.FinMap as map;
+ghost use Rattle.tw_commands.specs.Effects.Annotate as spec;
+
+use crate::effect::Effect;
+use std::alloc::Global;
+use tw_model::TaskMap;
+use tw_world::{Memory, Moment};
+
+/// The property of an annotation of this second.
+pub(crate) fn annotation_at(alloc: Global, second: u128) -> Result<String, Memory>
+    ensures { IfOk result (λ name. string_bytes name ≡ spec.annotation_at second) }
+{
+    Ok(format!(in alloc; "annotation_{}", second)?)
+}
+
+/// What `annotate` makes of a task (task(1), "annotate").
+pub(crate) fn annotate(
+    alloc: Global,
+    now: Moment,
+    text: &str,
+    task: &TaskMap,
+) -> Result<Effect, Memory>
+    ensures { IfOk result (λ effect. effect ≡ spec.annotate now text.now task.now) }
+{
+    let mut more = task.len();
+    let mut second = now.seconds as u128;
+    let mut name = annotation_at(alloc, second)?;
+    while more > 0 && task.get(name.as_str()).is_some() {
+        more -= 1;
+        second += 1;
+        name = annotation_at(alloc, second)?;
+    }
+    let mut after = task.copy(alloc)?;
+    after.set(alloc, name.as_str(), Some(text))?;
+    Ok(Effect::Becomes(after))
+}

@@ -1,0 +1,27 @@
+// What modification words make of a task.
+ghost use Rattle.std.specs.Prelude.{◌≡◌, IfOk};
+ghost use Rattle.tw_filter.specs.Holds.{scene_of};
+ghost use Rattle.tw_commands.specs.Worded.{worded};
+
+use std::alloc::Global;
+use tw_filter::View;
+use tw_model::TaskMap;
+use tw_words::{Line, WordError, changed};
+use tw_world::Memory;
+
+/// What the modification words of a line make of a task. Where one were wrong, which none is of a line that was judged and
+/// whose words name tasks, the task would be as it was.
+pub(crate) fn worded(
+    alloc: Global,
+    line: &Line,
+    view: &View<'_>,
+    task: &TaskMap,
+) -> Result<TaskMap, Memory>
+    ensures { IfOk result (λ made. made ≡ worded (scene_of view.entry.now) line.now task.now) }
+{
+    match changed(alloc, line, task, view) {
+        Ok(made) => Ok(made),
+        Err(WordError::Memory) => Err(Memory),
+        Err(WordError::Bad(_)) | Err(WordError::Setting { .. }) => task.copy(alloc),
+    }
+}
