@@ -20,3 +20,4 @@ pub mod MonthNames
 pub mod OneLine
 pub mod FilesHold
 pub mod Back
+pub mod Written
