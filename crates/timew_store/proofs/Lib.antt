@@ -21,3 +21,8 @@ pub mod OneLine
 pub mod FilesHold
 pub mod Back
 pub mod Written
+pub mod Seating
+pub mod Late
+pub mod FirstSpot
+pub mod AsTheyStand
+pub mod GatheredLines
