@@ -14,7 +14,7 @@ use Rattle.timew_store.specs.Held.{bytes_of, with_new, replaced, finished_file, 
 pub bytes_exact : IsAntisymmetric bytes_cmp
 bytes_exact = slice_cmp-IsAntisymmetric nat_cmp-IsAntisymmetric
 
-tied : (r : Ordering) → is_eq r ≡ true → r ≡ Equal
+pub tied : (r : Ordering) → is_eq r ≡ true → r ≡ Equal
 tied Less e = cc
 tied Equal e = refl
 tied Greater e = cc

@@ -20,3 +20,9 @@ pub mod MonthNames
 pub mod OneLine
 pub mod FilesHold
 pub mod Back
+pub mod Written
+pub mod Seating
+pub mod Late
+pub mod FirstSpot
+pub mod AsTheyStand
+pub mod GatheredLines

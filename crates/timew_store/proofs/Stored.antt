@@ -113,7 +113,7 @@ any_all q names (r ∷ rows) = any_all q (add_name (month_name r.start) names) r
     turned false b c = refl
 
 -- a name with its test
-any_filter : (q : List ℕ) (names : List (List ℕ)) → list_any (same_bytes q) (filter is_month_name names) ≡ (is_month_name q && list_any (same_bytes q) names)
+pub any_filter : (q : List ℕ) (names : List (List ℕ)) → list_any (same_bytes q) (filter is_month_name names) ≡ (is_month_name q && list_any (same_bytes q) names)
 any_filter q [] = sym (and_false (is_month_name q))
   where
     and_false : (b : Bool) → (b && false) ≡ false
@@ -133,7 +133,7 @@ any_filter q (n ∷ names) = by_case (is_month_name n) (same_bytes q n) refl ref
     by_case false false im is rest = rest
 
 -- a file is there where its name is among the names
-any_keys : (files : Files) (q : List ℕ) → is_some (get files q) ≡ list_any (same_bytes q) (keys files)
+pub any_keys : (files : Files) (q : List ℕ) → is_some (get files q) ≡ list_any (same_bytes q) (keys files)
 any_keys files q = contains_key-keys files q ∙ tests (keys files)
   where
     tests : (names : List (List ℕ)) → list_any (eq_by_cmp bytes_cmp q) names ≡ list_any (same_bytes q) names

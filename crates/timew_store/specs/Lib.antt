@@ -5,6 +5,7 @@ pub mod Placing
 pub mod Line
 pub mod Month
 pub mod Rows
+pub mod Gathered
 pub mod Months
 pub mod Undoing
 pub mod Loading

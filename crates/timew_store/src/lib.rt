@@ -5,6 +5,8 @@
 
 mod body;
 mod fields;
+mod files;
+mod gathering;
 mod interval;
 mod intervals;
 pub mod laws;
@@ -13,7 +15,9 @@ mod load;
 mod month;
 mod months;
 mod name;
+mod order;
 mod record;
+mod rows;
 mod tail;
 mod write;
 mod writing;

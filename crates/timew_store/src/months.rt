@@ -1,6 +1,7 @@
 // The month files of intervals.
-ghost use Rattle.std.specs.Prelude.{◌≡◌, ◌<◌, ◌≤◌, ◌≤ℤ◌, ◌++◌, pos, unsigned_abs, IfSome, IfOk, OnOk};
+ghost use Rattle.std.specs.Prelude.{◌≡◌, ◌<◌, ◌≤◌, ◌≤ℤ◌, ◌++◌, pos, true, unsigned_abs, IfSome, IfOk, OnOk};
 ghost use Rattle.tw_time.specs.Forms.{digit_at};
+ghost use Rattle.timew_store.specs.Body.{is_month_name};
 ghost use Rattle.timew_store.specs.Interval.{AreRows};
 ghost use Rattle.timew_store.specs.Months.{month_name, month_text, name_of, row_text};
 
@@ -11,10 +12,11 @@ use std::alloc::Global;
 use tw_time::print_basic;
 use tw_world::Memory;
 
-// The name of the month file for a second.
-fn month_name(at: u64) -> [u8; 12]
+/// The name of the month file for a second.
+pub(crate) fn month_name(at: u64) -> [u8; 12]
     requires { at < 253_370_764_800 }
-    ensures { result ≡ month_name at }
+    ensures name { result ≡ month_name at }
+    ensures good { is_month_name (month_name at) ≡ true }
 {
     let text = print_basic(at);
     [

@@ -1,9 +1,12 @@
 use crate::body::read_record;
 use crate::fields::ReadError;
+use crate::files::MonthFile;
 use crate::load::open_and_finish;
 use crate::record::{change_body, undo_body};
+use crate::rows::{RowsError, read_rows};
 use crate::write::{StoreError, write_change};
 use crate::{Intervals, MonthError, Texts, read_month, write_month};
+use std::alloc::Global;
 use std::test::Fail;
 use tw_world::{Folder, MemoryDisk, MemoryFolder, Text};
 
@@ -166,5 +169,77 @@ fn a_change_that_was_cut_off_is_finished(rt: HostRuntime) -> Result<(), Fail> {
         .ok_or("no folder")?
         .ok_or("no file")?;
     assert_eq!(rt; file.as_slice(), b"x".as_slice());
+    Ok(())
+}
+
+// What reading two files gives: the starts of their intervals in order, or the file and the line of the first bad line.
+fn told(alloc: Global, january: &str, february: &str) -> Result<String, Fail> {
+    let mut files = Vec::new(alloc);
+    for (name, text) in [("2026-01.data", january), ("2026-02.data", february)] {
+        let name = Text::from_str(alloc, name)?;
+        let bytes = text.as_bytes().to_vec(alloc)?;
+        files.push(MonthFile { name, bytes })?;
+    }
+    let mut told = String::new(alloc);
+    match read_rows(alloc, &files) {
+        Ok(rows) => {
+            for row in rows.as_slice() {
+                let start = row.start - 1_767_603_600;
+                told.push_str(format!(in alloc; "{start} ")?.as_str())?;
+            }
+        }
+        Err(RowsError::BadLine { file, line }) => {
+            told.push_str(file.as_str())?;
+            told.push_str(format!(in alloc; " {line}")?.as_str())?;
+        }
+        Err(RowsError::Memory) => return Err(Fail::from("no memory")),
+    }
+    Ok(told)
+}
+
+// The first moment is 2026-01-05T09:00:00Z.
+#[test]
+fn files_are_read_in_any_order(rt: HostRuntime) -> Result<(), Fail> {
+    let alloc = rt.alloc();
+    let table = [
+        ("", "", ""),
+        (
+            "inc 20260105T090000Z - 20260105T090005Z\ninc 20260105T090005Z",
+            "",
+            "0 5 ",
+        ),
+        (
+            "inc 20260105T090005Z - 20260105T090009Z\n\ninc 20260105T090000Z - 20260105T090005Z\n",
+            "inc 20260105T090002Z - 20260105T090002Z",
+            "2026-02.data 1",
+        ),
+        (
+            "inc 20260105T090005Z - 20260105T090009Z",
+            "inc 20260105T090000Z - 20260105T090005Z\ninc 20260105T090005Z - 20260105T090005Z",
+            "0 5 5 ",
+        ),
+        (
+            "inc 20260105T090002Z - 20260105T090009Z\ninc 20260105T090000Z - 20260105T090005Z\nnothing",
+            "",
+            "2026-01.data 1",
+        ),
+        (
+            "inc 20260105T090000Z\ninc 20260105T090001Z - 20260105T090002Z",
+            "nothing",
+            "2026-01.data 2",
+        ),
+        (
+            "nothing\ninc 20260105T090000Z",
+            "inc 20260105T090000Z",
+            "2026-01.data 1",
+        ),
+    ];
+    for (january, february, want) in table {
+        assert_eq!(rt;
+            told(alloc, january, february)?.as_str(),
+            want,
+            "{january} and {february}"
+        );
+    }
     Ok(())
 }

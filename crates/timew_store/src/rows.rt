@@ -1,0 +1,146 @@
+// The intervals that month files hold.
+ghost use Rattle.std.specs.Prelude.{◌≡◌, [], ◌∷◌, List, fold, map, option_map, IfOk, IfErr, IfSome, Ok, None, Some};
+ghost use Rattle.timew_store.specs.Gathered.{RowsRefused, files_of, lines_in, spot_place, seat_of, seats_of, AreSorted, AreSeats, IsGathered, lesser, is_place, first_spot};
+ghost use Rattle.timew_store.specs.Rows.{judged, late_from, rows_in};
+
+use crate::files::MonthFile;
+use crate::gathering::{Gathered, Seat, Spot, gather};
+use crate::interval::Interval;
+use crate::intervals::Intervals;
+use crate::month::{MonthError, read_month};
+use crate::order::{goes_past, later_end};
+use std::alloc::Global;
+use tw_world::{Memory, Text};
+
+/// Why month files hold no intervals in order.
+#[derive(Drop)]
+pub(crate) enum RowsError {
+    /// The line with this number, from 1, of this file is the first bad one.
+    BadLine { file: Text, line: u64 },
+    /// There was no memory.
+    Memory,
+}
+
+impl From<Memory> for RowsError {
+    ghost use Rattle.std.specs.Prelude.{◌≡◌};
+    ghost use Rattle.timew_store.specs.declared.rows.RowsError.TheVariants.{Memory as NoMemory};
+
+    ghost from_gives = { λ _ e. e ≡ NoMemory };
+
+    fn from(_: Memory) -> RowsError {
+        RowsError::Memory
+    }
+}
+
+// The intervals, where each line is one and they stand in order. It is so in files that no hand has changed.
+fn rows_as_they_stand(alloc: Global, files: &Vec<MonthFile>) -> Result<Option<Intervals>, Memory>
+    ensures { IfOk result (λ rows. IfSome rows (λ rows. judged (lines_in (files_of files.now.items)) ≡ Ok rows)) }
+{
+    let mut all = Vec::new(alloc);
+    for file in files {
+        match read_month(alloc, &file.bytes) {
+            Ok(rows) => {
+                let mut rows = rows;
+                all.append(&mut rows)?;
+            }
+            Err(MonthError::Memory) => return Err(Memory),
+            Err(MonthError::Line { line: _ }) => return Ok(None),
+        }
+    }
+    Ok(Intervals::in_order(all))
+}
+
+fn lesser(least: Option<usize>, place: usize) -> Option<usize>
+    ensures { result ≡ lesser least place }
+{
+    match least {
+        Some(least) if least <= place => Some(least),
+        _ => Some(place),
+    }
+}
+
+// The first line whose interval overlaps one that stands before it in order: one that starts before the latest end so far.
+fn first_late(seats: &Vec<Seat>) -> Option<usize>
+    requires sorted { AreSorted (seats_of seats.now.items) }
+    requires are { AreSeats (seats_of seats.now.items) }
+    ensures { result ≡ fold lesser None (late_from [] (seats_of seats.now.items)) }
+{
+    let mut end = Some(0);
+    let mut least = None;
+    for seat in seats {
+        if goes_past(end, seat.row.start) {
+            least = lesser(least, seat.place);
+        }
+        end = later_end(end, seat.row.end);
+    }
+    least
+}
+
+fn is_place(late: Option<usize>, at: usize) -> bool
+    ensures { result ≡ is_place late at }
+{
+    match late {
+        Some(place) => place == at,
+        None => false,
+    }
+}
+
+// The first line that is no interval, or stands at this place.
+fn first_spot(spots: &Vec<Spot>, late: Option<usize>) -> Option<&Spot>
+    ensures { option_map (λ spot. (spot.now.file, spot.now.line)) result ≡ first_spot 0 late (map spot_place spots.now.items) }
+{
+    for at in 0..spots.len() {
+        let spot = &spots[at];
+        if !spot.is_row || is_place(late, at) {
+            return Some(spot);
+        }
+    }
+    None
+}
+
+// The first line that is no interval, or overlaps one that stands before it in order.
+fn first_bad(gathered: &Gathered) -> Option<&Spot>
+    requires sorted { AreSorted (seats_of gathered.now.seats.items) }
+    requires are { AreSeats (seats_of gathered.now.seats.items) }
+    ensures { option_map (λ spot. (spot.now.file, spot.now.line)) result ≡ first_spot 0 (fold lesser None (late_from [] (seats_of gathered.now.seats.items))) (map spot_place gathered.now.spots.items) }
+{
+    let late = first_late(&gathered.seats);
+    first_spot(&gathered.spots, late)
+}
+
+fn rows_in_seats(alloc: Global, gathered: Gathered) -> Result<Vec<Interval>, Memory>
+    ensures { IfOk result (λ rows. rows.items ≡ rows_in (seats_of gathered.seats.items)) }
+{
+    let Gathered { spots: _, seats } = gathered;
+    let mut rows = Vec::with_capacity(alloc, seats.len())?;
+    for seat in seats {
+        rows.push(seat.row)?;
+    }
+    Ok(rows)
+}
+
+// The intervals in order, or the first line that is none or overlaps one that stands before it.
+fn rows_in_order(alloc: Global, files: &Vec<MonthFile>) -> Result<Intervals, RowsError>
+    ensures ok { IfOk result (λ rows. judged (lines_in (files_of files.now.items)) ≡ Ok rows) }
+    ensures err { IfErr result (λ e. RowsRefused e (judged (lines_in (files_of files.now.items)))) }
+{
+    let gathered = gather(alloc, files)?;
+    if let Some(spot) = first_bad(&gathered) {
+        return Err(RowsError::BadLine {
+            file: spot.file.copy(alloc)?,
+            line: spot.line,
+        });
+    }
+    Ok(Intervals::from_rows(rows_in_seats(alloc, gathered)?))
+}
+
+/// The intervals of month files in order, or the first bad line: one that is no interval, or overlaps one that stands before it.
+pub(crate) fn read_rows(alloc: Global, files: &Vec<MonthFile>) -> Result<Intervals, RowsError>
+    ensures ok { IfOk result (λ rows. judged (lines_in (files_of files.now.items)) ≡ Ok rows) }
+    ensures err { IfErr result (λ e. RowsRefused e (judged (lines_in (files_of files.now.items)))) }
+{
+    match rows_as_they_stand(alloc, files)? {
+        Some(rows) => Ok(rows),
+        None => rows_in_order(alloc, files),
+    }
+}
