@@ -19,6 +19,10 @@ use Rattle.tw_sync.specs.Progress.{HeardSoFar, IsUpToDate, IsAtEnd, HasPulled, H
 use Rattle.tw_sync.specs.Sending.{IsUnsent}
 use Rattle.tw_sync.specs.declared.ask.AddAnswer.TheVariants.{Added}
 use Rattle.tw_sync.specs.declared.place.Place.{Place}
+use Rattle.tw_sync.specs.Causes.{of_ask, of_send}
+use Rattle.tw_sync.specs.declared.error.AskError.{AskError}
+use Rattle.tw_sync.specs.declared.error.SendError.{SendError}
+use Rattle.tw_sync.specs.declared.error.SendError.TheVariants as sending
 use Rattle.tw_sync.specs.declared.error.SyncError.{SyncError}
 use Rattle.tw_sync.specs.declared.error.SyncError.TheVariants as errors
 use Rattle.tw_sync.proofs.Standing.{cut_grows, pulled_grows}
@@ -152,7 +156,7 @@ added m client host state first a b p q id segment sent s asked grows one some t
 -- ---- a refusal
 
 -- what is left is not sent
-pub unsent : {L : Type 0} (m : LinkModel L) (client host : List ℕ) (state : State) (first now : L) (p : Place) (e : SyncError) → HasPulled m client host state first now p → IsUnsent p.left.items e → IsStopped m client host state first now e
+pub unsent : {L : Type 0} (m : LinkModel L) (client host : List ℕ) (state : State) (first now : L) (p : Place) (e : SendError) → HasPulled m client host state first now p → IsUnsent p.left.items e → IsStopped m client host state first now (of_send e)
 unsent m client host state first now p e s not = by e not
   where
     stop : (x : SyncError) → IsCause m first now x → ((hs : List Heard) → GoesOnFrom hs → HeardRefused client hs x) → (IsHonest m first client → HonestRefused state (told m first) (told m now) x) → IsStopped m client host state first now x
@@ -173,25 +177,17 @@ unsent m client host state first now p e s not = by e not
       come = λ honest. (let c = s.come honest in record { whole = c.on.whole; grows = c.on.grows; refused = says honest; added = inl c.mine; added_only = inr c.mine });
     }
 
-    by : (x : SyncError) → IsUnsent p.left.items x → IsStopped m client host state first now x
-    by (errors.SegmentTooLong bytes) n = stop (errors.SegmentTooLong bytes) n.1 (λ hs g. record { cause = tt; until = g }) (λ honest. (let t = (s.come honest).stands in record { h = p.at; versions = t.versions; ops = p.remote.items; left = p.left.items; pulled = t.pulled; len = n.0 }))
-    by errors.Memory n = stop errors.Memory tt (λ hs g. record { cause = tt; until = g }) (λ honest. tt)
-    by (errors.Journal x) n = absurd n
-    by errors.Link n = absurd n
-    by (errors.Reply kind) n = absurd n
-    by (errors.Gone base) n = absurd n
-    by (errors.Busy parent) n = absurd n
-    by (errors.OutOfSync base parent) n = absurd n
-    by (errors.Segment v) n = absurd n
-    by (errors.PullTooLong bytes) n = absurd n
+    by : (x : SendError) → IsUnsent p.left.items x → IsStopped m client host state first now (of_send x)
+    by (sending.TooLong bytes) n = stop (errors.SegmentTooLong bytes) n.1 (λ hs g. record { cause = tt; until = g }) (λ honest. (let t = (s.come honest).stands in record { h = p.at; versions = t.versions; ops = p.remote.items; left = p.left.items; pulled = t.pulled; len = n.0 }))
+    by sending.Memory n = stop errors.Memory tt (λ hs g. record { cause = tt; until = g }) (λ honest. tt)
 
-may_add : (e : SyncError) → NoReply e → MayAdd e
-may_add e (inl is) = subst MayAdd (sym is) tt
-may_add e (inr is) = subst MayAdd (sym is) tt
+may_add : (e : AskError) → NoReply e → MayAdd (of_ask e)
+may_add e (inl is) = subst (λ x. MayAdd (of_ask x)) (sym is) tt
+may_add e (inr is) = subst (λ x. MayAdd (of_ask x)) (sym is) tt
 
 -- the question was refused
-pub unadded : {L : Type 0} (m : LinkModel L) (client host : List ℕ) (state : State) (first a b : L) (p : Place) (segment : List ℕ) (e : SyncError) → HasPulled m client host state first a p → IsUnasked m client host a b e → (IsHonest m a client → GrowsOn m a b client)
-    → (IsHonest m a client → AddRefused m a b p.at segment e) → ¬ (p.left.items ≡ []) → segment ≡ segment_text p.left.items → IsSegment segment p.left.items → length segment ≤ max_len → IsStopped m client host state first b e
+pub unadded : {L : Type 0} (m : LinkModel L) (client host : List ℕ) (state : State) (first a b : L) (p : Place) (segment : List ℕ) (e : AskError) → HasPulled m client host state first a p → IsUnasked m client host a b e → (IsHonest m a client → GrowsOn m a b client)
+    → (IsHonest m a client → AddRefused m a b p.at segment e) → ¬ (p.left.items ≡ []) → segment ≡ segment_text p.left.items → IsSegment segment p.left.items → length segment ≤ max_len → IsStopped m client host state first b (of_ask e)
 unadded m client host state first a b p segment e s un grows refused some text back within = record {
   kept = kept_on m first a b s.asked.kept un.kept;
   cause = cause_on m first a b e s.asked.kept un.refused;
@@ -199,10 +195,10 @@ unadded m client host state first a b p segment e s un grows refused some text b
   come = λ honest. (let c = s.come honest in by c (grows c.on.honest) (refused c.on.honest));
 }
   where
-    to_stop : HeardSoFar m client host first a p (λ hs. EndedBy hs (IsUpToDate client p.at)) → (hs : List Heard) × HearsUntil m client host a b hs e × HeardUnasked hs e → HeardToStop m client host first b e
+    to_stop : HeardSoFar m client host first a p (λ hs. EndedBy hs (IsUpToDate client p.at)) → (hs : List Heard) × HearsUntil m client host a b hs (of_ask e) × HeardUnasked hs e → HeardToStop m client host first b (of_ask e)
     to_stop t u = record {
       hs = t.hs ++ u.0;
-      hears = hears_until_on m client host first a b t.hs u.0 e t.hears u.1;
+      hears = hears_until_on m client host first a b t.hs u.0 (of_ask e) t.hears u.1;
       refused = refused_on m client a b t.hs u.0 e un.refused u.2 (goes_on_so_far m client host first a p _ t s.tries);
       few = λ honest. (
           let n = s.asked.count in
@@ -214,8 +210,8 @@ unadded m client host state first a b p segment e s un grows refused some text b
           omega (arith, n, k, o, f, g, late));
     }
 
-    by : IsAtEnd m client state first a p → GrowsOn m a b client → AddRefused m a b p.at segment e → StopsTruly m state first b e
-    by c on (inl (none, inl same)) = stops_here m client state first a b e c.on c.mine on same (no_reply_says state (told m first) (told m b) e none)
+    by : IsAtEnd m client state first a p → GrowsOn m a b client → AddRefused m a b p.at segment e → StopsTruly m state first b (of_ask e)
+    by c on (inl (none, inl same)) = stops_here m client state first a b (of_ask e) c.on c.mine on same (no_reply_says state (told m first) (told m b) e none)
     by c on (inl (none, inr (id, one))) = record {
       whole = on.whole;
       grows = grows_on (m.chain first) (m.chain a) (m.chain b) c.on.grows on.grows;
@@ -223,7 +219,7 @@ unadded m client host state first a b p segment e s un grows refused some text b
       added = inr (added_one m client state first a b p id segment c on one some text back within);
       added_only = inl (may_add e none);
     }
-    by c on (inr (is, same)) = stops_here m client state first a b e c.on c.mine on same (subst (HonestRefused state (told m first) (told m b)) (sym is) refl)
+    by c on (inr (is, same)) = stops_here m client state first a b (of_ask e) c.on c.mine on same (subst (λ x. HonestRefused state (told m first) (told m b) (of_ask x)) (sym is) refl)
 
 -- the version was added, and there was no memory for what follows
 pub added_unkept : {L : Type 0} (m : LinkModel L) (client host : List ℕ) (state : State) (first a b : L) (p : Place) (id segment : List ℕ) → HasPulled m client host state first a p → IsAsked m client host a b (add_heard client p.at segment (Added id))

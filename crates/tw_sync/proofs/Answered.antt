@@ -24,8 +24,8 @@ use Rattle.tw_sync.specs.declared.ask.AddAnswer.{AddAnswer}
 use Rattle.tw_sync.specs.declared.ask.AddAnswer.TheVariants as add
 use Rattle.tw_sync.specs.declared.error.ReplyKind.{ReplyKind}
 use Rattle.tw_sync.specs.declared.error.ReplyKind.TheVariants.{Cut, Head, Header, Length, TooLong, Parent, Nil, Status}
-use Rattle.tw_sync.specs.declared.error.SyncError.{SyncError}
-use Rattle.tw_sync.specs.declared.error.SyncError.TheVariants as errors
+use Rattle.tw_sync.specs.declared.error.AskError.{AskError}
+use Rattle.tw_sync.specs.declared.error.AskError.TheVariants as asking
 use Rattle.tw_sync.proofs.Badly.{apart}
 use Rattle.tw_sync.proofs.Told.{ChildFact, child_fact, AddFact, add_fact}
 use Rattle.tw_sync.proofs.Served.{served_at, reply_is, grows_past}
@@ -208,20 +208,13 @@ module _ {L : Type 0} (m : LinkModel L) (old new : L) where
             (ok_same (reply_is (m.chain old) (m.chain new) (m.own old) (m.own new) (asks.Child client parent) reply s served (Ok (child_response parent a)) read));
       }
 
-  pub child_no_reply : (client parent reply : List ℕ) (e : SyncError) → ServesLink (asks.Child client parent) reply → IsServedChain (m.chain new) → IsBadlyAnswered (asks.Child client parent) reply e → NoReply e
-  child_no_reply client parent reply (errors.Reply kind) s served (r, read, bad) =
+  pub child_no_reply : (client parent reply : List ℕ) (e : AskError) → ServesLink (asks.Child client parent) reply → IsServedChain (m.chain new) → IsBadlyAnswered (asks.Child client parent) reply e → NoReply e
+  child_no_reply client parent reply (asking.Reply kind) s served (r, read, bad) =
       let at : IsServedChain s.at = served_at (m.chain old) (m.chain new) (m.own old) (m.own new) (asks.Child client parent) reply s served in
       absurd (child_never client parent s.at (child_behind parent zero_bytes s.at) kind r (child_fact s.at parent at.whole)
       (reply_is (m.chain old) (m.chain new) (m.own old) (m.own new) (asks.Child client parent) reply s served r read) bad)
-  child_no_reply client parent reply errors.Memory s served b = inr refl
-  child_no_reply client parent reply errors.Link s served b = absurd b
-  child_no_reply client parent reply (errors.Journal e) s served b = absurd b
-  child_no_reply client parent reply (errors.Gone base) s served b = absurd b
-  child_no_reply client parent reply (errors.Busy last) s served b = absurd b
-  child_no_reply client parent reply (errors.OutOfSync base last) s served b = absurd b
-  child_no_reply client parent reply (errors.Segment id) s served b = absurd b
-  child_no_reply client parent reply (errors.SegmentTooLong bytes) s served b = absurd b
-  child_no_reply client parent reply (errors.PullTooLong bytes) s served b = absurd b
+  child_no_reply client parent reply asking.Memory s served b = inr refl
+  child_no_reply client parent reply asking.Link s served b = absurd b
 
   -- ---- add-version
 
@@ -274,18 +267,11 @@ module _ {L : Type 0} (m : LinkModel L) (old new : L) where
       says_by s.at parent segment s.id x.0 x.1 a (add_fact s.at parent segment s.id) s.before s.after s.mine
       (ok_same (reply_is (m.chain old) (m.chain new) (m.own old) (m.own new) (asks.Add client parent segment) reply s served (Ok (add_response a)) read))
 
-  pub add_refused : (client parent segment reply : List ℕ) (e : SyncError) → ServesLink (asks.Add client parent segment) reply → IsServedChain (m.chain new) → IsBadlyAnswered (asks.Add client parent segment) reply e → AddRefused m old new parent segment e
-  add_refused client parent segment reply (errors.Reply kind) s served (r, read, bad) =
+  pub add_refused : (client parent segment reply : List ℕ) (e : AskError) → ServesLink (asks.Add client parent segment) reply → IsServedChain (m.chain new) → IsBadlyAnswered (asks.Add client parent segment) reply e → AddRefused m old new parent segment e
+  add_refused client parent segment reply (asking.Reply kind) s served (r, read, bad) =
       let x = answer s.at (Add parent segment) s.id in
       let only = add_only client parent segment s.id s.at x.0 x.1 kind r (add_fact s.at parent segment s.id) s.real
       (reply_is (m.chain old) (m.chain new) (m.own old) (m.own new) (asks.Add client parent segment) reply s served r read) bad in
-      inr (ap (λ k. errors.Reply k) only.0, none_added x.0 s.mine only.1)
-  add_refused client parent segment reply errors.Memory s served b = inl (inr refl, add_own client parent segment reply s)
-  add_refused client parent segment reply errors.Link s served b = absurd b
-  add_refused client parent segment reply (errors.Journal e) s served b = absurd b
-  add_refused client parent segment reply (errors.Gone base) s served b = absurd b
-  add_refused client parent segment reply (errors.Busy last) s served b = absurd b
-  add_refused client parent segment reply (errors.OutOfSync base last) s served b = absurd b
-  add_refused client parent segment reply (errors.Segment id) s served b = absurd b
-  add_refused client parent segment reply (errors.SegmentTooLong bytes) s served b = absurd b
-  add_refused client parent segment reply (errors.PullTooLong bytes) s served b = absurd b
+      inr (ap (λ k. asking.Reply k) only.0, none_added x.0 s.mine only.1)
+  add_refused client parent segment reply asking.Memory s served b = inl (inr refl, add_own client parent segment reply s)
+  add_refused client parent segment reply asking.Link s served b = absurd b

@@ -18,8 +18,8 @@ use Rattle.tw_sync.specs.Refused.{IsBadReply}
 use Rattle.tw_sync.specs.Answers.{IsBadlyAnswered}
 use Rattle.tw_sync.specs.declared.error.ReplyKind.{ReplyKind}
 use Rattle.tw_sync.specs.declared.error.ReplyKind.TheVariants.{Parent, Nil}
-use Rattle.tw_sync.specs.declared.error.SyncError.{SyncError}
-use Rattle.tw_sync.specs.declared.error.SyncError.TheVariants as errors
+use Rattle.tw_sync.specs.declared.error.AskError.{AskError}
+use Rattle.tw_sync.specs.declared.error.AskError.TheVariants as asking
 use Rattle.tw_sync.proofs.Replies.{reply_answers}
 
 pub apart : (a b : List ℕ) → same_id a b ≡ false → ¬ (a ≡ b)
@@ -40,17 +40,17 @@ is_same a b test = same_id_exact a b (by (same_id a b) test)
     by false e = cc
 
 -- a response that was read is a bad reply of this kind
-bad : (asked : Request) (bytes : List ℕ) (e : SyncError) (kind : ReplyKind) (r : Result Response HttpError) → e ≡ errors.Reply kind → IsResponseAnswer (kind_of asked) bytes r → IsBadReply kind (heard asked r) → IsBadlyAnswered asked bytes e
+bad : (asked : Request) (bytes : List ℕ) (e : AskError) (kind : ReplyKind) (r : Result Response HttpError) → e ≡ asking.Reply kind → IsResponseAnswer (kind_of asked) bytes r → IsBadReply kind (heard asked r) → IsBadlyAnswered asked bytes e
 bad asked bytes e kind r is read bad_reply = subst (IsBadlyAnswered asked bytes) (sym is) (r, read, bad_reply)
 
-pub added_nil : (asked : Request) (bytes id nil : List ℕ) (e : SyncError) (r : Response) → e ≡ errors.Reply Nil → IsResponseAnswer (kind_of asked) bytes (Ok r) → r ≡ Added id → true ≡ same_id id nil → nil ≡ zero_bytes → IsBadlyAnswered asked bytes e
+pub added_nil : (asked : Request) (bytes id nil : List ℕ) (e : AskError) (r : Response) → e ≡ asking.Reply Nil → IsResponseAnswer (kind_of asked) bytes (Ok r) → r ≡ Added id → true ≡ same_id id nil → nil ≡ zero_bytes → IsBadlyAnswered asked bytes e
 added_nil asked bytes id nil e r is read same test zero = bad asked bytes e Nil (Ok r) is read (inl (ap Ok same ∙ ap (λ (x : List ℕ). Ok (Added x)) (same_id_exact id nil (sym test) ∙ zero)))
 
-pub child_nil : (client parent named bytes id nil segment : List ℕ) (e : SyncError) (r : Response) → e ≡ errors.Reply Nil → IsResponseAnswer asked.Child bytes (Ok r) → r ≡ Child id named segment → named ≡ parent → true ≡ same_id id nil → nil ≡ zero_bytes → IsBadlyAnswered (asks.Child client parent) bytes e
+pub child_nil : (client parent named bytes id nil segment : List ℕ) (e : AskError) (r : Response) → e ≡ asking.Reply Nil → IsResponseAnswer asked.Child bytes (Ok r) → r ≡ Child id named segment → named ≡ parent → true ≡ same_id id nil → nil ≡ zero_bytes → IsBadlyAnswered (asks.Child client parent) bytes e
 child_nil client parent named bytes id nil segment e r is read same right test zero =
     bad (asks.Child client parent) bytes e Nil (Ok r) is read (inr (client, parent, segment, refl, ap Ok same ∙ ap (λ (x : List ℕ). Ok (Child x named segment)) (same_id_exact id nil (sym test) ∙ zero) ∙ ap (λ (x : List ℕ). Ok (Child zero_bytes x segment)) right))
 
-pub other_parent : (client parent named bytes id segment : List ℕ) (e : SyncError) (r : Response) → e ≡ errors.Reply Parent → IsResponseAnswer asked.Child bytes (Ok r) → r ≡ Child id named segment → ¬ (named ≡ parent) → IsBadlyAnswered (asks.Child client parent) bytes e
+pub other_parent : (client parent named bytes id segment : List ℕ) (e : AskError) (r : Response) → e ≡ asking.Reply Parent → IsResponseAnswer asked.Child bytes (Ok r) → r ≡ Child id named segment → ¬ (named ≡ parent) → IsBadlyAnswered (asks.Child client parent) bytes e
 other_parent client parent named bytes id segment e r is read same other =
     bad (asks.Child client parent) bytes e Parent (Ok r) is read (client, parent, id, named, segment, refl, ap Ok same, other)
 

@@ -8,6 +8,9 @@ use Rattle.tw_sync.specs.Refused.{max_pull, EndedBy, IsWelcome, IsConflict, Goes
 use Rattle.tw_sync.specs.Answers.{HeardUnasked, AskRefused}
 use Rattle.tw_sync.specs.Progress.{HeardSoFar}
 use Rattle.tw_sync.specs.declared.place.Place.{Place}
+use Rattle.tw_sync.specs.Causes.{of_ask}
+use Rattle.tw_sync.specs.declared.error.AskError.{AskError}
+use Rattle.tw_sync.specs.declared.error.AskError.TheVariants as asking
 use Rattle.tw_sync.specs.declared.error.SyncError.{SyncError}
 use Rattle.tw_sync.specs.declared.error.SyncError.TheVariants as errors
 use Rattle.tw_sync.proofs.Hearing.{all-append, pulled_bytes-append, conflicts-append}
@@ -55,20 +58,13 @@ goes_on_to_conflict hs last welcome within sixteen (h, ends, is) = (
 )
 
 -- a question that is refused ends the call, whatever was heard before
-pub refused_on : {L : Type 0} (m : LinkModel L) (client : List ℕ) (b c : L) (hs ks : List Heard) (e : SyncError) → AskRefused m b c e → HeardUnasked ks e → GoesOnFrom hs → HeardRefused client (hs ++ ks) e
+pub refused_on : {L : Type 0} (m : LinkModel L) (client : List ℕ) (b c : L) (hs ks : List Heard) (e : AskError) → AskRefused m b c e → HeardUnasked ks e → GoesOnFrom hs → HeardRefused client (hs ++ ks) (of_ask e)
 refused_on m client b c hs ks e asked un g = by e asked un
   where
     same : (x : SyncError) → HeardRefused client hs x → ks ≡ [] → HeardRefused client (hs ++ ks) x
     same x r none = subst (λ xs. HeardRefused client xs x) (sym (ap (λ k. hs ++ k) none ∙ append-nil hs)) r
 
-    by : (x : SyncError) → AskRefused m b c x → HeardUnasked ks x → HeardRefused client (hs ++ ks) x
-    by (errors.Reply kind) a (h, is, bad) = subst (λ k. HeardRefused client (hs ++ k) (errors.Reply kind)) (sym is) (record { cause = ended_by hs h _ bad; until = goes_to_last hs h g })
-    by errors.Link a none = same errors.Link (record { cause = tt; until = g }) none
-    by errors.Memory a none = same errors.Memory (record { cause = tt; until = g }) none
-    by (errors.Journal x) a none = absurd a
-    by (errors.Gone base) a none = absurd a
-    by (errors.Busy parent) a none = absurd a
-    by (errors.OutOfSync base parent) a none = absurd a
-    by (errors.Segment version) a none = absurd a
-    by (errors.SegmentTooLong bytes) a none = absurd a
-    by (errors.PullTooLong bytes) a none = absurd a
+    by : (x : AskError) → AskRefused m b c x → HeardUnasked ks x → HeardRefused client (hs ++ ks) (of_ask x)
+    by (asking.Reply kind) a (h, is, bad) = subst (λ k. HeardRefused client (hs ++ k) (errors.Reply kind)) (sym is) (record { cause = ended_by hs h _ bad; until = goes_to_last hs h g })
+    by asking.Link a none = same errors.Link (record { cause = tt; until = g }) none
+    by asking.Memory a none = same errors.Memory (record { cause = tt; until = g }) none

@@ -19,6 +19,8 @@ use Rattle.tw_replica.specs.State.{State, synced}
 use Rattle.tw_replica.specs.Sound.{start_of}
 use Rattle.tw_replica.specs.Core.{state_of}
 use Rattle.tw_replica.specs.Replica.{IsReplicaOn, StepRefused}
+use Rattle.tw_replica.specs.declared.replica.records.RecordError.{RecordError}
+use Rattle.tw_replica.specs.declared.replica.records.RecordError.TheVariants as records
 use Rattle.tw_replica.specs.declared.replica.Replica.{Replica}
 use Rattle.tw_sync.specs.Fold.{Reads, ReadsBetween}
 use Rattle.tw_sync.specs.End.{IsPulled, IsIdle, IsLeft, IsPushed, SyncEnd, MayHaveAdded, report_of}
@@ -27,6 +29,7 @@ use Rattle.tw_sync.specs.Refused.{GoesOnFrom, HeardRefused, JournalRefused, Sync
 use Rattle.tw_sync.specs.Sync.{told, record_body, record_size, RecordsOfSync, IsEndIn}
 use Rattle.tw_sync.specs.Honest.{HonestRefused, IsLongRecord}
 use Rattle.tw_sync.specs.Progress.{HasNothingLeft, HasSent, HasMet, IsCause}
+use Rattle.tw_sync.specs.Causes.{of_record}
 use Rattle.tw_sync.specs.Keeping.{moved_state, IsMovedTo, IsNotMoved}
 use Rattle.tw_sync.specs.declared.report.SyncReport.{SyncReport}
 use Rattle.tw_sync.specs.declared.place.Place.{Place}
@@ -200,80 +203,40 @@ module _ {D L : Type 0} (m : DiskModel D) (links : LinkModel L) (client : List �
   journal_refused (journal.Damaged offset) r = absurd r.0
   journal_refused journal.Memory r = absurd r.0
 
-  pub unmoved_refused : (e : SyncError) → IsNotMoved m old new before after place e → SyncRefused m links old new before after first last e
-  unmoved_refused (errors.Journal e) r = journal_refused e r
-  unmoved_refused errors.Memory r = record { same = r; is_open = live }
-  unmoved_refused errors.Link r = absurd r
-  unmoved_refused (errors.SegmentTooLong bytes) r = absurd r
-  unmoved_refused (errors.PullTooLong bytes) r = absurd r
-  unmoved_refused (errors.Reply kind) r = absurd r
-  unmoved_refused (errors.Gone base) r = absurd r
-  unmoved_refused (errors.Busy parent) r = absurd r
-  unmoved_refused (errors.OutOfSync base parent) r = absurd r
-  unmoved_refused (errors.Segment version) r = absurd r
+  pub unmoved_refused : (e : RecordError) → IsNotMoved m old new before after place e → SyncRefused m links old new before after first last (of_record e)
+  unmoved_refused (records.Journal e) r = journal_refused e r
+  unmoved_refused records.Memory r = record { same = r.1; is_open = live }
 
   long_record : (bytes : ℕ) → HasMet links client (state_of old.core) first last place sent → bytes ≡ record_size place.at place.remote.items → IsLongRecord (state_of old.core) (links.chain last) bytes
   long_record bytes met len =
       let r = read_since links client (state_of old.core) first last place sent met in
       record { h = place.at; versions = r.versions; ops = place.remote.items; between = r.between; reads = r.reads; len = len }
 
-  pub unmoved_honest : HasMet links client (state_of old.core) first last place sent → (e : SyncError) → IsNotMoved m old new before after place e → HonestRefused (state_of old.core) (told links first) (told links last) e
-  unmoved_honest met (errors.Journal journal.Disk) r = tt
-  unmoved_honest met (errors.Journal journal.Closed) r = tt
-  unmoved_honest met (errors.Journal (journal.TooLong bytes)) r = long_record bytes met r.0.0
-  unmoved_honest met (errors.Journal (journal.Damaged offset)) r = absurd r.0
-  unmoved_honest met (errors.Journal journal.Memory) r = absurd r.0
-  unmoved_honest met errors.Memory r = tt
-  unmoved_honest met errors.Link r = absurd r
-  unmoved_honest met (errors.SegmentTooLong bytes) r = absurd r
-  unmoved_honest met (errors.PullTooLong bytes) r = absurd r
-  unmoved_honest met (errors.Reply kind) r = absurd r
-  unmoved_honest met (errors.Gone base) r = absurd r
-  unmoved_honest met (errors.Busy parent) r = absurd r
-  unmoved_honest met (errors.OutOfSync base parent) r = absurd r
-  unmoved_honest met (errors.Segment version) r = absurd r
+  pub unmoved_honest : HasMet links client (state_of old.core) first last place sent → (e : RecordError) → IsNotMoved m old new before after place e → HonestRefused (state_of old.core) (told links first) (told links last) (of_record e)
+  unmoved_honest met (records.Journal journal.Disk) r = tt
+  unmoved_honest met (records.Journal journal.Closed) r = tt
+  unmoved_honest met (records.Journal (journal.TooLong bytes)) r = long_record bytes met r.0.0
+  unmoved_honest met (records.Journal (journal.Damaged offset)) r = absurd r.0
+  unmoved_honest met (records.Journal journal.Memory) r = absurd r.0
+  unmoved_honest met records.Memory r = tt
 
-  pub unmoved_may_add : (e : SyncError) → IsNotMoved m old new before after place e → MayAdd e
-  unmoved_may_add (errors.Journal journal.Disk) r = tt
-  unmoved_may_add (errors.Journal journal.Closed) r = absurd (true≢false (sym r.0.0 ∙ live))
-  unmoved_may_add (errors.Journal (journal.TooLong bytes)) r = tt
-  unmoved_may_add (errors.Journal (journal.Damaged offset)) r = absurd r.0
-  unmoved_may_add (errors.Journal journal.Memory) r = absurd r.0
-  unmoved_may_add errors.Memory r = tt
-  unmoved_may_add errors.Link r = absurd r
-  unmoved_may_add (errors.SegmentTooLong bytes) r = absurd r
-  unmoved_may_add (errors.PullTooLong bytes) r = absurd r
-  unmoved_may_add (errors.Reply kind) r = absurd r
-  unmoved_may_add (errors.Gone base) r = absurd r
-  unmoved_may_add (errors.Busy parent) r = absurd r
-  unmoved_may_add (errors.OutOfSync base parent) r = absurd r
-  unmoved_may_add (errors.Segment version) r = absurd r
+  pub unmoved_may_add : (e : RecordError) → IsNotMoved m old new before after place e → MayAdd (of_record e)
+  unmoved_may_add (records.Journal journal.Disk) r = tt
+  unmoved_may_add (records.Journal journal.Closed) r = absurd (true≢false (sym r.0.0 ∙ live))
+  unmoved_may_add (records.Journal (journal.TooLong bytes)) r = tt
+  unmoved_may_add (records.Journal (journal.Damaged offset)) r = absurd r.0
+  unmoved_may_add (records.Journal journal.Memory) r = absurd r.0
+  unmoved_may_add records.Memory r = tt
 
   -- its state is the old one
-  pub unmoved_state : (e : SyncError) → IsNotMoved m old new before after place e → state_of new.core ≡ state_of old.core
-  unmoved_state (errors.Journal e) r = r.1
-  unmoved_state errors.Memory r = r.state
-  unmoved_state errors.Link r = absurd r
-  unmoved_state (errors.SegmentTooLong bytes) r = absurd r
-  unmoved_state (errors.PullTooLong bytes) r = absurd r
-  unmoved_state (errors.Reply kind) r = absurd r
-  unmoved_state (errors.Gone base) r = absurd r
-  unmoved_state (errors.Busy parent) r = absurd r
-  unmoved_state (errors.OutOfSync base parent) r = absurd r
-  unmoved_state (errors.Segment version) r = absurd r
+  pub unmoved_state : (e : RecordError) → IsNotMoved m old new before after place e → state_of new.core ≡ state_of old.core
+  unmoved_state (records.Journal e) r = r.1
+  unmoved_state records.Memory r = r.1.state
 
   -- what it heard is no cause
-  pub unmoved_cause : (hs : List Heard) (e : SyncError) → IsNotMoved m old new before after place e → GoesOnFrom hs → HeardRefused client hs e
-  unmoved_cause hs (errors.Journal e) r g = record { cause = tt; until = g }
-  unmoved_cause hs errors.Memory r g = record { cause = tt; until = g }
-  unmoved_cause hs errors.Link r g = absurd r
-  unmoved_cause hs (errors.SegmentTooLong bytes) r g = absurd r
-  unmoved_cause hs (errors.PullTooLong bytes) r g = absurd r
-  unmoved_cause hs (errors.Reply kind) r g = absurd r
-  unmoved_cause hs (errors.Gone base) r g = absurd r
-  unmoved_cause hs (errors.Busy parent) r g = absurd r
-  unmoved_cause hs (errors.OutOfSync base parent) r g = absurd r
-  unmoved_cause hs (errors.Segment version) r g = absurd r
+  pub unmoved_cause : (hs : List Heard) (e : RecordError) → IsNotMoved m old new before after place e → GoesOnFrom hs → HeardRefused client hs (of_record e)
+  unmoved_cause hs (records.Journal e) r g = record { cause = tt; until = g }
+  unmoved_cause hs records.Memory r g = record { cause = tt; until = g }
 
 -- a sync that came to its end has added what was left, or nothing
 pub may_have_added : {L : Type 0} (m : LinkModel L) (client : List ℕ) (state : State) (first now : L) (place : Place) (sent : ℕ) → HasMet m client state first now place sent → MayHaveAdded state (told m first) (told m now)

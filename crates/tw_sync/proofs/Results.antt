@@ -1,6 +1,6 @@
 -- The last thing heard, and results that are handed on.
 use Rattle.std.proofs.Common.{◌≡◌, List, [], ◌∷◌, ◌++◌, Result, Ok, Err, refl, sym, subst}
-use Rattle.std.specs.Result.{OnOk, IfErr, IsErrAnd}
+use Rattle.std.specs.Result.{OnOk, IfOk, IfErr, IsErrAnd}
 use Rattle.tw_sync.specs.Heard.{Heard}
 use Rattle.tw_sync.specs.Refused.{EndedBy}
 
@@ -19,3 +19,7 @@ on_ok_map (Err x) p f = tt
 pub if_err_map : {T E : Type 0} (r : Result T E) (P Q : E → Type 0) → IfErr r P → ((x : E) → P x → Q x) → IfErr r Q
 if_err_map (Ok v) P Q p f = tt
 if_err_map (Err x) P Q p f = f x p
+
+pub if_ok_map : {T E : Type 0} (r : Result T E) (P Q : T → Type 0) → IfOk r P → ((x : T) → P x → Q x) → IfOk r Q
+if_ok_map (Ok v) P Q p f = f v p
+if_ok_map (Err x) P Q p f = tt

@@ -18,6 +18,11 @@ use Rattle.tw_sync.specs.Progress.{HeardSoFar, HasAsked, IsUpToDate, IsPulling, 
 use Rattle.tw_sync.specs.declared.ask.ChildAnswer.{ChildAnswer}
 use Rattle.tw_sync.specs.declared.ask.ChildAnswer.TheVariants.{Found, UpToDate, Gone}
 use Rattle.tw_sync.specs.declared.place.Place.{Place}
+use Rattle.tw_sync.specs.Causes.{of_ask, of_take}
+use Rattle.tw_sync.specs.declared.error.AskError.{AskError}
+use Rattle.tw_sync.specs.declared.error.AskError.TheVariants as asking
+use Rattle.tw_sync.specs.declared.error.TakeError.{TakeError}
+use Rattle.tw_sync.specs.declared.error.TakeError.TheVariants as taking
 use Rattle.tw_sync.specs.declared.error.SyncError.{SyncError}
 use Rattle.tw_sync.specs.declared.error.SyncError.TheVariants as errors
 use Rattle.tw_sync.proofs.Fitting.{left_shorter}
@@ -44,11 +49,11 @@ pub record IsTold {L : Type 0} (m : LinkModel L) (client : List ℕ) (a b : L) (
   pub says : IsChildAnswer m a b parent answer
 
 -- a question was refused
-pub record IsUnasked {L : Type 0} (m : LinkModel L) (client host : List ℕ) (a b : L) (e : SyncError) : Type 0 where
+pub record IsUnasked {L : Type 0} (m : LinkModel L) (client host : List ℕ) (a b : L) (e : AskError) : Type 0 where
   pub kept : IsLinkKept m a b
   pub count : m.exchanges b ≤ m.exchanges a + 1
   pub refused : AskRefused m a b e
-  pub heard : IsTrue (m.tells_list a) → (hs : List Heard) × HearsUntil m client host a b hs e × HeardUnasked hs e
+  pub heard : IsTrue (m.tells_list a) → (hs : List Heard) × HearsUntil m client host a b hs (of_ask e) × HeardUnasked hs e
 
 -- the counts of one reply go to those of the place
 pub record IsCounted (p q : Place) (h : Heard) : Type 0 where
@@ -123,36 +128,29 @@ stops_here m client state first a b e before mine on same refused = record {
 rose_later : (a b c : ℕ) → a ≤ b → Rose b c → Rose a c
 rose_later a b c le rose = omega (arith, le, rose)
 
-pub cause_on : {L : Type 0} (m : LinkModel L) (first a b : L) (e : SyncError) → IsLinkKept m first a → AskRefused m a b e → IsCause m first b e
-cause_on m first a b errors.Link kept r = rose_later (m.faults first) (m.faults a) (m.faults b) kept.faults r
-cause_on m first a b errors.Memory kept r = tt
-cause_on m first a b (errors.Journal e) kept r = r
-cause_on m first a b (errors.Reply kind) kept r = tt
-cause_on m first a b (errors.Gone base) kept r = tt
-cause_on m first a b (errors.Busy parent) kept r = tt
-cause_on m first a b (errors.OutOfSync base parent) kept r = tt
-cause_on m first a b (errors.Segment version) kept r = tt
-cause_on m first a b (errors.SegmentTooLong bytes) kept r = absurd r
-cause_on m first a b (errors.PullTooLong bytes) kept r = absurd r
+pub cause_on : {L : Type 0} (m : LinkModel L) (first a b : L) (e : AskError) → IsLinkKept m first a → AskRefused m a b e → IsCause m first b (of_ask e)
+cause_on m first a b asking.Link kept r = rose_later (m.faults first) (m.faults a) (m.faults b) kept.faults r
+cause_on m first a b asking.Memory kept r = tt
+cause_on m first a b (asking.Reply kind) kept r = tt
 
-pub no_reply_says : (state : State) (before after : Told) (e : SyncError) → NoReply e → HonestRefused state before after e
-no_reply_says state before after e (inl is) = subst (HonestRefused state before after) (sym is) tt
-no_reply_says state before after e (inr is) = subst (HonestRefused state before after) (sym is) tt
+pub no_reply_says : (state : State) (before after : Told) (e : AskError) → NoReply e → HonestRefused state before after (of_ask e)
+no_reply_says state before after e (inl is) = subst (λ x. HonestRefused state before after (of_ask x)) (sym is) tt
+no_reply_says state before after e (inr is) = subst (λ x. HonestRefused state before after (of_ask x)) (sym is) tt
 
 -- the question was refused
-pub pulling_unasked : {L : Type 0} (m : LinkModel L) (client host : List ℕ) (state : State) (first a b : L) (p : Place) (e : SyncError) → IsPulling m client host state first a p → IsUnasked m client host a b e
-    → (IsHonest m a client → GrowsOn m a b client) → (IsHonest m a client → m.own b ≡ m.own a) → (IsHonest m a client → NoReply e) → IsStopped m client host state first b e
+pub pulling_unasked : {L : Type 0} (m : LinkModel L) (client host : List ℕ) (state : State) (first a b : L) (p : Place) (e : AskError) → IsPulling m client host state first a p → IsUnasked m client host a b e
+    → (IsHonest m a client → GrowsOn m a b client) → (IsHonest m a client → m.own b ≡ m.own a) → (IsHonest m a client → NoReply e) → IsStopped m client host state first b (of_ask e)
 pulling_unasked m client host state first a b p e s un on mine reply = record {
   kept = kept_on m first a b s.asked.kept un.kept;
   cause = cause_on m first a b e s.asked.kept un.refused;
   heard = λ tells. to_stop (s.asked.heard tells) (un.heard (s.asked.kept.tells_list ∙ tells));
-  come = λ honest. (let h = s.come honest in let now = h.on.honest in stops_here m client state first a b e h.on h.mine (on now) (mine now) (no_reply_says state (told m first) (told m b) e (reply now)));
+  come = λ honest. (let h = s.come honest in let now = h.on.honest in stops_here m client state first a b (of_ask e) h.on h.mine (on now) (mine now) (no_reply_says state (told m first) (told m b) e (reply now)));
 }
   where
-    to_stop : HeardSoFar m client host first a p (λ hs. Unit {0}) → (hs : List Heard) × HearsUntil m client host a b hs e × HeardUnasked hs e → HeardToStop m client host first b e
+    to_stop : HeardSoFar m client host first a p (λ hs. Unit {0}) → (hs : List Heard) × HearsUntil m client host a b hs (of_ask e) × HeardUnasked hs e → HeardToStop m client host first b (of_ask e)
     to_stop t u = record {
       hs = t.hs ++ u.0;
-      hears = hears_until_on m client host first a b t.hs u.0 e t.hears u.1;
+      hears = hears_until_on m client host first a b t.hs u.0 (of_ask e) t.hears u.1;
       refused = refused_on m client a b t.hs u.0 e un.refused u.2 (goes_on_so_far m client host first a p _ t s.tries);
       few = λ honest. (
           let n = s.asked.count in
@@ -218,8 +216,8 @@ unread_in state chain p id segment version_is whole there next same un =
     }
 
 -- the version behind the place is not taken
-pub pulling_untaken : {L : Type 0} (m : LinkModel L) (client host : List ℕ) (state : State) (first a b : L) (p : Place) (id segment : List ℕ) (e : SyncError) → IsPulling m client host state first a p → IsAsked m client host a b (child_heard client p.at (Found id segment))
-    → (IsHonest m a client → IsTold m client a b p.at (Found id segment)) → IsNotTaken p id segment e → IsStopped m client host state first b e
+pub pulling_untaken : {L : Type 0} (m : LinkModel L) (client host : List ℕ) (state : State) (first a b : L) (p : Place) (id segment : List ℕ) (e : TakeError) → IsPulling m client host state first a p → IsAsked m client host a b (child_heard client p.at (Found id segment))
+    → (IsHonest m a client → IsTold m client a b p.at (Found id segment)) → IsNotTaken p id segment e → IsStopped m client host state first b (of_take e)
 pulling_untaken m client host state first a b p id segment e s asked tells not = by e not
   where
     h : Heard
@@ -235,26 +233,19 @@ pulling_untaken m client host state first a b p id segment e s asked tells not =
     goes : (hs : List Heard) → pulled_bytes hs ≡ p.bytes → GoesOnFrom hs → p.bytes + length segment ≤ max_pull → GoesOnFrom (hs ++ h ∷ [])
     goes hs have g within = goes_on hs h g asked.welcome (omega (arith, have, within)) (let f = g.few in omega (arith, f))
 
-    by : (x : SyncError) → IsNotTaken p id segment x → IsStopped m client host state first b x
-    by (errors.PullTooLong bytes) n =
+    by : (x : TakeError) → IsNotTaken p id segment x → IsStopped m client host state first b (of_take x)
+    by (taking.TooLong bytes) n =
         stopped_at m client host state first a b p h (errors.PullTooLong bytes) s asked n.1
         (λ hs have g. record {
           cause = record { last = ended_by hs h IsWelcome asked.welcome; sum = (let f = pulled_bytes-append hs (h ∷ []) in let o = n.0 in omega (arith, f, o, have)); over = n.1 };
           until = goes_to_last hs h g;
         })
         (at_honest (errors.PullTooLong bytes) (λ whole there next. long_pull state (m.chain b) p id segment bytes whole there next n.0))
-    by (errors.Segment v) n =
+    by (taking.Segment v) n =
         stopped_at m client host state first a b p h (errors.Segment v) s asked tt
         (λ hs have g. record {
           cause = ended_by hs h (IsBadSegment v) (record { parent = p.at; segment = segment; reply_is = ap (λ (i : List ℕ). Ok (replies.Child i p.at segment)) (sym n.0); error = n.1.error; unread = n.1.unread; other = n.1.other });
           until = goes hs have g n.2;
         })
         (at_honest (errors.Segment v) (λ whole there next. unread_in state (m.chain b) p id segment v whole there next n.0 n.1))
-    by errors.Memory n = stopped_at m client host state first a b p h errors.Memory s asked tt (λ hs have g. record { cause = tt; until = goes hs have g n }) (at_honest errors.Memory (λ whole there next. tt))
-    by (errors.Journal x) n = absurd n
-    by errors.Link n = absurd n
-    by (errors.Reply kind) n = absurd n
-    by (errors.Gone base) n = absurd n
-    by (errors.Busy parent) n = absurd n
-    by (errors.OutOfSync base parent) n = absurd n
-    by (errors.SegmentTooLong bytes) n = absurd n
+    by taking.Memory n = stopped_at m client host state first a b p h errors.Memory s asked tt (λ hs have g. record { cause = tt; until = goes hs have g n }) (at_honest errors.Memory (λ whole there next. tt))

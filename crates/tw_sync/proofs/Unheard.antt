@@ -9,8 +9,9 @@ use Rattle.tw_http.specs.declared.message.Response.{Response}
 use Rattle.tw_http.specs.declared.message.HttpError.{HttpError}
 use Rattle.tw_sync.specs.Heard.{Heard, heard, IsSent, Hears, HearsUnread, HearsUntil}
 use Rattle.tw_sync.specs.Answers.{HeardUnasked, AskRefused, IsBadlyAnswered}
-use Rattle.tw_sync.specs.declared.error.SyncError.{SyncError}
-use Rattle.tw_sync.specs.declared.error.SyncError.TheVariants as errors
+use Rattle.tw_sync.specs.Causes.{of_ask}
+use Rattle.tw_sync.specs.declared.error.AskError.{AskError}
+use Rattle.tw_sync.specs.declared.error.AskError.TheVariants as asking
 
 pub if_ok : {A E : Type 0} {P Q : A → Type 0} (r : Result A E) → IfOk r P → ((a : A) → P a → Q a) → IfOk r Q
 if_ok (Ok a) p f = f a p
@@ -21,17 +22,10 @@ if_err (Ok a) p f = tt
 if_err (Err e) p f = f e p
 
 module _ {L : Type 0} (m : LinkModel L) (old new : L) where
-  pub badly_refused : (asked : Request) (bytes : List ℕ) (e : SyncError) → IsBadlyAnswered asked bytes e → AskRefused m old new e
-  badly_refused asked bytes (errors.Reply kind) b = tt
-  badly_refused asked bytes errors.Memory b = tt
-  badly_refused asked bytes errors.Link b = absurd b
-  badly_refused asked bytes (errors.Journal e) b = absurd b
-  badly_refused asked bytes (errors.Gone base) b = absurd b
-  badly_refused asked bytes (errors.Busy parent) b = absurd b
-  badly_refused asked bytes (errors.OutOfSync base parent) b = absurd b
-  badly_refused asked bytes (errors.Segment version) b = absurd b
-  badly_refused asked bytes (errors.SegmentTooLong n) b = absurd b
-  badly_refused asked bytes (errors.PullTooLong n) b = absurd b
+  pub badly_refused : (asked : Request) (bytes : List ℕ) (e : AskError) → IsBadlyAnswered asked bytes e → AskRefused m old new e
+  badly_refused asked bytes (asking.Reply kind) b = tt
+  badly_refused asked bytes asking.Memory b = tt
+  badly_refused asked bytes asking.Link b = absurd b
 
   abbrev exchange_of : Request → (host reply : List ℕ) → Exchange
   exchange_of asked host reply = record { request = request_text asked host; reply = reply }
@@ -48,14 +42,7 @@ module _ {L : Type 0} (m : LinkModel L) (old new : L) where
   hears_unread : (asked : Request) (host reply : List ℕ) → IsListed asked host reply → HearsUnread m (client_of asked) host old new []
   hears_unread asked host reply listed = record { exchanges = []; last = exchange_of asked host reply; listed = listed; are_heard = refl; asked = asked; sent = sent_of asked host reply }
 
-  pub badly_heard : (asked : Request) (host reply : List ℕ) (e : SyncError) → IsListed asked host reply → IsBadlyAnswered asked reply e → (hs : List Heard) × HearsUntil m (client_of asked) host old new hs e × HeardUnasked hs e
-  badly_heard asked host reply (errors.Reply kind) listed (r, read, bad) = (heard asked r ∷ [], hears_one asked host reply r listed read, (heard asked r, refl, bad))
-  badly_heard asked host reply errors.Memory listed b = ([], inr (hears_unread asked host reply listed), refl)
-  badly_heard asked host reply errors.Link listed b = absurd b
-  badly_heard asked host reply (errors.Journal e) listed b = absurd b
-  badly_heard asked host reply (errors.Gone base) listed b = absurd b
-  badly_heard asked host reply (errors.Busy parent) listed b = absurd b
-  badly_heard asked host reply (errors.OutOfSync base parent) listed b = absurd b
-  badly_heard asked host reply (errors.Segment version) listed b = absurd b
-  badly_heard asked host reply (errors.SegmentTooLong n) listed b = absurd b
-  badly_heard asked host reply (errors.PullTooLong n) listed b = absurd b
+  pub badly_heard : (asked : Request) (host reply : List ℕ) (e : AskError) → IsListed asked host reply → IsBadlyAnswered asked reply e → (hs : List Heard) × HearsUntil m (client_of asked) host old new hs (of_ask e) × HeardUnasked hs e
+  badly_heard asked host reply (asking.Reply kind) listed (r, read, bad) = (heard asked r ∷ [], hears_one asked host reply r listed read, (heard asked r, refl, bad))
+  badly_heard asked host reply asking.Memory listed b = ([], inr (hears_unread asked host reply listed), refl)
+  badly_heard asked host reply asking.Link listed b = absurd b

@@ -19,8 +19,8 @@ use Rattle.tw_sync.specs.declared.ask.ChildAnswer.TheVariants.{Found, UpToDate, 
 use Rattle.tw_sync.specs.declared.ask.AddAnswer.{AddAnswer}
 use Rattle.tw_sync.specs.declared.ask.AddAnswer.TheVariants.{Added, Conflict}
 use Rattle.tw_sync.specs.declared.error.ReplyKind.TheVariants.{Status}
-use Rattle.tw_sync.specs.declared.error.SyncError.{SyncError}
-use Rattle.tw_sync.specs.declared.error.SyncError.TheVariants as errors
+use Rattle.tw_sync.specs.declared.error.AskError.{AskError}
+use Rattle.tw_sync.specs.declared.error.AskError.TheVariants as asking
 
 -- what a link is stays, and its faults only rise
 pub record IsLinkKept {L : Type 0} (m : LinkModel L) (old new : L) : Type 0 where
@@ -98,21 +98,14 @@ add_heard client parent segment answer = heard (asks.Add client parent segment) 
 -- ---- refusals
 
 -- bytes are read as a reply to a request that no sync goes on from, unless memory ran out
-abbrev pub IsBadlyAnswered : Request → List ℕ → SyncError → Type 0
-IsBadlyAnswered asked bytes (errors.Reply kind) = (reply : Result Response HttpError) × IsResponseAnswer (kind_of asked) bytes reply × IsBadReply kind (heard asked reply)
-IsBadlyAnswered asked bytes errors.Memory = Unit {0}
-IsBadlyAnswered asked bytes errors.Link = ⊥
-IsBadlyAnswered asked bytes (errors.Journal e) = ⊥
-IsBadlyAnswered asked bytes (errors.Gone base) = ⊥
-IsBadlyAnswered asked bytes (errors.Busy parent) = ⊥
-IsBadlyAnswered asked bytes (errors.OutOfSync base parent) = ⊥
-IsBadlyAnswered asked bytes (errors.Segment version) = ⊥
-IsBadlyAnswered asked bytes (errors.SegmentTooLong bytes_sent) = ⊥
-IsBadlyAnswered asked bytes (errors.PullTooLong bytes_pulled) = ⊥
+abbrev pub IsBadlyAnswered : Request → List ℕ → AskError → Type 0
+IsBadlyAnswered asked bytes (asking.Reply kind) = (reply : Result Response HttpError) × IsResponseAnswer (kind_of asked) bytes reply × IsBadReply kind (heard asked reply)
+IsBadlyAnswered asked bytes asking.Memory = Unit {0}
+IsBadlyAnswered asked bytes asking.Link = ⊥
 
 -- what a refused question heard: a bad reply, or none that it read
-abbrev pub HeardUnasked : List Heard → SyncError → Type 0
-HeardUnasked hs (errors.Reply kind) = (h : Heard) × (hs ≡ h ∷ []) × IsBadReply kind h
+abbrev pub HeardUnasked : List Heard → AskError → Type 0
+HeardUnasked hs (asking.Reply kind) = (h : Heard) × (hs ≡ h ∷ []) × IsBadReply kind h
 HeardUnasked hs e = hs ≡ []
 
 -- a response whose status answers a question
@@ -127,25 +120,18 @@ HasStatus replies.UpToDate = Unit {0}
 HasStatus replies.Gone = Unit {0}
 
 -- no reply came: the link failed, or memory ran out
-abbrev pub NoReply : SyncError → Type 0
-NoReply e = (e ≡ errors.Link) ⊎ (e ≡ errors.Memory)
+abbrev pub NoReply : AskError → Type 0
+NoReply e = (e ≡ asking.Link) ⊎ (e ≡ asking.Memory)
 
 -- why a question is refused
-abbrev pub AskRefused : {L : Type 0} → LinkModel L → (old new : L) → SyncError → Type 0
-AskRefused m old new errors.Link = Rose (m.faults old) (m.faults new)
-AskRefused m old new (errors.Reply kind) = Unit {0}
-AskRefused m old new errors.Memory = Unit {0}
-AskRefused m old new (errors.Journal e) = ⊥
-AskRefused m old new (errors.Gone base) = ⊥
-AskRefused m old new (errors.Busy parent) = ⊥
-AskRefused m old new (errors.OutOfSync base parent) = ⊥
-AskRefused m old new (errors.Segment version) = ⊥
-AskRefused m old new (errors.SegmentTooLong bytes) = ⊥
-AskRefused m old new (errors.PullTooLong bytes) = ⊥
+abbrev pub AskRefused : {L : Type 0} → LinkModel L → (old new : L) → AskError → Type 0
+AskRefused m old new asking.Link = Rose (m.faults old) (m.faults new)
+AskRefused m old new (asking.Reply kind) = Unit {0}
+AskRefused m old new asking.Memory = Unit {0}
 
 -- a refused add-version has added nothing, or its version where the link failed or memory ran out;
 -- over an honest link the one bad reply is that the drawn id is taken
-abbrev pub AddRefused : {L : Type 0} → LinkModel L → (old new : L) → (parent segment : List ℕ) → SyncError → Type 0
+abbrev pub AddRefused : {L : Type 0} → LinkModel L → (old new : L) → (parent segment : List ℕ) → AskError → Type 0
 AddRefused m old new parent segment e =
     (NoReply e × ((m.own new ≡ m.own old) ⊎ ((id : List ℕ) × IsAddedOne m old new (version id parent segment))))
-    ⊎ ((e ≡ errors.Reply (Status 500)) × (m.own new ≡ m.own old))
+    ⊎ ((e ≡ asking.Reply (Status 500)) × (m.own new ≡ m.own old))

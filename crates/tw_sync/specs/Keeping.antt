@@ -4,12 +4,11 @@ use Rattle.tw_world.specs.Disk.{DiskModel}
 use Rattle.tw_protocol.specs.Chain.{same_id}
 use Rattle.tw_replica.specs.State.{State, synced}
 use Rattle.tw_replica.specs.Core.{state_of}
-use Rattle.tw_replica.specs.Replica.{IsReplicaOn, IsSame, StepRefused}
+use Rattle.tw_replica.specs.Replica.{IsReplicaOn, IsSame, SyncingRefused}
 use Rattle.tw_replica.specs.declared.replica.Replica.{Replica}
 use Rattle.tw_sync.specs.Sync.{record_body}
 use Rattle.tw_sync.specs.declared.place.Place.{Place}
-use Rattle.tw_sync.specs.declared.error.SyncError.{SyncError}
-use Rattle.tw_sync.specs.declared.error.SyncError.TheVariants as errors
+use Rattle.tw_replica.specs.declared.replica.records.RecordError.{RecordError}
 
 -- the state that a replica gets at a place, where that is not its base
 abbrev pub moved_state : Place → State → Option State
@@ -22,14 +21,5 @@ IsMovedTo m old new before after place (Some next) =
     (state_of new.core ≡ next) × ((bodies : List (List ℕ)) → IsReplicaOn m old before bodies → IsReplicaOn m new after (bodies ++ record_body place.at place.remote.items ∷ []))
 
 -- why it is not moved
-abbrev pub IsNotMoved : {D : Type 0} → DiskModel D → (old new : Replica) (before after : D) → Place → SyncError → Type 0
-IsNotMoved m old new before after place (errors.Journal e) = StepRefused m old new before after (length (record_body place.at place.remote.items)) e
-IsNotMoved m old new before after place errors.Memory = IsSame old new before after
-IsNotMoved m old new before after place errors.Link = ⊥
-IsNotMoved m old new before after place (errors.Reply kind) = ⊥
-IsNotMoved m old new before after place (errors.Gone base) = ⊥
-IsNotMoved m old new before after place (errors.Busy parent) = ⊥
-IsNotMoved m old new before after place (errors.OutOfSync base parent) = ⊥
-IsNotMoved m old new before after place (errors.Segment version) = ⊥
-IsNotMoved m old new before after place (errors.SegmentTooLong bytes) = ⊥
-IsNotMoved m old new before after place (errors.PullTooLong bytes) = ⊥
+abbrev pub IsNotMoved : {D : Type 0} → DiskModel D → (old new : Replica) (before after : D) → Place → RecordError → Type 0
+IsNotMoved m old new before after place e = SyncingRefused m old new before after (length (record_body place.at place.remote.items)) e

@@ -15,3 +15,4 @@ pub mod Progress
 pub mod Resuming
 pub mod Sending
 pub mod Keeping
+pub mod Synced

@@ -16,8 +16,8 @@ use Rattle.tw_sync.specs.End.{IsPulled}
 use Rattle.tw_sync.specs.Refused.{max_pull}
 use Rattle.tw_sync.specs.Honest.{segments_len}
 use Rattle.tw_sync.specs.declared.place.Place.{Place}
-use Rattle.tw_sync.specs.declared.error.SyncError.{SyncError}
-use Rattle.tw_sync.specs.declared.error.SyncError.TheVariants as errors
+use Rattle.tw_sync.specs.declared.error.TakeError.{TakeError}
+use Rattle.tw_sync.specs.declared.error.TakeError.TheVariants as taking
 
 -- the place goes on to a version with this segment
 pub record TakesVersion (old new : Place) (id segment : List ℕ) : Type 0 where
@@ -38,17 +38,10 @@ pub record IsUnreadable (segment : List ℕ) : Type 0 where
   pub other : ¬ (error ≡ segments.Memory)
 
 -- why a version is not taken
-abbrev pub IsNotTaken : Place → (id segment : List ℕ) → SyncError → Type 0
-IsNotTaken place id segment (errors.PullTooLong bytes) = (bytes ≡ place.bytes + length segment) × (max_pull < bytes)
-IsNotTaken place id segment (errors.Segment version) = (version ≡ id) × IsUnreadable segment × (place.bytes + length segment ≤ max_pull)
-IsNotTaken place id segment errors.Memory = place.bytes + length segment ≤ max_pull
-IsNotTaken place id segment (errors.Journal e) = ⊥
-IsNotTaken place id segment errors.Link = ⊥
-IsNotTaken place id segment (errors.Reply kind) = ⊥
-IsNotTaken place id segment (errors.Gone base) = ⊥
-IsNotTaken place id segment (errors.Busy parent) = ⊥
-IsNotTaken place id segment (errors.OutOfSync base parent) = ⊥
-IsNotTaken place id segment (errors.SegmentTooLong bytes) = ⊥
+abbrev pub IsNotTaken : Place → (id segment : List ℕ) → TakeError → Type 0
+IsNotTaken place id segment (taking.TooLong bytes) = (bytes ≡ place.bytes + length segment) × (max_pull < bytes)
+IsNotTaken place id segment (taking.Segment version) = (version ≡ id) × IsUnreadable segment × (place.bytes + length segment ≤ max_pull)
+IsNotTaken place id segment taking.Memory = place.bytes + length segment ≤ max_pull
 
 -- a sync of this state stands where it begins, and has pulled nothing
 pub record IsAtStart (state : State) (place : Place) : Type 0 where

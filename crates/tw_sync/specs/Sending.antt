@@ -8,21 +8,13 @@ use Rattle.tw_sync.specs.Progress.{IsMet, IsLate}
 use Rattle.tw_sync.specs.declared.pushing.Sent.{Sent}
 use Rattle.tw_sync.specs.declared.pushing.Sent.TheVariants.{Added, Late}
 use Rattle.tw_sync.specs.declared.place.Place.{Place}
-use Rattle.tw_sync.specs.declared.error.SyncError.{SyncError}
-use Rattle.tw_sync.specs.declared.error.SyncError.TheVariants as errors
+use Rattle.tw_sync.specs.declared.error.SendError.{SendError}
+use Rattle.tw_sync.specs.declared.error.SendError.TheVariants as sending
 
 -- why operations are not sent
-abbrev pub IsUnsent : List SyncOp → SyncError → Type 0
-IsUnsent ops (errors.SegmentTooLong bytes) = (bytes ≡ length (segment_text ops)) × (max_len < bytes)
-IsUnsent ops errors.Memory = Unit {0}
-IsUnsent ops (errors.Journal e) = ⊥
-IsUnsent ops errors.Link = ⊥
-IsUnsent ops (errors.Reply kind) = ⊥
-IsUnsent ops (errors.Gone base) = ⊥
-IsUnsent ops (errors.Busy parent) = ⊥
-IsUnsent ops (errors.OutOfSync base parent) = ⊥
-IsUnsent ops (errors.Segment version) = ⊥
-IsUnsent ops (errors.PullTooLong bytes) = ⊥
+abbrev pub IsUnsent : List SyncOp → SendError → Type 0
+IsUnsent ops (sending.TooLong bytes) = (bytes ≡ length (segment_text ops)) × (max_len < bytes)
+IsUnsent ops sending.Memory = Unit {0}
 
 -- the sync ends where what was left is added, and goes on where it came too late
 abbrev pub Pushes : {L : Type 0} → Sent → LinkModel L → (client host : List ℕ) → State → (first now : L) → Place → Type 0

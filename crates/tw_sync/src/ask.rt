@@ -8,13 +8,14 @@ ghost use Rattle.tw_http.specs.Serving.{client_of, kind_of};
 ghost use Rattle.tw_http.specs.declared.message.Request.{Request as HttpRequest};
 ghost use Rattle.tw_http.specs.declared.message.Asked.TheVariants as asked;
 ghost use Rattle.tw_http.specs.declared.message.Request.TheVariants as asks;
-ghost use Rattle.tw_sync.specs.declared.error.SyncError.TheVariants as errors;
+ghost use Rattle.tw_sync.specs.declared.error.AskError.TheVariants as asking;
+ghost use Rattle.tw_sync.specs.Causes.{of_ask};
 ghost use Rattle.tw_sync.specs.declared.error.ReplyKind.TheVariants as kinds;
 ghost use Rattle.tw_sync.specs.Heard.{Heard, Hears, HearsUntil};
 ghost use Rattle.tw_sync.specs.Refused.{IsWelcome};
 ghost use Rattle.tw_sync.specs.Answers.{IsLinkKept, GrowsOn, IsChildAnswer, child_response, child_heard, HasStatus, IsAddAnswer, add_response, add_heard, IsBadlyAnswered, HeardUnasked, AskRefused, NoReply, AddRefused};
 
-use crate::error::{ReplyKind, SyncError};
+use crate::error::{AskError, ReplyKind};
 use std::alloc::Global;
 use tw_http::{Asked, Bytes, HttpError, Link, Request, Response, read_response, write_request};
 use uuid::Uuid;
@@ -46,7 +47,7 @@ pub(crate) fn ask_child<L: Link>(
     client: Uuid,
     host: &str,
     parent: Uuid,
-) -> Result<ChildAnswer, SyncError>
+) -> Result<ChildAnswer, AskError>
     requires host { IsHost host.now }
     ensures answer { IfOk result (λ answer. IsHonest L.model link.old client → IsChildAnswer L.model link.old link.new parent answer) }
     ensures grows { IsHonest L.model link.old client → GrowsOn L.model link.old link.new client }
@@ -54,7 +55,7 @@ pub(crate) fn ask_child<L: Link>(
     ensures heard { IfOk result (λ answer. IsTrue (L.model.tells_list link.old) → Hears L.model client host.now link.old link.new (child_heard client parent answer ∷ [])) }
     ensures welcome { IfOk result (λ answer. IsWelcome (child_heard client parent answer)) }
     ensures refused { IfErr result (AskRefused L.model link.old link.new) }
-    ensures refused_heard { IfErr result (λ e. IsTrue (L.model.tells_list link.old) → (hs : List Heard) × HearsUntil L.model client host.now link.old link.new hs e × HeardUnasked hs e) }
+    ensures refused_heard { IfErr result (λ e. IsTrue (L.model.tells_list link.old) → (hs : List Heard) × HearsUntil L.model client host.now link.old link.new hs (of_ask e) × HeardUnasked hs e) }
     ensures refused_honest { IfErr result (λ e. IsHonest L.model link.old client → NoReply e) }
     ensures count { L.model.exchanges link.new ≤ L.model.exchanges link.old + 1 }
     ensures kept { IsLinkKept L.model link.old link.new }
@@ -73,7 +74,7 @@ pub(crate) fn ask_add<L: Link>(
     host: &str,
     parent: Uuid,
     segment: Vec<u8>,
-) -> Result<AddAnswer, SyncError>
+) -> Result<AddAnswer, AskError>
     requires host { IsHost host.now }
     requires within { length segment.items ≤ max_body }
     ensures answer { IfOk result (λ answer. IsHonest L.model link.old client → IsAddAnswer L.model link.old link.new parent segment.items answer) }
@@ -81,7 +82,7 @@ pub(crate) fn ask_add<L: Link>(
     ensures heard { IfOk result (λ answer. IsTrue (L.model.tells_list link.old) → Hears L.model client host.now link.old link.new (add_heard client parent segment.items answer ∷ [])) }
     ensures welcome { IfOk result (λ answer. IsWelcome (add_heard client parent segment.items answer)) }
     ensures refused { IfErr result (AskRefused L.model link.old link.new) }
-    ensures refused_heard { IfErr result (λ e. IsTrue (L.model.tells_list link.old) → (hs : List Heard) × HearsUntil L.model client host.now link.old link.new hs e × HeardUnasked hs e) }
+    ensures refused_heard { IfErr result (λ e. IsTrue (L.model.tells_list link.old) → (hs : List Heard) × HearsUntil L.model client host.now link.old link.new hs (of_ask e) × HeardUnasked hs e) }
     ensures refused_honest { IfErr result (λ e. IsHonest L.model link.old client → AddRefused L.model link.old link.new parent segment.items e) }
     ensures count { L.model.exchanges link.new ≤ L.model.exchanges link.old + 1 }
     ensures kept { IsLinkKept L.model link.old link.new }
@@ -101,7 +102,7 @@ fn exchange<L: Link>(
     link: &mut L,
     request: &Request,
     host: &str,
-) -> Result<Vec<u8>, SyncError>
+) -> Result<Vec<u8>, AskError>
     requires host { IsHost host.now }
     ensures listed { IfOk result (λ reply. IsTrue (L.model.tells_list link.old) → L.model.list link.new ≡ L.model.list link.old ++ record { request = request_text request.now host.now; reply = reply.items } ∷ []) }
     ensures unlisted { OnErr result (IsTrue (L.model.tells_list link.old) → L.model.list link.new ≡ L.model.list link.old) }
@@ -119,7 +120,7 @@ fn exchange<L: Link>(
 }
 
 // The answer that a reply to get-child-version brings.
-fn child_answer(alloc: Global, bytes: &[u8], parent: Uuid) -> Result<ChildAnswer, SyncError>
+fn child_answer(alloc: Global, bytes: &[u8], parent: Uuid) -> Result<ChildAnswer, AskError>
     ensures read { IfOk result (λ answer. IsResponseAnswer asked.Child bytes.now (Ok (child_response parent answer))) }
     ensures welcome { IfOk result (λ answer. (client : List ℕ) → IsWelcome (child_heard client parent answer)) }
     ensures refused { IfErr result (λ e. (client : List ℕ) → IsBadlyAnswered (asks.Child client parent) bytes.now e) }
@@ -146,7 +147,7 @@ fn child_answer(alloc: Global, bytes: &[u8], parent: Uuid) -> Result<ChildAnswer
 }
 
 // The answer that a reply to add-version brings.
-fn add_answer(alloc: Global, bytes: &[u8]) -> Result<AddAnswer, SyncError>
+fn add_answer(alloc: Global, bytes: &[u8]) -> Result<AddAnswer, AskError>
     ensures read { IfOk result (λ answer. IsResponseAnswer asked.Add bytes.now (Ok (add_response answer))) }
     ensures welcome { IfOk result (λ answer. (client : List ℕ) (parent : List ℕ) (segment : List ℕ) → IsWelcome (add_heard client parent segment answer)) }
     ensures refused { IfErr result (λ e. (client : List ℕ) (parent : List ℕ) (segment : List ℕ) → IsBadlyAnswered (asks.Add client parent segment) bytes.now e) }
@@ -165,7 +166,7 @@ fn add_answer(alloc: Global, bytes: &[u8]) -> Result<AddAnswer, SyncError>
 }
 
 // Reads a reply. What can't be read is a bad reply, by its kind.
-fn read_reply(alloc: Global, bytes: &[u8], asked: Asked) -> Result<Response, SyncError>
+fn read_reply(alloc: Global, bytes: &[u8], asked: Asked) -> Result<Response, AskError>
     ensures read { IfOk result (λ response. IsResponseAnswer asked bytes.now (Ok response)) }
     ensures answers { IfOk result HasStatus }
     ensures refused { IfErr result (λ e. (request : HttpRequest) → kind_of request ≡ asked → IsBadlyAnswered request bytes.now e) }
@@ -181,21 +182,21 @@ fn read_reply(alloc: Global, bytes: &[u8], asked: Asked) -> Result<Response, Syn
         Err(HttpError::Length) => Err(bad_reply(ReplyKind::Length)),
         Err(HttpError::Status { code }) => Err(bad_status(code)),
         Err(HttpError::TooLong) => Err(bad_reply(ReplyKind::TooLong)),
-        Err(HttpError::Memory) => Err(SyncError::Memory),
+        Err(HttpError::Memory) => Err(AskError::Memory),
         Err(HttpError::Path) => unreachable!(),
     }
 }
 
-fn bad_status(code: u16) -> SyncError
-    ensures { result ≡ errors.Reply (kinds.Status code) }
+fn bad_status(code: u16) -> AskError
+    ensures { result ≡ asking.Reply (kinds.Status code) }
 {
     bad_reply(ReplyKind::Status { code })
 }
 
-fn bad_reply(kind: ReplyKind) -> SyncError
-    ensures { result ≡ errors.Reply kind }
+fn bad_reply(kind: ReplyKind) -> AskError
+    ensures { result ≡ asking.Reply kind }
 {
-    SyncError::Reply { kind }
+    AskError::Reply { kind }
 }
 
 #[cfg(test)]

@@ -17,6 +17,7 @@ ghost use Rattle.tw_sync.specs.Sync.{told, RecordsOfSync, LeavesEnd, HeardEnd};
 ghost use Rattle.tw_sync.specs.Honest.{HonestRefused, CanSync, IsWant};
 ghost use Rattle.tw_sync.specs.Resuming.{WasAdded, SendsLater};
 ghost use Rattle.tw_model.specs.declared.SyncOp.{SyncOp};
+ghost use Rattle.tw_sync.specs.Synced.{AnyEnd, DoneEnd, RefusedEnd};
 ghost use Rattle.tw_sync.specs.Keeping.{moved_state, IsMovedTo, IsNotMoved};
 ghost use Rattle.tw_sync.specs.declared.error.SyncError.TheVariants as errors;
 
@@ -27,7 +28,7 @@ use crate::report::SyncReport;
 use std::alloc::Global;
 use tw_http::Link;
 use tw_journal::JournalError;
-use tw_replica::{Replica, ReplicaError};
+use tw_replica::{RecordError, Replica};
 use tw_world::Disk;
 use uuid::Uuid;
 
@@ -74,6 +75,27 @@ pub fn sync<D: Disk, L: Link>(
     if replica.is_closed() {
         return Err(SyncError::Journal(JournalError::Closed));
     }
+    meet_and_move(alloc, replica, disk, link, client, host)
+}
+
+// A sync of an open replica: meets the chain, and moves the replica to where it ended.
+fn meet_and_move<D: Disk, L: Link>(
+    alloc: Global,
+    replica: &mut Replica,
+    disk: &mut D,
+    link: &mut L,
+    client: Uuid,
+    host: &str,
+) -> Result<SyncReport, SyncError>
+    requires host { IsHost host.now }
+    requires open { is_closed replica.old.journal ≡ false }
+    requires length { IsLengthKept D.model replica.old disk.old }
+    ensures any { AnyEnd D.model L.model client replica.old replica.new disk.old disk.new link.old link.new }
+    ensures done { IfOk result (DoneEnd D.model L.model client host.now replica.old replica.new disk.old disk.new link.old link.new) }
+    ensures refused { IfErr result (RefusedEnd D.model L.model client host.now replica.old replica.new disk.old disk.new link.old link.new) }
+    ensures length { IsLengthKept D.model replica.new disk.new }
+    ensures kept { Kept D.model disk.old disk.new }
+{
     let mut place = Place::start(alloc, replica)?;
     let pending = place.left.len() as u64;
     let pushed = meet(alloc, link, client, host, &mut place)?;
@@ -93,7 +115,7 @@ fn stand_at<D: Disk>(
     replica: &mut Replica,
     disk: &mut D,
     place: Place,
-) -> Result<(), SyncError>
+) -> Result<(), RecordError>
     requires length { IsLengthKept D.model replica.old disk.old }
     requires open { is_closed replica.old.journal ≡ false }
     ensures moved { OnOk result (IsMovedTo D.model replica.old replica.new disk.old disk.new place (moved_state place (state_of replica.old.core))) }
@@ -107,9 +129,5 @@ fn stand_at<D: Disk>(
     }
     let base = place.at;
     let remote = place.into_remote();
-    match replica.finish_sync(alloc, disk, base, remote) {
-        Ok(()) => Ok(()),
-        Err(ReplicaError::Journal(error)) => Err(SyncError::Journal(error)),
-        Err(_) => Err(SyncError::Memory),
-    }
+    replica.finish_sync(alloc, disk, base, remote)
 }

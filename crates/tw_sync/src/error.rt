@@ -1,11 +1,14 @@
 // Why a sync is refused.
 ghost use Rattle.std.specs.Prelude.{◌≡◌};
 ghost use Rattle.tw_sync.specs.declared.error.SyncError.TheVariants.{Memory as NoMemory};
-ghost use Rattle.tw_sync.specs.Causes.{of_link};
+ghost use Rattle.tw_sync.specs.declared.error.AskError.TheVariants.{Memory as NoMemoryToAsk};
+ghost use Rattle.tw_sync.specs.declared.error.TakeError.TheVariants.{Memory as NoMemoryToTake};
+ghost use Rattle.tw_sync.specs.Causes.{of_link, of_ask, of_take, of_send, of_record};
 
 use std::alloc::AllocError;
 use tw_http::LinkError;
 use tw_journal::JournalError;
+use tw_replica::RecordError;
 use tw_world::Memory;
 use uuid::Uuid;
 
@@ -57,6 +60,72 @@ pub enum SyncError {
     Memory,
 }
 
+/// Why a question has no answer.
+#[derive(Clone, Copy, Debug, PartialEq, Eq, Drop)]
+pub enum AskError {
+    /// The way to the server failed.
+    Link,
+    /// The reply is none that a sync goes on from.
+    Reply { kind: ReplyKind },
+    /// There was no memory.
+    Memory,
+}
+
+/// Why a version is not taken.
+#[derive(Clone, Copy, Debug, PartialEq, Eq, Drop)]
+pub enum TakeError {
+    /// Its segment can't be read.
+    Segment { version: Uuid },
+    /// With its segment those that were pulled have that many bytes, which is more than 268,435,456.
+    TooLong { bytes: u64 },
+    /// There was no memory.
+    Memory,
+}
+
+/// Why what is left is not sent.
+#[derive(Clone, Copy, Debug, PartialEq, Eq, Drop)]
+pub enum SendError {
+    /// Its segment has that many bytes, which is more than 16,777,216.
+    TooLong { bytes: u64 },
+    /// There was no memory.
+    Memory,
+}
+
+impl From<LinkError> for AskError {
+    ghost from_gives = { λ error e. e ≡ of_link error };
+
+    fn from(error: LinkError) -> AskError {
+        match error {
+            LinkError::Failed => AskError::Link,
+            LinkError::Memory => AskError::Memory,
+        }
+    }
+}
+
+impl From<Memory> for AskError {
+    ghost from_gives = { λ _ e. e ≡ NoMemoryToAsk };
+
+    fn from(_: Memory) -> AskError {
+        AskError::Memory
+    }
+}
+
+impl From<Memory> for TakeError {
+    ghost from_gives = { λ _ e. e ≡ NoMemoryToTake };
+
+    fn from(_: Memory) -> TakeError {
+        TakeError::Memory
+    }
+}
+
+impl From<AllocError> for TakeError {
+    ghost from_gives = { λ _ e. e ≡ NoMemoryToTake };
+
+    fn from(_: AllocError) -> TakeError {
+        TakeError::Memory
+    }
+}
+
 impl From<Memory> for SyncError {
     ghost from_gives = { λ _ e. e ≡ NoMemory };
 
@@ -73,13 +142,48 @@ impl From<AllocError> for SyncError {
     }
 }
 
-impl From<LinkError> for SyncError {
-    ghost from_gives = { λ error e. e ≡ of_link error };
+impl From<AskError> for SyncError {
+    ghost from_gives = { λ error e. e ≡ of_ask error };
 
-    fn from(error: LinkError) -> SyncError {
+    fn from(error: AskError) -> SyncError {
         match error {
-            LinkError::Failed => SyncError::Link,
-            LinkError::Memory => SyncError::Memory,
+            AskError::Link => SyncError::Link,
+            AskError::Reply { kind } => SyncError::Reply { kind },
+            AskError::Memory => SyncError::Memory,
+        }
+    }
+}
+
+impl From<TakeError> for SyncError {
+    ghost from_gives = { λ error e. e ≡ of_take error };
+
+    fn from(error: TakeError) -> SyncError {
+        match error {
+            TakeError::Segment { version } => SyncError::Segment { version },
+            TakeError::TooLong { bytes } => SyncError::PullTooLong { bytes },
+            TakeError::Memory => SyncError::Memory,
+        }
+    }
+}
+
+impl From<SendError> for SyncError {
+    ghost from_gives = { λ error e. e ≡ of_send error };
+
+    fn from(error: SendError) -> SyncError {
+        match error {
+            SendError::TooLong { bytes } => SyncError::SegmentTooLong { bytes },
+            SendError::Memory => SyncError::Memory,
+        }
+    }
+}
+
+impl From<RecordError> for SyncError {
+    ghost from_gives = { λ error e. e ≡ of_record error };
+
+    fn from(error: RecordError) -> SyncError {
+        match error {
+            RecordError::Journal(error) => SyncError::Journal(error),
+            RecordError::Memory => SyncError::Memory,
         }
     }
 }

@@ -7,7 +7,7 @@ ghost use Rattle.tw_sync.specs.Progress.{HasPulled, IsStopped};
 ghost use Rattle.tw_sync.specs.Sending.{IsUnsent, Pushes, CountsConflict};
 
 use crate::ask::{AddAnswer, ask_add};
-use crate::error::SyncError;
+use crate::error::{SendError, SyncError};
 use crate::place::Place;
 use std::alloc::Global;
 use tw_http::Link;
@@ -54,7 +54,7 @@ pub(crate) fn push<L: Link>(
     }
 }
 
-fn text_to_send(alloc: Global, left: &Vec<SyncOp>) -> Result<Vec<u8>, SyncError>
+fn text_to_send(alloc: Global, left: &Vec<SyncOp>) -> Result<Vec<u8>, SendError>
     ensures text { IfOk result (λ v. v.items ≡ segment_text left.now.items) }
     ensures within { IfOk result (λ v. length v.items ≤ max_len) }
     ensures reads_back { IfOk result (λ v. IsSegment v.items left.now.items) }
@@ -62,7 +62,7 @@ fn text_to_send(alloc: Global, left: &Vec<SyncOp>) -> Result<Vec<u8>, SyncError>
 {
     match write_segment(alloc, left) {
         Ok(text) => Ok(text),
-        Err(SegmentError::TooLong { bytes }) => Err(SyncError::SegmentTooLong { bytes }),
-        Err(_) => Err(SyncError::Memory),
+        Err(SegmentError::TooLong { bytes }) => Err(SendError::TooLong { bytes }),
+        Err(_) => Err(SendError::Memory),
     }
 }

@@ -4,7 +4,7 @@ ghost use Rattle.tw_model.specs.Ops.{apply, apply_all, fit_part};
 ghost use Rattle.tw_transform.specs.Grid.{grid};
 ghost use Rattle.tw_sync.specs.Place.{TakesVersion, IsNotTaken};
 
-use crate::error::SyncError;
+use crate::error::TakeError;
 use crate::place::Place;
 use std::alloc::Global;
 use tw_model::{SyncOp, Tasks};
@@ -19,18 +19,18 @@ impl Place {
     /// Goes on to a version that is a child of this one.
     ///
     /// After a refusal the place is none.
-    pub fn take_version(&mut self, alloc: Global, id: Uuid, segment: &[u8]) -> Result<(), SyncError>
+    pub fn take_version(&mut self, alloc: Global, id: Uuid, segment: &[u8]) -> Result<(), TakeError>
         ensures taken { OnOk result (TakesVersion self.old self.new id segment.now) }
         ensures refused { IfErr result (λ e. IsNotTaken self.old id segment.now e) }
     {
         let bytes = self.bytes + segment.len() as u64;
         if bytes > MAX_PULL {
-            return Err(SyncError::PullTooLong { bytes });
+            return Err(TakeError::TooLong { bytes });
         }
         let mut ops = match read_segment(alloc, segment) {
             Ok(ops) => ops,
-            Err(SegmentError::Memory) => return Err(SyncError::Memory),
-            Err(_) => return Err(SyncError::Segment { version: id }),
+            Err(SegmentError::Memory) => return Err(TakeError::Memory),
+            Err(_) => return Err(TakeError::Segment { version: id }),
         };
         cross(alloc, &mut self.tasks, &mut self.left, &ops)?;
         self.remote.append(&mut ops)?;
