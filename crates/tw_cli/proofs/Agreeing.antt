@@ -36,7 +36,7 @@ use Rattle.tw_cli.specs.Agreement.{OpensAgreeing, AllAgree, AgreementStays}
 use Rattle.tw_cli.specs.declared.asked.Job.{Job}
 use Rattle.tw_cli.specs.declared.asked.Job.TheVariants.{Here, Sync}
 use Rattle.tw_cli.specs.declared.asked.LineError.{LineError}
-use Rattle.tw_cli.specs.declared.server.Server.{Server}
+use Rattle.tw_words.specs.declared.server.Server.{Server}
 use Rattle.tw_cli.specs.declared.cause.Cause.{Cause}
 use Rattle.tw_cli.specs.declared.cause.Cause.TheVariants.{Done, OutFault}
 use Rattle.tw_cli.proofs.Openings.{opens_one, leaves_either}

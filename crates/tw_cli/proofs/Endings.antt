@@ -15,7 +15,7 @@ use Rattle.tw_cli.specs.Cause.{end_of, open_cause, refusal_cause, carry_cause, j
 use Rattle.tw_cli.specs.Cause.End.{Failed}
 use Rattle.tw_cli.specs.Run.{NotCarried, GivesBy, Gives, EndsPrinting, IsDoneOrWant}
 use Rattle.tw_cli.specs.Syncing.{NotSynced, SyncGivesBy, SyncGives}
-use Rattle.tw_cli.specs.declared.server.Server.{Server}
+use Rattle.tw_words.specs.declared.server.Server.{Server}
 use Rattle.tw_cli.specs.declared.opening.OpenError.{OpenError}
 use Rattle.tw_cli.specs.declared.opening.OpenError.TheVariants as opening
 use Rattle.tw_cli.specs.declared.carry.CarryError.{CarryError}
@@ -33,7 +33,9 @@ open_fails (opening.Damaged offset) = refl
 open_fails opening.Memory = refl
 
 refusal_fails : (r : Refusal) → end_of (refusal_cause r) ≡ Failed
+refusal_fails refusal.NoMatch = refl
 refusal_fails refusal.NothingToUndo = refl
+refusal_fails (refusal.BadWords word kind) = refl
 refusal_fails (refusal.IdTaken uuid) = refl
 
 pub carry_fails : (e : CarryError) → end_of (carry_cause e) ≡ Failed

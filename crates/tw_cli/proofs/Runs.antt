@@ -1,5 +1,5 @@
 -- All that is known of a run, by what it asks for.
-use Rattle.std.proofs.Common.{◌≡◌, ◌⊎◌, inl, inr, refl, sym, subst, None, Result, Ok, Err, arith}
+use Rattle.std.proofs.Common.{◌≡◌, ◌∙◌, ap, ◌⊎◌, inl, inr, refl, sym, subst, None, Result, Ok, Err, arith}
 use Rattle.tw_world.specs.Disk.{DiskModel, Kept, Rose}
 use Rattle.tw_world.specs.Sink.{SinkModel}
 use Rattle.tw_world.specs.declared.ids.IdWords.{IdWords}
@@ -10,11 +10,14 @@ use Rattle.tw_sync.proofs.Served.{grows_same}
 use Rattle.tw_sync.specs.declared.error.ReplyKind.TheVariants.{Status}
 use Rattle.tw_sync.specs.Answers.{IsLinkKept}
 use Rattle.tw_http.specs.Link.{IsHonest}
+use Rattle.tw_words.specs.declared.word_error.WordError.TheVariants as wrong
 use Rattle.tw_commands.specs.declared.request.Request.{Request}
 use Rattle.tw_cli.specs.Run.{Gives, CanEnd, Draws, IsDoneOrWant}
 use Rattle.tw_cli.specs.Syncing.{SyncGives, CanBeSynced}
 use Rattle.tw_cli.specs.Crash.{LeavesBy, LeavesSync, next_of}
-use Rattle.tw_cli.specs.declared.server.Server.{Server}
+use Rattle.tw_words.specs.declared.server.Server.{Server}
+use Rattle.tw_cli.specs.Asked.{IsAsked}
+use Rattle.tw_cli.specs.Cause.{line_cause}
 use Rattle.tw_cli.specs.Whole.{went, IsRun}
 use Rattle.tw_cli.specs.declared.carry.CarryError.TheVariants as carry
 use Rattle.tw_cli.specs.declared.opening.OpenError.TheVariants as opening
@@ -22,9 +25,13 @@ use Rattle.tw_cli.specs.declared.syncing.SyncFailure.TheVariants as failure
 use Rattle.tw_cli.specs.declared.asked.Job.{Job}
 use Rattle.tw_cli.specs.declared.asked.Job.TheVariants.{Here, Sync}
 use Rattle.tw_cli.specs.declared.asked.LineError.{LineError}
+use Rattle.tw_cli.specs.declared.asked.LineError.TheVariants.{Words}
 use Rattle.tw_cli.specs.declared.cause.Cause.{Cause}
 use Rattle.tw_cli.specs.declared.cause.Cause.TheVariants.{Memory, BadReply}
 use Rattle.tw_cli.proofs.Openings.{leaves_as_it_was}
+
+same_error : (found : Result Job LineError) (a b : LineError) → found ≡ Err a → found ≡ Err b → a ≡ b
+same_error found a b is also = cc
 
 module _ {D O L : Type 0} (m : DiskModel D) (s : SinkModel O) (links : LinkModel L) where
   disk_same : (d : D) → Kept m d d
@@ -62,6 +69,22 @@ module _ {D O L : Type 0} (m : DiskModel D) (s : SinkModel O) (links : LinkModel
     kept = disk_same d;
     link_kept = link_same l;
   }
+
+  -- nothing is done
+  pub error_is_run : OnlyNow m → (asked : Result Job LineError) (error : LineError) (ids : IdWords) (d : D) (o : O) (l : L) (cause : Cause) → cause ≡ line_cause error → IsAsked asked (Err error)
+      → IsRun m s links asked ids ids (went d d o o l l) cause
+  error_is_run only_now asked error ids d o l cause is (inl refused) = subst (λ (a : Result Job LineError). IsRun m s links a ids ids (went d d o o l l) cause) refused (record {
+    gives = (inl is, refl, refl, refl);
+    complete = tt;
+    any_moment = leaves_as_it_was m only_now d;
+    grows = λ honest. grows_same (links.chain l);
+    ids = refl;
+    kept = disk_same d;
+    link_kept = link_same l;
+  })
+  error_is_run only_now asked error ids d o l cause is (inr want) =
+      let same : error ≡ Words wrong.Memory = same_error (Err error) error (Words wrong.Memory) refl want in
+      subst (IsRun m s links asked ids ids (went d d o o l l)) (sym (is ∙ ap line_cause same)) (want_is_run only_now asked ids d o l)
 
   -- a command is asked for
   pub command_is_run : (asked : Result Job LineError) (request : Request) (old new : IdWords) (d0 d1 : D) (o0 o1 : O) (l : L) (cause : Cause) → asked ≡ Ok (Here request)

@@ -1,47 +1,58 @@
--- What a command line asks for, in the order of the checks.
-use Rattle.std.specs.Prelude.{ℕ, List, map, string_bytes, String, Option, Some, None, Result, Ok, Err}
+-- What a command line asks for, in the order of the checks: the settings, the words that need no task, then the server.
+use Rattle.std.specs.Prelude.{◌≡◌, ◌⊎◌, ℕ, List, map, string_bytes, String, Option, Some, None, Result, Ok, Err}
 use Rattle.std.specs.Global.{Vec, Global}
-use Rattle.tw_http.specs.Messages.{IsHost}
+use Rattle.std.specs.Borrow.{Bor}
 use Rattle.tw_world.specs.declared.Moment.{Moment}
-use Rattle.tw_cli.specs.Words.{line_of}
-use Rattle.tw_cli.specs.Settings.{lines, first_bad}
-use Rattle.tw_cli.specs.Server.{server_in}
-use Rattle.tw_cli.specs.declared.server.Server.{Server}
-use Rattle.tw_cli.specs.declared.words.BadWord.{BadWord}
-use Rattle.tw_cli.specs.declared.words.Line.{Line}
-use Rattle.tw_cli.specs.declared.words.Line.TheVariants as line
+use Rattle.tw_time.specs.declared.zone.Zone.{Zone}
+use Rattle.tw_http.specs.Messages.{IsHost}
+use Rattle.tw_filter.specs.declared.token.Token.{Token}
+use Rattle.tw_words.specs.Lines.{Parts, parts_of_line}
+use Rattle.tw_words.specs.Settings.{Pair, settings_in}
+use Rattle.tw_words.specs.Servers.{server_set}
+use Rattle.tw_words.specs.Faults.{judged}
+use Rattle.tw_words.specs.declared.server.Server.{Server}
+use Rattle.tw_words.specs.declared.command.Command.{Command}
+use Rattle.tw_words.specs.declared.command.Command.TheVariants as command
+use Rattle.tw_words.specs.declared.word_error.WordError.{WordError}
+use Rattle.tw_words.specs.declared.word_error.WordError.TheVariants as wrong
+use Rattle.tw_commands.specs.declared.request.Request.{Request}
 use Rattle.tw_cli.specs.declared.asked.Job.{Job}
 use Rattle.tw_cli.specs.declared.asked.Job.TheVariants.{Here, Sync}
 use Rattle.tw_cli.specs.declared.asked.LineError.{LineError}
-use Rattle.tw_cli.specs.declared.asked.LineError.TheVariants.{Word, Setting, NoServer}
+use Rattle.tw_cli.specs.declared.asked.LineError.TheVariants.{Words, NoServer}
 
 -- a sync, where a server is known
 abbrev pub syncing : Option Server → Result Job LineError
 syncing None = Err NoServer
 syncing (Some server) = Ok (Sync server)
 
--- what a line asks for at a moment
-abbrev pub job_of : Option Server → Moment → Line → Result Job LineError
-job_of server now (line.Here command) = Ok (Here (record { command = command; at = now }))
-job_of server now line.Sync = syncing server
+-- what a request asks for, by its command: `sync` is with the server that its settings name, and every other command stays here
+abbrev pub job_by : Command → Request → Result Job LineError
+job_by command.Sync request = syncing (server_set request.settings)
+job_by _ request = Ok (Here request)
 
--- what the words ask for, or the word that is wrong
-abbrev pub job_read : Option Server → Moment → Result Line BadWord → Result Job LineError
-job_read server now (Err bad) = Err (Word bad)
-job_read server now (Ok line) = job_of server now line
+-- what a line asks for, once its words are judged
+abbrev pub job_judged : Parts → List Pair → Moment → Bor Zone → Result (List Token) WordError → Result Job LineError
+job_judged line settings now zone (Err error) = Err (Words error)
+job_judged line settings now zone (Ok filter) =
+    job_by line.command (record { line = line; filter = filter; settings = settings; at = now; zone = zone })
 
--- a job, unless a line of the settings is none
-abbrev pub unless_bad : Option ℕ → Result Job LineError → Result Job LineError
-unless_bad (Some n) job = Err (Setting n)
-unless_bad None job = job
+-- what a line asks for, once its settings are read
+abbrev pub job_set : Parts → Moment → Bor Zone → Result (List Pair) WordError → Result Job LineError
+job_set line now zone (Err error) = Err (Words error)
+job_set line now zone (Ok settings) = job_judged line settings now zone (judged line now.seconds zone.now)
 
--- what is asked for by these bytes of settings, or why nothing is done
-abbrev pub asked_in : (settings : List ℕ) → Moment → Result Line BadWord → Result Job LineError
-asked_in settings now read = unless_bad (first_bad 1 (lines settings)) (job_read (server_in settings) now read)
+-- what a line asks for with these bytes of settings, behind which its overrides count
+abbrev pub job_of : Parts → (settings : List ℕ) → Moment → Bor Zone → Result Job LineError
+job_of line settings now zone = job_set line now zone (settings_in settings line.overrides)
 
--- what is asked for by these words
-abbrev pub asked_by : Vec (String Global) → (settings : Vec ℕ) → Moment → Result Job LineError
-asked_by words settings now = asked_in settings.items now (line_of (map string_bytes words.items))
+-- what is asked for by these words, or why nothing is done
+unfoldable pub asked_by : Vec (String Global) → (settings : Vec ℕ) → Moment → Bor Zone → Result Job LineError
+asked_by words settings now zone = job_of (parts_of_line (map string_bytes words.items)) settings.items now zone
+
+-- this was found to be asked for, or memory ran out
+abbrev pub IsAsked : Result Job LineError → Result Job LineError → Type 0
+IsAsked asked found = (found ≡ asked) ⊎ (found ≡ Err (Words wrong.Memory))
 
 -- a sync names its server as a message may
 abbrev pub HasHost : Result Job LineError → Type 0

@@ -4,6 +4,7 @@ use Rattle.tw_journal.specs.declared.journal.JournalError.{JournalError}
 use Rattle.tw_journal.specs.declared.journal.JournalError.TheVariants as journal
 use Rattle.tw_sync.specs.declared.error.SyncError.{SyncError}
 use Rattle.tw_sync.specs.declared.error.SyncError.TheVariants as syncs
+use Rattle.tw_words.specs.declared.word_error.WordError.TheVariants as wrong
 use Rattle.tw_commands.specs.declared.refusal.Refusal.{Refusal}
 use Rattle.tw_commands.specs.declared.refusal.Refusal.TheVariants as refusal
 use Rattle.tw_cli.specs.declared.asked.LineError.{LineError}
@@ -15,7 +16,7 @@ use Rattle.tw_cli.specs.declared.carry.CarryError.TheVariants as carry
 use Rattle.tw_cli.specs.declared.syncing.SyncFailure.{SyncFailure}
 use Rattle.tw_cli.specs.declared.syncing.SyncFailure.TheVariants as failure
 use Rattle.tw_cli.specs.declared.cause.Cause.{Cause}
-use Rattle.tw_cli.specs.declared.cause.Cause.TheVariants.{Done, NothingToUndo, BadWords, BadSetting, NoServer, IdTaken, DiskFault, RecordTooLong, Memory, LinkFault, BadReply, Gone, Busy, OutOfSync, BadSegment, SegmentTooLong, PullTooLong, OutFault, Damaged}
+use Rattle.tw_cli.specs.declared.cause.Cause.TheVariants.{Done, NoMatch, NothingToUndo, BadWords, BadSetting, NoServer, IdTaken, DiskFault, RecordTooLong, Memory, LinkFault, BadReply, Gone, Busy, OutOfSync, BadSegment, SegmentTooLong, PullTooLong, OutFault, Damaged}
 
 -- how a run ends
 pub data End : Type 0 where
@@ -38,10 +39,11 @@ may_write OutFault = true
 may_write DiskFault = true
 may_write cause = false
 
--- the cause that an error becomes: of a line that is not read
+-- the cause that an error becomes: of words that ask for nothing
 abbrev pub line_cause : LineError → Cause
-line_cause (line.Setting n) = BadSetting n
-line_cause (line.Word bad) = BadWords bad.word bad.kind
+line_cause (line.Words (wrong.Setting n)) = BadSetting n
+line_cause (line.Words (wrong.Bad bad)) = BadWords bad.word bad.kind
+line_cause (line.Words wrong.Memory) = Memory
 line_cause line.NoServer = NoServer
 
 -- of a replica that is not opened
@@ -52,7 +54,9 @@ open_cause opening.Memory = Memory
 
 -- of a command that does nothing
 abbrev pub refusal_cause : Refusal → Cause
+refusal_cause refusal.NoMatch = NoMatch
 refusal_cause refusal.NothingToUndo = NothingToUndo
+refusal_cause (refusal.BadWords word kind) = BadWords word kind
 refusal_cause (refusal.IdTaken uuid) = IdTaken uuid
 
 -- of a command that is not carried out

@@ -1,21 +1,17 @@
 // What a command line asks for.
-ghost use Rattle.std.specs.Prelude.{◌≡◌, map, string_bytes, IfOk};
-ghost use Rattle.tw_cli.specs.Words.{line_of};
-ghost use Rattle.tw_cli.specs.Server.{server_in};
-ghost use Rattle.tw_cli.specs.Asked.{syncing, job_of, asked_by};
+ghost use Rattle.tw_cli.specs.Asked.{job_by, asked_by, IsAsked};
 
-use crate::server::{Server, server_in};
-use crate::settings::first_bad;
-use crate::words::{BadWord, Line, read_words};
 use std::alloc::Global;
 use tw_commands::Request;
+use tw_time::Zone;
+use tw_words::{Command, Server, WordError, cut_words, judge_line, read_settings};
 use tw_world::{Memory, Moment};
 
 /// What is to be done.
 #[derive(Drop)]
-pub(crate) enum Job {
+pub(crate) enum Job<'a> {
     /// A command that stays on this machine.
-    Here(Request),
+    Here(Request<'a>),
     /// A sync with a server.
     Sync(Server),
 }
@@ -23,53 +19,68 @@ pub(crate) enum Job {
 /// Why nothing is to be done.
 #[derive(Drop)]
 pub(crate) enum LineError {
-    /// The line of the settings with this number, from 1, is no setting.
-    Setting { line: u64 },
-    /// A word is outside the grammar.
-    Word(BadWord),
+    /// A setting or a word is wrong, or there was no memory to read them.
+    Words(WordError),
     /// The settings name no sync server, or no client.
     NoServer,
 }
 
-fn syncing(alloc: Global, settings: &[u8]) -> Result<Result<Job, LineError>, Memory>
-    ensures { IfOk result (λ job. job ≡ syncing (server_in settings.now)) }
-{
-    match server_in(alloc, settings)? {
-        Some(server) => Ok(Ok(Job::Sync(server))),
-        None => Ok(Err(LineError::NoServer)),
+impl From<WordError> for LineError {
+    ghost use Rattle.std.specs.Prelude.{◌≡◌};
+    ghost use Rattle.tw_cli.specs.declared.asked.LineError.TheVariants.{Words};
+
+    ghost from_gives = { λ error line. line ≡ Words error };
+
+    fn from(error: WordError) -> LineError {
+        LineError::Words(error)
     }
 }
 
-// What a line asks for.
-fn job_of(
-    alloc: Global,
-    line: Line,
-    settings: &[u8],
-    now: Moment,
-) -> Result<Result<Job, LineError>, Memory>
-    ensures { IfOk result (λ job. job ≡ job_of (server_in settings.now) now line) }
-{
-    match line {
-        Line::Here(command) => Ok(Ok(Job::Here(Request { command, at: now }))),
-        Line::Sync => syncing(alloc, settings),
+impl From<Memory> for LineError {
+    ghost use Rattle.std.specs.Prelude.{◌≡◌};
+    ghost use Rattle.tw_cli.specs.declared.asked.LineError.TheVariants.{Words};
+    ghost use Rattle.tw_words.specs.declared.word_error.WordError.TheVariants.{Memory as NoMemory};
+
+    ghost from_gives = { λ _ line. line ≡ Words NoMemory };
+
+    fn from(_: Memory) -> LineError {
+        LineError::Words(WordError::Memory)
     }
 }
 
-/// What the words ask for, or why nothing is done: a line of the settings that is none, the first word
-/// that is wrong, or a sync without a server.
-pub(crate) fn asked(
+// What a request asks for, whose words are good.
+fn job_by<'a>(alloc: Global, request: Request<'a>) -> Result<Job<'a>, LineError>
+    ensures { IsAsked (job_by request.entry.line.command request.entry) result }
+{
+    match request.line.command {
+        Command::Sync => match request.settings.server(alloc)? {
+            Some(server) => Ok(Job::Sync(server)),
+            None => Err(LineError::NoServer),
+        },
+        _ => Ok(Job::Here(request)),
+    }
+}
+
+/// What the words ask for, or why nothing is done: the first line of the settings that is none, the first word that is wrong whatever the
+/// tasks are, or a sync without a server.
+pub(crate) fn asked<'a>(
     alloc: Global,
     words: &Vec<String>,
     settings: &Vec<u8>,
     now: Moment,
-) -> Result<Result<Job, LineError>, Memory>
-    ensures { IfOk result (λ asked. asked ≡ asked_by words.now settings.now now) }
+    zone: &'a Zone,
+) -> Result<Job<'a>, LineError>
+    ensures { IsAsked (asked_by words.now settings.now now zone.entry) result }
 {
-    if let Some(line) = first_bad(settings.as_slice()) {
-        return Ok(Err(LineError::Setting { line }));
-    }
-    match read_words(alloc, words)? {
-        Ok(line) => job_of(alloc, line, settings.as_slice(), now),
-        Err(bad) => Ok(Err(LineError::Word(bad))),
-    }
+    let line = cut_words(alloc, words)?;
+    let settings = read_settings(alloc, settings.as_slice(), &line.overrides)?;
+    let filter = judge_line(alloc, &line, now, zone)?;
+    let request = Request {
+        line,
+        filter,
+        settings,
+        at: now,
+        zone,
+    };
+    job_by(alloc, request)
 }

@@ -32,7 +32,7 @@ pub(crate) enum CarryError {
 // one record, for which all memory has been taken before.
 fn carry_out<D: Disk>(
     alloc: Global,
-    request: &Request,
+    request: &Request<'_>,
     ids: &mut IdWords,
     disk: &mut D,
 ) -> Result<Vec<u8>, CarryError>
@@ -65,7 +65,7 @@ fn carry_out<D: Disk>(
 /// Carries a command out, and prints its text.
 pub(crate) fn run_command<D: Disk, O: Sink>(
     alloc: Global,
-    request: &Request,
+    request: &Request<'_>,
     ids: &mut IdWords,
     disk: &mut D,
     out: &mut O,

@@ -14,7 +14,8 @@ use crate::fault::tell;
 use crate::syncing::run_sync;
 use std::alloc::Global;
 use tw_http::Link;
-use tw_world::{Disk, IdWords, Memory, Moment, Sink};
+use tw_time::Zone;
+use tw_world::{Disk, IdWords, Moment, Sink};
 
 // Runs a command line, and tells of nothing.
 fn run_words<D: Disk, L: Link, O: Sink>(
@@ -22,57 +23,57 @@ fn run_words<D: Disk, L: Link, O: Sink>(
     words: &Vec<String>,
     settings: &Vec<u8>,
     now: Moment,
+    zone: &Zone,
     ids: &mut IdWords,
     disk: &mut D,
     link: &mut L,
     out: &mut O,
 ) -> Cause
-    ensures { IsRun D.model O.model L.model (asked_by words.now settings.now now) ids.old ids.new
+    ensures { IsRun D.model O.model L.model (asked_by words.now settings.now now zone.entry) ids.old ids.new
         (went disk.old disk.new out.old out.new link.old link.new) result }
 {
-    match asked(alloc, words, settings, now) {
-        Ok(Ok(Job::Here(request))) => run_command(alloc, &request, ids, disk, out),
-        Ok(Ok(Job::Sync(server))) => run_sync(alloc, &server, disk, link, out),
-        Ok(Err(error)) => Cause::from(error),
-        Err(Memory) => Cause::Memory,
+    match asked(alloc, words, settings, now, zone) {
+        Ok(Job::Here(request)) => run_command(alloc, &request, ids, disk, out),
+        Ok(Job::Sync(server)) => run_sync(alloc, &server, disk, link, out),
+        Err(error) => Cause::from(error),
     }
 }
 
-/// Does what `tw task` does with these words and settings, at this moment: reads the settings and the
-/// words, opens the replica that the disk holds, writes at most one record, prints to `out`, and tells of
-/// any other end than `Done` on `err`. The record is written before anything is printed. Only `sync` uses
-/// the link.
+/// Does what `tw task` does with these words and settings, at this moment in this zone: reads the settings, with the overrides
+/// among the words, and judges the words, opens the replica that the disk holds, writes at most one record, prints to `out`, and
+/// tells of any other end than `Done` on `err`. The record is written before anything is printed. Only `sync` uses the link.
 pub fn task_run<D: Disk, L: Link, O: Sink, E: Sink>(
     alloc: Global,
     words: &Vec<String>,
     settings: &Vec<u8>,
     now: Moment,
+    zone: &Zone,
     ids: &mut IdWords,
     disk: &mut D,
     link: &mut L,
     out: &mut O,
     err: &mut E,
 ) -> Outcome
-    ensures gives { RunGives D.model O.model L.model (asked_by words.now settings.now now) ids.old
+    ensures gives { RunGives D.model O.model L.model (asked_by words.now settings.now now zone.entry) ids.old
         (went disk.old disk.new out.old out.new link.old link.new) result.cause }
-    ensures complete { EndsWell D.model O.model L.model (asked_by words.now settings.now now) ids.old
+    ensures complete { EndsWell D.model O.model L.model (asked_by words.now settings.now now zone.entry) ids.old
         (went disk.old disk.new out.old out.new link.old link.new) result.cause }
-    ensures any_moment { RunLeaves D.model O.model L.model (asked_by words.now settings.now now) ids.old
+    ensures any_moment { RunLeaves D.model O.model L.model (asked_by words.now settings.now now zone.entry) ids.old
         (went disk.old disk.new out.old out.new link.old link.new) result.cause }
 
     // A replica that agrees with the server's chain agrees with it after each run.
-    ensures agrees { Tells D.model disk.old → IsHonestFor L.model (asked_by words.now settings.now now) link.old
+    ensures agrees { Tells D.model disk.old → IsHonestFor L.model (asked_by words.now settings.now now zone.entry) link.old
         → AgreementStays D.model L.model (went disk.old disk.new out.old out.new link.old link.new) result.cause }
-    ensures grows { ChainGrows D.model O.model L.model (asked_by words.now settings.now now)
+    ensures grows { ChainGrows D.model O.model L.model (asked_by words.now settings.now now zone.entry)
         (went disk.old disk.new out.old out.new link.old link.new) }
 
-    ensures ids { RunDraws D.model (asked_by words.now settings.now now) disk.old ids.old ids.new result.cause }
+    ensures ids { RunDraws D.model (asked_by words.now settings.now now zone.entry) disk.old ids.old ids.new result.cause }
     ensures told { Told E.model err.old err.new result.cause }
     ensures status { result.status ≡ status_of result.cause }
     ensures kept { Kept D.model disk.old disk.new }
     ensures link_kept { IsLinkKept L.model link.old link.new }
 {
-    let cause = run_words(alloc, words, settings, now, ids, disk, link, out);
+    let cause = run_words(alloc, words, settings, now, zone, ids, disk, link, out);
     tell(err, &cause);
     Outcome {
         status: status_of(&cause),
