@@ -14,7 +14,7 @@ ghost use Rattle.tw_server.specs.Server.{IsServerOn, drawn_id, is_closed, server
 ghost use Rattle.tw_server.specs.Ends.{end_of};
 ghost use Rattle.tw_server.specs.declared.serve.ServeEnd.TheVariants.{Closed};
 
-use crate::message::read_message;
+use crate::message::{MessageError, read_message};
 use crate::server::{Server, ServerError};
 use std::alloc::Global;
 use tw_http::{HttpError, Request, Response, write_response};
@@ -68,7 +68,8 @@ pub fn serve_one<P: Peer, D: Disk>(
     match read_message(alloc, peer) {
         Ok(Ok(request)) => serve_request(alloc, peer, disk, server, &request, ids),
         Ok(Err(error)) => send(alloc, peer, &refusal_of(error)),
-        Err(end) => end,
+        Err(MessageError::Peer) => ServeEnd::PeerFault,
+        Err(MessageError::Memory) => ServeEnd::Memory,
     }
 }
 

@@ -1,6 +1,6 @@
 // What no clause says: that a question comes to its answer, and that each kind of reply is met.
 use super::{AddAnswer, ChildAnswer, ask_add, ask_child};
-use crate::error::{ReplyKind, SyncError};
+use crate::error::{AskError, ReplyKind};
 use std::alloc::Global;
 use std::test::Fail;
 use tw_http::{Link, LinkError};
@@ -55,7 +55,7 @@ fn id(last: u8) -> Uuid {
 }
 
 // Asks for the version behind 1, where the server's reply is this one.
-fn ask_over(alloc: Global, reply: Option<&'static str>) -> Result<ChildAnswer, SyncError> {
+fn ask_over(alloc: Global, reply: Option<&'static str>) -> Result<ChildAnswer, AskError> {
     let mut link = link_of(reply);
     ask_child(alloc, &mut link, id(9), HOST, id(1))
 }
@@ -117,7 +117,7 @@ fn each_bad_reply_is_told_by_its_kind(rt: HostRuntime) -> Result<(), Fail> {
     for (reply, kind) in REFUSED {
         assert_eq!(rt;
             ask_over(rt.alloc(), Some(reply)).err(),
-            Some(SyncError::Reply { kind }),
+            Some(AskError::Reply { kind }),
             "{reply}"
         );
     }
@@ -138,7 +138,7 @@ fn get_child_version_is_answered(rt: HostRuntime) -> Result<(), Fail> {
     assert!(rt; matches!(ask_over(alloc, Some(none)), Ok(ChildAnswer::UpToDate)));
     let gone = "HTTP/1.1 410 Gone\r\nContent-Length: 0\r\n\r\n";
     assert!(rt; matches!(ask_over(alloc, Some(gone)), Ok(ChildAnswer::Gone)));
-    assert_eq!(rt; ask_over(alloc, None).err(), Some(SyncError::Link));
+    assert_eq!(rt; ask_over(alloc, None).err(), Some(AskError::Link));
     Ok(())
 }
 
@@ -165,7 +165,7 @@ fn add_version_is_answered(rt: HostRuntime) -> Result<(), Fail> {
     let mut link = link_of(Some(nil));
     assert_eq!(rt;
         ask_add(alloc, &mut link, id(9), HOST, id(1), Vec::new(alloc)),
-        Err(SyncError::Reply {
+        Err(AskError::Reply {
             kind: ReplyKind::Nil
         })
     );
