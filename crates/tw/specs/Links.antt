@@ -8,7 +8,7 @@ use Rattle.tw.specs.declared.failing_link.FailingLink.{FailingLink}
 abbrev pub counting : {L : Type 0} → (faults exchanges : L → ℕ) → LinkModel L
 counting faults exchanges = record { faults = faults; exchanges = exchanges; tells_list = λ l. false; list = λ l. []; tells_chain = λ l. false; client = λ l. []; chain = λ l. []; own = λ l. []; honest = λ l. false }
 
-abbrev pub tcp_model : {D C S : Type 0} → LinkModel (TcpLink D C S)
+abbrev pub tcp_model : {S T : Type 0} → LinkModel (TcpLink S T)
 tcp_model = counting (λ l. l.faults) (λ l. l.exchanges)
 
 -- each of its exchanges fails

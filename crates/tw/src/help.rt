@@ -1,26 +1,58 @@
 // What `tw --help` and `tw --version` print.
 
-/// What the program is, its first words, and where its data lies.
+/// What the program is, its commands, and where its data lies.
 pub const HELP: &str = "\
 tw keeps tasks and working hours, for people who use several machines.
 
 usage:
-  tw task add WORDS     add a task, with the words as its description
-  tw task undo          take the last command back that changed something
-  tw task count         print how many tasks there are
-  tw task export        print the tasks as JSON
-  tw task sync          exchange changes with the server that the settings name
+  tw task [FILTER] COMMAND [WORDS]
   tw server PORT FILE [COUNT]
                         serve syncs on a port of 127.0.0.1, with the history of
                         all clients in a file; end after COUNT connections
   tw --help             print this text
   tw --version          print the version
 
+commands that add tasks:
+  add WORDS             add a task; the words are its description and changes
+  log WORDS             add a task that is done
+  FILTER duplicate [WORDS]
+                        add copies of tasks, with changes
+
+commands that change tasks:
+  FILTER modify WORDS   change them
+  FILTER append TEXT    put a text behind the description
+  FILTER prepend TEXT   put a text before it
+  FILTER annotate TEXT  add a note
+  FILTER denotate TEXT  take a note with this text away
+  FILTER start          begin to work on them
+  FILTER stop           end that
+  FILTER done           complete them
+  FILTER delete         delete them
+  FILTER purge          take deleted ones out for good
+  undo                  take the last command back that changed something
+
+commands that show tasks:
+  [FILTER] count        print how many there are
+  [FILTER] ids          print their numbers
+  [FILTER] uuids        print their uuids
+  [FILTER] export       print them as JSON
+
+between machines:
+  sync                  exchange changes with the server that the settings name
+
+A change is a word as project:Home, due:tomorrow, priority:H, +tag or -tag, and
+every other word is of the description. A filter has numbers of tasks, uuids,
++tag, -tag, +PENDING and its kin, attributes as project:Home or
+due.before:eow, and words of the description, with and, or, xor, ! and brackets
+between them. Words behind -- are text.
+
 The tasks lie in the file replica.journal, in the folder that the variable
 TASKDATA names, or the setting data.location; without them in .task of the
 folder that HOME names. A folder that is not there is made, and so is the
-server's file. Settings are read from the file that TASKRC names; without it
-from .taskrc in the folder that HOME names:
+server's file. The variable TZ holds the time zone, as a rule of POSIX:
+CET-1CEST,M3.5.0,M10.5.0/3; without it the zone is UTC. Settings are read from
+the file that TASKRC names; without it from .taskrc in the folder that HOME
+names. A word rc.NAME=VALUE sets one for a run:
 
   sync.server.url=http://HOST:PORT
   sync.server.client_id=UUID

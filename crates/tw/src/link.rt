@@ -11,22 +11,20 @@ use tw_http::{Link, LinkError};
 /// A server by its host, a name or an address, and its port, with how many exchanges it was asked for and how many of
 /// them failed. Each exchange is a connection of its own. It tells nothing of what it brings.
 #[derive(Drop)]
-pub struct TcpLink<D: Dialer, C: Timer> {
-    dialer: D,
-    clock: C,
+pub struct TcpLink<S: Dialer + Timer> {
+    system: S,
     address: Address,
     exchanges: u64,
     faults: u64,
 }
 
-impl<D: Dialer, C: Timer> TcpLink<D, C> {
+impl<S: Dialer + Timer> TcpLink<S> {
     /// A link that was asked for no exchange.
-    pub fn new(dialer: D, clock: C, address: Address) -> TcpLink<D, C>
-        ensures { result ≡ record { dialer = dialer; clock = clock; address = address; exchanges = 0; faults = 0 } }
+    pub fn new(system: S, address: Address) -> TcpLink<S>
+        ensures { result ≡ record { system = system; address = address; exchanges = 0; faults = 0 } }
     {
         TcpLink {
-            dialer,
-            clock,
+            system,
             address,
             exchanges: 0,
             faults: 0,
@@ -34,7 +32,7 @@ impl<D: Dialer, C: Timer> TcpLink<D, C> {
     }
 }
 
-impl<D: Dialer, C: Timer + Copy> Link for TcpLink<D, C> {
+impl<S: Dialer + Timer + Copy> Link for TcpLink<S> {
     ghost use Rattle.tw.specs.Links.{tcp_model, none_told};
 
     ghost model = { tcp_model };
@@ -49,14 +47,15 @@ impl<D: Dialer, C: Timer + Copy> Link for TcpLink<D, C> {
         ensures failed { IsErrOf result LinkError.Failed → Rose self.old.faults self.new.faults }
 
         // A connection to the server's address got the request, and gave the reply.
-        ensures asked { OnOk result (Asked (D.is_of self.old.address.host self.old.address.port) D.leads_to C.has_shown D.Stream.contents D.Stream.remaining request.now reply.new.items) }
+        ensures asked { OnOk result (Asked (S.is_of self.old.address.host self.old.address.port) S.leads_to S.has_shown
+            S.Stream.contents S.Stream.remaining request.now reply.new.items) }
         ensures well { OnOk result (self.new.faults ≡ self.old.faults) }
     {
         self.exchanges = self.exchanges.saturating_add(1);
         let host = self.address.host.as_str();
         match ask(
-            &self.dialer,
-            self.clock,
+            &self.system,
+            self.system,
             host,
             self.address.port,
             request,
@@ -84,7 +83,7 @@ mod tests {
         let mut reply = Vec::new(alloc);
         for host in ["127.0.0.1", "no such host"] {
             let host = Text::from_str(alloc, host)?;
-            let mut link = TcpLink::new(&rt, &rt, Address { host, port: 1 });
+            let mut link = TcpLink::new(&rt, Address { host, port: 1 });
             assert_eq!(rt;
                 link.exchange(b"request", &mut reply),
                 Err(LinkError::Failed)

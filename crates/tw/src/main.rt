@@ -1,5 +1,5 @@
 //! The program `tw`: tasks and working hours from the command line.
-//! It hands the words, the clock, the random source, files, the standard streams and connections to
+//! It hands the words, the clock, the zone, the random source, files, the standard streams and connections to
 //! the calls of `tw_cli` and `tw_server`, and ends with the status that they give.
 #![tactic(auto)]
 
@@ -13,6 +13,7 @@ mod settings;
 mod start;
 mod store;
 mod task;
+mod zone;
 
 use help::{HELP, VERSION};
 use print::{print, tell};

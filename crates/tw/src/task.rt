@@ -5,15 +5,18 @@ use crate::link::TcpLink;
 use crate::settings::settings;
 use crate::start::{StartError, moment, seed};
 use crate::store::{folder, journal_path};
+use crate::zone::zone;
 use std::alloc::Global;
 use std::io::ErrorKind;
 use tw_cli::{link_address, task_run};
 use tw_files::{Busy, Stream, open_disk};
+use tw_time::Zone;
 use tw_world::{Disk, FailingDisk, IdWords, MemorySink, Moment};
 
 /// Does what the words behind `task` ask for, and gives the program's status. Nothing is opened or made for bad words or
-/// settings. Where the journal's file can't be opened, it works on a disk whose every call fails.
+/// settings; the zone is judged before both. Where the journal's file can't be opened, it works on a disk whose every call fails.
 pub fn run_task(rt: &HostRuntime, alloc: Global, words: &Vec<String>) -> Result<u8, StartError> {
+    let zone = zone(rt)?;
     let settings = settings(rt, alloc)?;
     let folder = folder(rt, alloc, &settings)?;
     let path = journal_path(alloc, folder.as_str())?;
@@ -21,14 +24,32 @@ pub fn run_task(rt: &HostRuntime, alloc: Global, words: &Vec<String>) -> Result<
     let seed = seed(rt)?;
     let mut ids = IdWords::from_seed(seed);
     let mut broken = FailingDisk::new();
-    if are_refused(alloc, words, &settings, now, seed)? {
-        return run_over(rt, alloc, words, &settings, now, &mut ids, &mut broken);
+    if are_refused(alloc, words, &settings, now, &zone, seed)? {
+        return run_over(
+            rt,
+            alloc,
+            words,
+            &settings,
+            now,
+            &zone,
+            &mut ids,
+            &mut broken,
+        );
     }
     let mut system = rt;
     match open_disk(&mut system, path.as_str(), Busy::Wait) {
-        Ok(mut disk) => run_over(rt, alloc, words, &settings, now, &mut ids, &mut disk),
+        Ok(mut disk) => run_over(rt, alloc, words, &settings, now, &zone, &mut ids, &mut disk),
         Err(error) if error.kind() == ErrorKind::OutOfMemory => Err(StartError::Memory),
-        Err(_) => run_over(rt, alloc, words, &settings, now, &mut ids, &mut broken),
+        Err(_) => run_over(
+            rt,
+            alloc,
+            words,
+            &settings,
+            now,
+            &zone,
+            &mut ids,
+            &mut broken,
+        ),
     }
 }
 
@@ -39,6 +60,7 @@ fn are_refused(
     words: &Vec<String>,
     settings: &Vec<u8>,
     now: Moment,
+    zone: &Zone,
     seed: [u8; 32],
 ) -> Result<bool, StartError> {
     let mut out = MemorySink::new(alloc, Vec::new(alloc), Vec::new(alloc))?;
@@ -48,6 +70,7 @@ fn are_refused(
         words,
         settings,
         now,
+        zone,
         &mut IdWords::from_seed(seed),
         &mut FailingDisk::new(),
         &mut FailingLink::new(),
@@ -64,22 +87,23 @@ fn run_over<D: Disk>(
     words: &Vec<String>,
     settings: &Vec<u8>,
     now: Moment,
+    zone: &Zone,
     ids: &mut IdWords,
     disk: &mut D,
 ) -> Result<u8, StartError> {
     let mut out = Stream::new(rt.stdout());
     let mut err = Stream::new(rt.stderr());
-    let outcome = match link_address(alloc, settings) {
+    let outcome = match link_address(alloc, words, settings) {
         Ok(Some(address)) => {
-            let mut link = TcpLink::new(rt, rt, address);
+            let mut link = TcpLink::new(rt, address);
             task_run(
-                alloc, words, settings, now, ids, disk, &mut link, &mut out, &mut err,
+                alloc, words, settings, now, zone, ids, disk, &mut link, &mut out, &mut err,
             )
         }
         Ok(None) => {
             let mut link = FailingLink::new();
             task_run(
-                alloc, words, settings, now, ids, disk, &mut link, &mut out, &mut err,
+                alloc, words, settings, now, zone, ids, disk, &mut link, &mut out, &mut err,
             )
         }
         Err(_) => return Err(StartError::Memory),
