@@ -4,7 +4,6 @@ mod statuses;
 use crate::{Ready, Refusal, Request, decide};
 use std::alloc::Global;
 use std::test::Fail;
-use tw_filter::WordKind;
 use tw_model::{Change, TaskMap};
 use tw_replica::Replica;
 use tw_time::Zone;
@@ -114,14 +113,14 @@ fn compare_all(
 }
 
 const BOUGHT: &str =
-    "[\n{\"annotation_1700000001\":\"two\",\"description\":\"Buy milk\",\"entry\":\"20231114T221320Z\",\"modified\":\"20231114T221320Z\",\"status\":\"pending\",\"urgency\":0.000,\"uuid\":\"00000000-0000-4000-8000-000000000001\"}\n]\n";
+    "[\n{\"annotations\":[{\"description\":\"two\",\"entry\":\"20231114T221321Z\"}],\"description\":\"Buy milk\",\"entry\":\"20231114T221320Z\",\"modified\":\"20231114T221320Z\",\"status\":\"pending\",\"urgency\":1.600,\"uuid\":\"00000000-0000-4000-8000-000000000001\"}\n]\n";
 
 const DAY: [(&str, &str); 24] = [
     ("add Buy milk", "Created task 1.\n"),
     ("1 annotate one", "Annotated 1 task.\n"),
     ("1 annotate two", "Annotated 1 task.\n"),
     ("1 denotate o", "Denotated 1 task.\n"),
-    ("export", BOUGHT),
+    ("rc.urgency.annotations.coefficient:2 export", BOUGHT),
     ("undo", "Undone 1 operation.\n"),
     ("1 denotate three", "NoMatch"),
     ("log Call Ann project:Home", "Logged task.\n"),
@@ -160,21 +159,6 @@ fn what_is_refused_says_why(rt: HostRuntime) -> Result<(), Fail> {
     let mut disk = empty_disk(alloc)?;
     let rows = [
         ("undo", Refusal::NothingToUndo),
-        (
-            "add x depends:1",
-            Refusal::BadWords {
-                word: 2,
-                kind: WordKind::Id,
-            },
-        ),
-        // a word that names no task comes before the selection
-        (
-            "9 modify depends:1",
-            Refusal::BadWords {
-                word: 2,
-                kind: WordKind::Id,
-            },
-        ),
         ("9 done", Refusal::NoMatch),
     ];
     for (line, wanted) in rows {

@@ -1,4 +1,6 @@
-pub mod Putting
 pub mod Lines
-pub mod Rows
 pub mod Texts
+pub mod Loops
+pub mod AnnotationRanks
+pub mod Numbers
+pub mod InOrder

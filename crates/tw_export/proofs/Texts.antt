@@ -1,7 +1,5 @@
--- Bytes that are text.
-use Rattle.std.specs.Prelude.{ℕ, List, Result, Ok, Err, MatchResult, IsOk, refl}
-use Rattle.std.specs.Str.{IsUtf8}
+-- What an answer that is Ok tells.
+use Rattle.std.proofs.Common.{◌≡◌, Result, Ok, MatchResult, subst}
 
-pub is_ok_text : {A E : Type 0} (P : A → Type 0) (R : E → Type 0) (bs : List ℕ) (r : Result A E) → IsUtf8 bs → MatchResult r P (λ e. ¬ (IsUtf8 bs) × R e) → IsOk r
-is_ok_text P R bs (Ok x) u m = refl
-is_ok_text P R bs (Err e) u m = absurd (m.0 u)
+pub of_ok : {A E : Type 0} (P : A → Type 0) (Q : E → Type 0) (r : Result A E) (x : A) → r ≡ Ok x → MatchResult r P Q → P x
+of_ok {A = A} {E = E} P Q r x e m = subst (λ (s : Result A E). MatchResult s P Q) e m

@@ -1,10 +1,13 @@
 //! Tasks as texts for other programs: the JSON of `task export`.
-//! The text is that of the chosen tasks alone, in byte order of their uuids; neither numbers nor pending operations change it.
-//! It stands on `tw_model`'s tasks, on `tw_text` and `tw_time` for numbers and moments, and on the kit's `json`.
+//! The text is that of the chosen tasks alone, in byte order of their uuids; neither numbers nor the zone change it.
+//! It stands on `tw_urgency` for status and urgency, on `tw_text` and `tw_time` for numbers and moments, and on the kit's `json`.
 #![tactic(auto)]
 
+mod annotations;
 mod export;
 mod members;
+mod own;
+mod property;
 #[cfg(test)]
 mod tests;
 

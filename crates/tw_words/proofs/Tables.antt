@@ -1,5 +1,5 @@
 -- Tables whose entries hold more than is asked of them.
-use Rattle.std.proofs.Common.{◌≡◌, ℕ, Bool, true, false, List, [], ◌∷◌, Option, Some, None, map, option_map, refl, if◌then◌else◌}
+use Rattle.std.proofs.Common.{◌≡◌, ℕ, Bool, true, false, List, [], ◌∷◌, Some, map, option_map, refl, if◌then◌else◌}
 use Rattle.tw_time.specs.Tables.{same_text, look_up}
 
 -- what is asked of the entry found is the entry of the table of what is asked

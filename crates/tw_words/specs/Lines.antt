@@ -1,5 +1,5 @@
 -- Command lines and their parts.
-use Rattle.std.specs.Prelude.{ℕ, ◌<◌, All, ◌+◌, ◌==◌, cond, List, [], ◌∷◌, ◌++◌, Option, Some, None, nat_eq, nat_lt, length, drop, codes}
+use Rattle.std.specs.Prelude.{ℕ, ◌<◌, All, ◌+◌, cond, List, [], ◌∷◌, ◌++◌, Option, Some, None, nat_eq, nat_lt, length, drop, codes}
 use Rattle.std.specs.List.{starts_with}
 use Rattle.tw_model.specs.Maps.{same_bytes}
 use Rattle.tw_filter.specs.Cuts.{parted}

@@ -12,7 +12,7 @@ use tw_export::export_text;
 use tw_replica::Replica;
 use tw_world::Memory;
 
-/// What `export` is to do (task(1), "export").
+/// What `export` is to do (task(1), "export"). Urgency is weighed as the settings say.
 pub(crate) fn exporting(
     alloc: Global,
     request: &Request<'_>,
@@ -21,6 +21,7 @@ pub(crate) fn exporting(
     ensures { IfOk result (λ plan. plan_view plan ≡ spec.exporting request.now (held_state replica.now)) }
 {
     let rows = selected(alloc, request, replica)?;
-    let text = export_text(alloc, &rows, replica.tasks())?;
+    let weights = request.settings.weights();
+    let text = export_text(alloc, &rows, replica.tasks(), request.at, &weights)?;
     Ok(looking(alloc, text))
 }

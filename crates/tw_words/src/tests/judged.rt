@@ -20,10 +20,11 @@ append|x > 0 NoFilter
 add|due:never > 0 Missing
 add|x|recur:weekly > 0 Missing
 add|x|recur:weekly|due:1d|due: > 0 Missing
-add|x|recur:weekly|due:never > 3 Date
-add|x|recur:often|due:1d > 2 Value
-add|x|recur:weekly|due:1d > right
-add|x|recur:|due: > right
+add|x|recur:weekly|due:never > 2 Unbuilt
+add|x|due:never|recur:weekly > 2 Date
+add|x|recur:often|due:1d > 2 Unbuilt
+add|x|recur:|due: > 2 Unbuilt
+add|x|--|recur:weekly > right
 log|x|recur:weekly > 2 Attribute
 x|add|y > 0 Extra
 1|done|x > 2 Extra
@@ -41,11 +42,14 @@ add|description: > 1 Value
 add| > 1 Value
 add|description:x| > 2 Value
 add|| > right
-1|modify|depends:0 > 2 Value
-1|modify|depends:1-3 > 2 Value
-1|modify|depends:1,,2 > 2 Value
-1|modify|depends:- > 2 Value
-1|modify|depends:99 > right
+1|modify|depends:0 > 2 Unbuilt
+1|modify|depends:99|due:never > 2 Unbuilt
+1|modify|priority:X|depends: > 2 Value
+1|duplicate|x|depends:-1 > 3 Unbuilt
+log|x|depends:1 > 2 Unbuilt
+1|annotate|depends:1 > right
+depends:1|modify|x > right
+depends:1|recur.any:|count|depends:2 > right
 1|modify|project.is:x > right
 1|modify|--|+PENDING|-- > right
 1|annotate|+PENDING|due:never > right
@@ -82,7 +86,7 @@ fn the_first_bad_word_is_named(rt: HostRuntime) -> Result<(), Fail> {
         let judged = text_of(alloc, judge_line(alloc, &line, NOW, &Zone::utc()))?;
         assert_eq!(rt; judged.as_str(), want, "{row}");
     }
-    assert_eq!(rt; ROWS.split('\n').count(), 54);
+    assert_eq!(rt; ROWS.split('\n').count(), 58);
     Ok(())
 }
 

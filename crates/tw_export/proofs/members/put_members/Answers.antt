@@ -1,32 +1,42 @@
-use Rattle.std.proofs.Common.{◌≤◌, ◌-◌, ◌++◌, ◌∷◌, [], length, take, drop, codes, sym, ap, ◌∙◌, refl, arith}
-use Rattle.std.specs.FinMap.{entries, len-entries}
-use Rattle.json.specs.Token.{string, number}
-use Rattle.json.specs.Word.{after_number}
-use Rattle.uuid.specs.Text.{hyphenated_text, lower}
-use Rattle.tw_model.proofs.Sorted.{on_ok}
-use Rattle.tw_export.specs.Export.{plain_members, member_tokens}
-use Rattle.tw_export.proofs.Putting.{all_written, placed}
+use Rattle.std.proofs.Common.{◌≡◌, ◌+◌, ◌++◌, drop, sym, ap, ◌∙◌, arith}
+use Rattle.std.proofs.lemmas.List.{append_assoc}
+use Rattle.std.specs.FinMap.{entries}
+use Rattle.tw_model.proofs.Sorted.{on_ok, entries_end}
+use Rattle.tw_export.specs.Export.{own_tokens, own_below, own_from, property_tokens, in_order}
+use Rattle.tw_export.specs.Owns.{owns_in}
+use Rattle.tw_export.specs.declared.members.Subject.{Subject}
+use Rattle.tw_export.proofs.Loops.{entry_here}
 use Rattle.tw_export.proofs.members.put_members.Goals as goal
 
-pub number-requires : goal.number-requires
-unfolding after_number
-number-requires c = refl
+pub loop-n-preserved : goal.loop-n-preserved
+loop-n-preserved c =
+    let s : Subject = c.args.subject.now in
+    let m = c.args.subject.now.task.now in
+    let k = c.key.result.now in
+    let v = c.value.result.now in
+    let owns = owns_in s c.loop-n.next in
+    let rest = drop (c.loop-n.n + 1) (entries m) in
+    let t0 = c.loop-n.writer.tokens in
+    let below = own_tokens (own_below k owns) in
+    let here = property_tokens m c.args.second (k, v) in
+    let later = in_order m c.args.second (own_from k owns) rest in
+    let is : c.put_property.new.writer.tokens ≡ (t0 ++ below) ++ here =
+    c.in_ok-put_property.ensures.written ∙ (λ i. c.in_ok-put_own_below.ensures.written i ++ property_tokens m c.args.second (same i, v)) in record {
+      few = c.put_own_below.ensures.few;
+      written =
+          (λ i. is i ++ in_order m c.args.second (c.in_ok-put_own_below.ensures.left i) rest)
+          ∙ append_assoc (t0 ++ below) here later ∙ append_assoc t0 below (here ++ later)
+          ∙ ap (λ es. t0 ++ in_order m c.args.second owns es) (sym (entry_here m c.loop-n.n k v (omega (arith, c.loop-n-test.true, c.len-n-end.ensures)) c.key.ensures c.value.ensures))
+          ∙ c.loop-n.invariant.written;
+      before = c.put_property.ensures.before ∙ c.put_own_below.ensures.before ∙ c.loop-n.invariant.before;
+    }
+  where
+    same : c.key-in-loop-n.result.now ≡ c.key.result.now
+    same = c.key-in-loop-n.ensures ∙ sym c.key.ensures
 
 pub returns-clause-written : goal.returns-clause-written
 returns-clause-written c =
-    let es = entries c.args.task.now in
-    let a = c.end_below-at_urgency.result in
-    let b = c.end_below-at_uuid.result in
-    let n = c.len.result in
-    let long : length es ≤ n = omega (arith, len-entries c.args.task.now) in
-    let v = number (codes "0.000") in
-    let w = string (hyphenated_text lower c.args.uuid) in
-    let old = c.args.writer.now.tokens in
-    let t5 = c.key-2.new.self.tokens in
-    on_ok c.put_plain-3.result (λ e7.
-    all_written old c.put_plain.new.writer.tokens c.key.new.self.tokens c.number.new.self.tokens c.put_plain-2.new.writer.tokens t5 c.string.new.self.tokens c.put_plain-3.new.writer.tokens
-    (codes "urgency") (codes "uuid") v w (plain_members (take (a - 0) es)) (plain_members (take (b - a) (drop a es))) (plain_members (take (n - b) (drop b es)))
-    c.in_ok-put_plain.ensures.written c.in_ok-key.ensures.ok c.in_ok-number.ensures.ok c.in_ok-put_plain-2.ensures.written c.in_ok-key-2.ensures.ok
-    (c.in_ok-string.ensures.ok ∙ ap (λ x. t5 ++ string x ∷ []) (c.encode_lower.ensures.text ∙ ap (hyphenated_text lower) c.hyphenated.ensures)) e7
-    ∙ ap (λ ms. old ++ member_tokens ms) (sym (placed es a b n (codes "urgency") (codes "uuid") v w c.end_below-at_uuid.ensures.low long refl refl refl
-    c.end_below-at_urgency.ensures.below c.end_below-at_urgency.ensures.above c.end_below-at_uuid.ensures.below c.end_below-at_uuid.ensures.above))) c.put_plain-3.ensures.written
+    let s : Subject = c.args.subject.now in
+    on_ok c.put_rest.result (λ e. e
+    ∙ ap (λ es. c.loop-n.writer.tokens ++ in_order c.args.subject.now.task.now c.args.second (owns_in s c.loop-n.next) es) (sym (entries_end c.args.subject.now.task.now c.loop-n.n (omega (arith, c.loop-n-test.false, c.len-n-end.ensures))))
+    ∙ c.loop-n.invariant.written) c.put_rest.ensures.written

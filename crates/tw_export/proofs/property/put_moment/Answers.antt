@@ -1,6 +1,6 @@
 use Rattle.std.proofs.lemmas.Str.{IsUtf8-from_ascii}
-use Rattle.tw_export.proofs.Texts.{is_ok_text}
-use Rattle.tw_export.proofs.members.put_moment.Goals as goal
+use Rattle.tw_text.proofs.AsciiFacts.{is_ok_text}
+use Rattle.tw_export.proofs.property.put_moment.Goals as goal
 
 pub unwrap-requires : goal.unwrap-requires
 unwrap-requires c = is_ok_text _ _ c.print_basic-text.result c.from_utf8.result (IsUtf8-from_ascii c.print_basic-text.result c.print_basic-text.ensures.ascii) c.from_utf8.ensures.cases
