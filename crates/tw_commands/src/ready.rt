@@ -26,8 +26,8 @@ pub struct Ready {
     pub text: Vec<u8>,
 }
 
-// Makes the changes of a command in memory.
-fn make_changes(
+/// Makes the changes of a command in memory.
+pub(crate) fn make_changes(
     alloc: Global,
     replica: Replica,
     changes: Vec<Change>,

@@ -64,7 +64,9 @@ fn decided(
     let Ok(settings) = read_settings(alloc, &Vec::new(alloc), &line.overrides) else {
         return Err(Fail::new("a wrong setting"));
     };
-    let replica = opened(alloc, disk)?;
+    let Ok(replica) = Replica::open(alloc, disk) else {
+        return Err(Fail::new("no replica"));
+    };
     let request = Request {
         line,
         filter,
@@ -153,22 +155,15 @@ fn each_command_has_its_text(rt: HostRuntime) -> Result<(), Fail> {
     Ok(())
 }
 
+const REFUSED: [(&str, &str); 2] = [("undo", "NothingToUndo"), ("9 done", "NoMatch")];
+
 #[test]
-fn what_is_refused_says_why(rt: HostRuntime) -> Result<(), Fail> {
+fn what_is_refused_draws_nothing(rt: HostRuntime) -> Result<(), Fail> {
     let alloc = rt.alloc();
     let mut disk = empty_disk(alloc)?;
-    let rows = [
-        ("undo", Refusal::NothingToUndo),
-        ("9 done", Refusal::NoMatch),
-    ];
-    for (line, wanted) in rows {
-        let mut ids = ids_from(1);
-        match decided(alloc, line, NOW, &mut ids, &mut disk)? {
-            Err(refusal) => assert_eq!(rt; refusal, wanted),
-            Ok(_) => return Err(Fail::new(line)),
-        }
-        assert_eq!(rt; ids.start, 1);
-    }
+    let mut ids = ids_from(1);
+    compare_all(alloc, &mut ids, &mut disk, &REFUSED)?;
+    assert_eq!(rt; ids.start, 1);
     Ok(())
 }
 

@@ -1,5 +1,6 @@
 // Each command over a task of each status.
 use super::*;
+use crate::ready::make_changes;
 
 // Tasks that are pending, waiting, completed, deleted, recurring, and of another status.
 const TASKS: [&str; 6] = [
@@ -40,14 +41,16 @@ fn task_of(alloc: Global, text: &str) -> Result<TaskMap, Fail> {
 // A disk with a task of the uuid that is drawn of 1.
 fn disk_with(alloc: Global, text: &str) -> Result<MemoryDisk, Fail> {
     let mut disk = empty_disk(alloc)?;
-    let mut editing = opened(alloc, &mut disk)?.edit(alloc);
     let mut changes = Vec::new(alloc);
     changes.push(Change {
         uuid: uuid_of(1),
         task: Some(task_of(alloc, text)?),
     })?;
-    editing.make(alloc, changes, moment(1)?)?;
-    match editing.prepare(alloc, false)?.write(&mut disk) {
+    let Ok(replica) = Replica::open(alloc, &mut disk) else {
+        return Err(Fail::new("no replica"));
+    };
+    let prepared = make_changes(alloc, replica, changes, moment(1)?, false)?;
+    match prepared.write(&mut disk) {
         Ok(_) => Ok(disk),
         Err(_) => Err(Fail::new("not written")),
     }
