@@ -1,14 +1,16 @@
 #!/usr/bin/env python3
 """Times `tw task` beside Taskwarrior's `task` on the same tasks, and compares their peak memory.
 
-    bench/run.py [--tw PATH] [--task PATH] [--sizes 1000,10000,50000] [--runs 9] [--per-record 1] [--synced]
+    bench/run.py [--tw PATH] [--task PATH] [--sizes 1000,10000,50000] [--runs 9] [--per-record 1] [--synced] [--commands add,count]
 
 For each number of tasks it builds a store for each program, as that many `add`s leave it: a journal,
 in the format that docs/FORMATS.md gives, with `--per-record` tasks in each record, and Taskwarrior's
 `pending.data`, `undo.data` and `backlog.data`. With `--synced` the tasks came from a server, and there
 is nothing to undo: a journal of one sync, and Taskwarrior's `pending.data` alone.
-The runs of the two programs alternate. Each line gives the median of the wall time in milliseconds,
-the peak of resident memory of one more run in megabytes, and how many times less `tw` takes of each.
+The runs of the two programs alternate, and each changes something that is not changed yet: `modify` sets
+another project, `annotate` adds another note, `done` ends another task, and `modify-all` changes every task.
+Each line gives the median of the wall time in milliseconds, the peak of resident memory of one more run in
+megabytes, and how many times less `tw` takes of each.
 Memory is measured by GNU time (Debian's package time), and left out where that is not there.
 Without `task` on the machine (Debian's package taskwarrior), it measures `tw` alone.
 """
@@ -26,7 +28,18 @@ import tempfile
 import time
 
 FIRST_SECOND = 1_700_000_000
-COMMANDS = ["add", "count", "export", "undo"]
+COMMANDS = {
+    "add": ["add", "Buy", "milk"],
+    "undo": ["undo"],
+    "modify": ["1", "modify", "project:p{turn}"],
+    "annotate": ["1", "annotate", "note", "{turn}"],
+    "done": ["{next}", "done"],
+    "modify-all": ["status:pending", "modify", "project:p{turn}"],
+    "count": ["count"],
+    "count-text": ["description.has:7", "count"],
+    "count-blocking": ["+BLOCKING", "count"],
+    "export": ["export"],
+}
 GNU_TIME = "/usr/bin/time"
 
 
@@ -143,6 +156,7 @@ class Program:
     def __init__(self, argv, environment):
         self.argv = argv
         self.environment = environment
+        self.turn = 0
 
     def run(self, words, wrapper=()):
         """The wall time in milliseconds."""
@@ -165,7 +179,8 @@ class Program:
         """One run of a command. An undo takes back an add that is not measured."""
         if command == "undo":
             self.run(["add", "to", "be", "undone"])
-        words = {"add": ["add", "Buy", "milk"]}.get(command, [command])
+        self.turn += 1
+        words = [word.format(turn=self.turn, next=self.turn + 1) for word in COMMANDS[command]]
         return self.run(words, wrapper)
 
     def peak(self, command, folder):
@@ -191,7 +206,7 @@ def programs(arguments, folder, number):
         write_data(task_store, number, not arguments.synced)
         settings = os.path.join(folder, "taskrc")
         with open(settings, "w", encoding="utf-8") as file:
-            file.write("confirmation=no\n")
+            file.write("confirmation=no\nbulk=0\nrecurrence.confirmation=no\n")
         found.append(Program([arguments.task], dict(base, TASKDATA=task_store, TASKRC=settings)))
     return found
 
@@ -209,7 +224,7 @@ def compare(arguments, number):
 
 
 def show(number, command, walls, peaks):
-    cells = [f"{number:>6} {command:<7}"]
+    cells = [f"{number:>6} {command:<14}"]
     for wall, peak in zip(walls, peaks):
         memory = f"{peak:>7.1f} MB" if peak else "          "
         cells.append(f"{wall:>9.1f} ms {memory}")
@@ -234,7 +249,7 @@ def main():
     arguments.commands = arguments.commands.split(",")
     if not os.access(arguments.tw, os.X_OK):
         sys.exit(f"there is no program {arguments.tw}: build it by tools/build")
-    heads = [" tasks command", "            tw        "]
+    heads = [" tasks command       ", "            tw        "]
     if arguments.task:
         heads += ["           task       ", "  time   memory"]
     print(" | ".join(heads))
