@@ -1,12 +1,12 @@
 // Steps that are made in memory, and then written.
 ghost use Rattle.std.specs.Prelude.{◌≡◌, IfOk};
 
-use super::{ADDED, milk};
+use super::{ADDED, disk_of, milk};
 use crate::{Prepared, Replica, ReplicaError};
 use std::alloc::Global;
 use std::test::Fail;
 use tw_model::{Change, TaskMap};
-use tw_world::{Memory, MemoryDisk, Moment};
+use tw_world::{Memory, Moment};
 
 // The step by which the one task gets a status.
 fn with_status(
@@ -35,7 +35,7 @@ fn with_status(
 #[test]
 fn a_step_is_made_in_memory_and_then_written(rt: HostRuntime) -> Result<(), Fail> {
     let alloc = rt.alloc();
-    let mut disk = MemoryDisk::new(alloc, ADDED[..13].to_vec(alloc)?, Vec::new(alloc))?;
+    let mut disk = disk_of(alloc, &ADDED[..13])?;
     let replica = Replica::open(alloc, &mut disk)?;
     let prepared = with_status(alloc, replica, "pending", false)?;
     assert_eq!(rt; prepared.tasks().len(), 1);
@@ -45,6 +45,16 @@ fn a_step_is_made_in_memory_and_then_written(rt: HostRuntime) -> Result<(), Fail
     assert!(rt; prepared.write(&mut disk).is_ok());
     assert_eq!(rt; disk.bytes(), ADDED.as_slice());
     Ok(())
+}
+
+// How many places there are once the task has got a status, and how long the file is then.
+fn written(alloc: Global, status: &str, renumber: bool) -> Result<(usize, usize), ReplicaError> {
+    let mut disk = disk_of(alloc, &ADDED)?;
+    let replica = Replica::open(alloc, &mut disk)?;
+    let prepared = with_status(alloc, replica, status, renumber)?;
+    let places = prepared.numbers().len();
+    prepared.write(&mut disk)?;
+    Ok((places, disk.bytes().len()))
 }
 
 // Each row is a status that the pending task gets, whether the places are packed, how many there are then, and how many
@@ -59,12 +69,9 @@ fn a_step_that_changes_nothing_writes_nothing(rt: HostRuntime) -> Result<(), Fai
         ("completed", true, 0, 77),
     ];
     for (status, renumber, places, bytes) in table {
-        let mut disk = MemoryDisk::new(alloc, ADDED.to_vec(alloc)?, Vec::new(alloc))?;
-        let replica = Replica::open(alloc, &mut disk)?;
-        let prepared = with_status(alloc, replica, status, renumber)?;
-        assert_eq!(rt; prepared.numbers().len(), places, "{status}");
-        assert!(rt; prepared.write(&mut disk).is_ok());
-        assert_eq!(rt; disk.bytes().len(), 94 + bytes, "{status}");
+        let (numbers, length) = written(alloc, status, renumber)?;
+        assert_eq!(rt; numbers, places, "{status}");
+        assert_eq!(rt; length, 94 + bytes, "{status}");
     }
     Ok(())
 }
@@ -72,7 +79,7 @@ fn a_step_that_changes_nothing_writes_nothing(rt: HostRuntime) -> Result<(), Fai
 #[test]
 fn the_last_group_is_taken_back_in_memory(rt: HostRuntime) -> Result<(), Fail> {
     let alloc = rt.alloc();
-    let mut disk = MemoryDisk::new(alloc, ADDED.to_vec(alloc)?, Vec::new(alloc))?;
+    let mut disk = disk_of(alloc, &ADDED)?;
     let prepared = Replica::open(alloc, &mut disk)?.take_back(alloc)?;
     assert_eq!(rt; prepared.tasks().len(), 0);
     assert_eq!(rt; prepared.pending().len(), 0);
@@ -81,7 +88,7 @@ fn the_last_group_is_taken_back_in_memory(rt: HostRuntime) -> Result<(), Fail> {
     assert!(rt; prepared.write(&mut disk).is_ok());
     assert_eq!(rt; disk.bytes().get(94..), Some([1, 0, 0, 0, 1, 2].as_slice()));
 
-    let mut disk = MemoryDisk::new(alloc, ADDED[..13].to_vec(alloc)?, Vec::new(alloc))?;
+    let mut disk = disk_of(alloc, &ADDED[..13])?;
     let replica = Replica::open(alloc, &mut disk)?;
     assert_eq!(rt;
         replica.take_back(alloc).err(),
