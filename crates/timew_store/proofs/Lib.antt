@@ -25,4 +25,6 @@ pub mod Seating
 pub mod Late
 pub mod FirstSpot
 pub mod AsTheyStand
+pub mod MonthTexts
+pub mod Changing
 pub mod GatheredLines

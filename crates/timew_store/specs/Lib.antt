@@ -6,6 +6,7 @@ pub mod Line
 pub mod Month
 pub mod Rows
 pub mod Gathered
+pub mod Kept
 pub mod Months
 pub mod Undoing
 pub mod Loading

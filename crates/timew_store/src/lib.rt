@@ -4,6 +4,7 @@
 #![tactic(auto)]
 
 mod body;
+mod changes;
 mod fields;
 mod files;
 mod gathering;
@@ -19,6 +20,7 @@ mod order;
 mod record;
 mod rows;
 mod tail;
+mod texts;
 mod write;
 mod writing;
 

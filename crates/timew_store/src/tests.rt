@@ -184,7 +184,7 @@ fn told(alloc: Global, january: &str, february: &str) -> Result<String, Fail> {
     match read_rows(alloc, &files) {
         Ok(rows) => {
             for row in rows.as_slice() {
-                let start = row.start - 1_767_603_600;
+                let start = row.start.checked_sub(1_767_603_600).ok_or("too early")?;
                 told.push_str(format!(in alloc; "{start} ")?.as_str())?;
             }
         }

@@ -1,0 +1,114 @@
+// What becomes of the month files when intervals are to stand in them.
+ghost use Rattle.std.specs.Prelude.{◌≡◌, ◌++◌, ◌∷◌, [], ℕ, List, true, map, OnOk, IfOk};
+ghost use Rattle.std.specs.List.{flat_map, AllByRecursion};
+ghost use Rattle.tw_world.specs.Folder.{Files, same_bytes, add_name};
+ghost use Rattle.timew_store.specs.Body.{is_month_name, names_rise};
+ghost use Rattle.timew_store.specs.Gathered.{files_of, months_in};
+ghost use Rattle.timew_store.specs.Interval.{AreRows};
+ghost use Rattle.timew_store.specs.Kept.{bytes_in, text_in, names_in, with_names, one_change};
+ghost use Rattle.timew_store.specs.Months.{changes_to};
+ghost use Rattle.timew_store.specs.Writable.{IsWritable};
+ghost use Rattle.timew_store.specs.Writing.{changes_of};
+
+use crate::files::MonthFile;
+use crate::intervals::Intervals;
+use crate::tail::add_tag;
+use crate::texts::texts_of;
+use crate::write::NewFile;
+use std::alloc::Global;
+use tw_world::{Memory, Text};
+
+fn has_name(file: &MonthFile, name: &Text) -> bool
+    ensures { result ≡ same_bytes file.now.name name.now }
+{
+    file.name.as_str() == name.as_str()
+}
+
+// The names of these files.
+fn names_of(alloc: Global, files: &Vec<MonthFile>) -> Result<Vec<Text>, Memory>
+    ensures { IfOk result (λ names. names.items ≡ names_in (files_of files.now.items)) }
+{
+    let mut names = Vec::with_capacity(alloc, files.len())?;
+    for file in files {
+        names.push(file.name.copy(alloc)?)?;
+    }
+    Ok(names)
+}
+
+// The names of the files that are there or get an interval, in byte order.
+fn all_names(
+    alloc: Global,
+    kept: &Vec<MonthFile>,
+    months: &Vec<MonthFile>,
+) -> Result<Vec<Text>, Memory>
+    ensures { IfOk result (λ names. names.items ≡ with_names (files_of months.now.items) (names_in (files_of kept.now.items))) }
+{
+    let mut names = names_of(alloc, kept)?;
+    for month in months {
+        add_tag(alloc, &mut names, month.name.as_str())?;
+    }
+    Ok(names)
+}
+
+/// The bytes under a name. Where there is none of that name there are none.
+pub(crate) fn bytes_in<'a>(files: &'a Vec<MonthFile>, name: &Text) -> &'a [u8]
+    ensures { result.now ≡ bytes_in (files_of files.now.items) name.now }
+{
+    for file in files {
+        if has_name(file, name) {
+            return &file.bytes;
+        }
+    }
+    &[]
+}
+
+// The text for a name.
+fn text_in(alloc: Global, months: &Vec<MonthFile>, name: &Text) -> Result<Vec<u8>, Memory>
+    ensures { IfOk result (λ text. text.items ≡ text_in (files_of months.now.items) name.now) }
+{
+    let mut text = Vec::new(alloc);
+    for month in months {
+        if has_name(month, name) {
+            text.extend_from_slice(&month.bytes)?;
+        }
+    }
+    Ok(text)
+}
+
+// What becomes of one file, where its text differs.
+fn add_change(
+    alloc: Global,
+    kept: &Vec<MonthFile>,
+    months: &Vec<MonthFile>,
+    name: &Text,
+    changes: &mut Vec<NewFile>,
+) -> Result<(), Memory>
+    ensures { OnOk result (changes_of changes.new.items ≡ changes_of changes.old.items ++ one_change (files_of kept.now.items) (files_of months.now.items) name.now) }
+{
+    let old = bytes_in(kept, name);
+    let new = text_in(alloc, months, name)?;
+    if old != new.as_slice() {
+        let name = name.copy(alloc)?;
+        let old = old.to_vec(alloc)?;
+        changes.push(NewFile { name, old, new })?;
+    }
+    Ok(())
+}
+
+/// What becomes of each month file whose text differs, in byte order of the names.
+pub(crate) fn changes_to(
+    alloc: Global,
+    kept: &Vec<MonthFile>,
+    rows: &Intervals,
+) -> Result<Vec<NewFile>, Memory>
+    ensures changes { IfOk result (λ changes. (files : Files) → files_of kept.now.items ≡ months_in files → changes_of changes.items ≡ changes_to files rows.now) }
+    ensures writable { OnOk result (AllByRecursion IsWritable rows.now) }
+{
+    let months = texts_of(alloc, rows.as_slice())?;
+    let names = all_names(alloc, kept, &months)?;
+    let mut changes = Vec::new(alloc);
+    for name in &names {
+        add_change(alloc, kept, &months, name, &mut changes)?;
+    }
+    Ok(changes)
+}
