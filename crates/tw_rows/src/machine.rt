@@ -3,7 +3,10 @@
 use std::alloc::Global;
 use std::test::Fail;
 use tw_cli::{Outcome, task_run};
+use tw_model::TaskMap;
+use tw_replica::Replica;
 use tw_server::{Fate, LinkStep, MemoryLink};
+use tw_time::Zone;
 use tw_world::{IdWords, MemoryDisk, MemorySink, Moment};
 use uuid::Uuid;
 
@@ -48,6 +51,72 @@ pub fn moment(seconds: u64) -> Result<Moment, Fail> {
     }
 }
 
+/// What a run is given beside its words, its disk and its link.
+#[derive(Clone, Copy)]
+pub struct Given<'a> {
+    /// The first identifier that it draws.
+    pub first: u128,
+    pub second: u64,
+    pub zone: Zone,
+    pub settings: &'a str,
+}
+
+impl<'a> Given<'a> {
+    /// Identifiers from `first` on, this second, UTC, and no settings.
+    pub fn new(first: u128, second: u64) -> Given<'a> {
+        Given {
+            first,
+            second,
+            zone: Zone::utc(),
+            settings: "",
+        }
+    }
+}
+
+/// How a run ended, with what it printed and told.
+#[derive(Drop)]
+pub struct Ended {
+    pub outcome: Outcome,
+    pub out: MemorySink,
+    pub err: MemorySink,
+}
+
+/// Runs a line of words that are parted by bars, over an output whose calls with these numbers fail.
+pub fn run_given(
+    alloc: Global,
+    given: &Given<'_>,
+    line: &str,
+    disk: &mut MemoryDisk,
+    link: &mut MemoryLink,
+    out_fails: &[u64],
+) -> Result<Ended, Fail> {
+    let mut words = Vec::new(alloc);
+    for word in line.split('|') {
+        words.push(String::from_str(alloc, word)?)?;
+    }
+    let settings = given.settings.as_bytes().to_vec(alloc)?;
+    let mut ids = IdWords {
+        start: given.first,
+        step: 1,
+    };
+    let mut out = MemorySink::new(alloc, Vec::new(alloc), out_fails.to_vec(alloc)?)?;
+    let mut err = MemorySink::new(alloc, Vec::new(alloc), Vec::new(alloc))?;
+    let now = moment(given.second)?;
+    let outcome = task_run(
+        alloc,
+        &words,
+        &settings,
+        now,
+        &given.zone,
+        &mut ids,
+        disk,
+        link,
+        &mut out,
+        &mut err,
+    );
+    Ok(Ended { outcome, out, err })
+}
+
 /// Runs a line as `run_from` does, with identifiers from 1 on.
 pub fn run(
     alloc: Global,
@@ -59,8 +128,8 @@ pub fn run(
     run_from(alloc, 1, line, second, disk, link)
 }
 
-/// Runs a line of words that are parted by bars at this second, with identifiers from `first` on, and answers how it ended
-/// and what it printed.
+/// Runs a line of words that are parted by bars at this second, with identifiers from `first` on and a server set, and answers how
+/// it ended and what it printed.
 pub fn run_from(
     alloc: Global,
     first: u128,
@@ -69,20 +138,24 @@ pub fn run_from(
     disk: &mut MemoryDisk,
     link: &mut MemoryLink,
 ) -> Result<(Outcome, MemorySink), Fail> {
-    let mut words = Vec::new(alloc);
-    for word in line.split('|') {
-        words.push(String::from_str(alloc, word)?)?;
-    }
-    let settings = SETTINGS.as_bytes().to_vec(alloc)?;
-    let mut ids = IdWords {
-        start: first,
-        step: 1,
+    let mut given = Given::new(first, second);
+    given.settings = SETTINGS;
+    let ended = run_given(alloc, &given, line, disk, link, &[])?;
+    Ok((ended.outcome, ended.out))
+}
+
+/// The task of a uuid on a machine.
+pub fn held(alloc: Global, disk: &mut MemoryDisk, uuid: Uuid) -> Result<Option<TaskMap>, Fail> {
+    let Ok(replica) = Replica::open(alloc, disk) else {
+        return Err(Fail::new("not opened"));
     };
-    let mut out = MemorySink::new(alloc, Vec::new(alloc), Vec::new(alloc))?;
-    let mut err = MemorySink::new(alloc, Vec::new(alloc), Vec::new(alloc))?;
-    let now = moment(second)?;
-    let outcome = task_run(
-        alloc, &words, &settings, now, &mut ids, disk, link, &mut out, &mut err,
-    );
-    Ok((outcome, out))
+    match replica.tasks().get(uuid) {
+        Some(task) => Ok(Some(task.copy(alloc)?)),
+        None => Ok(None),
+    }
+}
+
+/// The uuid that an identifier draws.
+pub fn drawn(number: u8) -> Uuid {
+    Uuid::from_bytes([0, 0, 0, 0, 0, 0, 0x40, 0, 0x80, 0, 0, 0, 0, 0, 0, number])
 }

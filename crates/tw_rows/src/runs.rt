@@ -1,11 +1,10 @@
 // Runs over a disk and streams in memory.
 
+use crate::machine::{Ended, Given, link, run_given};
 use std::alloc::Global;
 use std::test::Fail;
-use tw_cli::{Cause, Outcome, WordKind, task_run};
-use tw_server::MemoryLink;
-use tw_world::{IdWords, MemoryDisk, MemorySink, Moment};
-use uuid::Uuid;
+use tw_cli::{Cause, Outcome, WordKind};
+use tw_world::MemoryDisk;
 
 // The journal after a task was added to an empty store: its magic, and one commit of six operations.
 const ADDED: [u8; 263] = [
@@ -21,23 +20,6 @@ const ADDED: [u8; 263] = [
     0, 1, 0, 0, 0, 7, 112, 101, 110, 100, 105, 110, 103, 0, 0, 0, 0, 101, 83, 241, 0, 0, 0, 0, 0,
 ];
 
-// How a run ended, with what it printed and told.
-#[derive(Drop)]
-struct Ended {
-    outcome: Outcome,
-    out: MemorySink,
-    err: MemorySink,
-}
-
-// The words of a line that are parted by bars.
-fn words_of(alloc: Global, line: &str) -> Result<Vec<String>, Fail> {
-    let mut words = Vec::new(alloc);
-    for word in line.split('|') {
-        words.push(String::from_str(alloc, word)?)?;
-    }
-    Ok(words)
-}
-
 // Runs a line at the moment 2023-11-14T22:13:20Z, with identifiers from `first` on.
 fn run_from(
     alloc: Global,
@@ -46,27 +28,15 @@ fn run_from(
     disk: &mut MemoryDisk,
     out_fails: &[u64],
 ) -> Result<Ended, Fail> {
-    let words = words_of(alloc, line)?;
-    let Some(now) = Moment::new(1_700_000_000, 0) else {
-        return Err(Fail::new("no moment"));
-    };
-    let mut ids = IdWords {
-        start: first,
-        step: 1,
-    };
-    let settings = Vec::new(alloc);
-    let mut link = MemoryLink::new(
+    let mut line_to_none = link(alloc, Vec::new(alloc))?;
+    run_given(
         alloc,
-        Uuid::nil(),
-        IdWords { start: 0, step: 1 },
-        Vec::new(alloc),
-    )?;
-    let mut out = MemorySink::new(alloc, Vec::new(alloc), out_fails.to_vec(alloc)?)?;
-    let mut err = MemorySink::new(alloc, Vec::new(alloc), Vec::new(alloc))?;
-    let outcome = task_run(
-        alloc, &words, &settings, now, &mut ids, disk, &mut link, &mut out, &mut err,
-    );
-    Ok(Ended { outcome, out, err })
+        &Given::new(first, 1_700_000_000),
+        line,
+        disk,
+        &mut line_to_none,
+        out_fails,
+    )
 }
 
 // Runs a line with identifiers from 1 on, over an output that does not fail.
@@ -104,13 +74,16 @@ fn words_outside_the_grammar_are_told(rt: HostRuntime) -> Result<(), Fail> {
         ("list", 0, WordKind::Unbuilt),
         ("add", 0, WordKind::Missing),
         ("add|", 1, WordKind::Value),
-        ("add|Buy|due:eom", 2, WordKind::Unbuilt),
-        ("add|+shop|Buy", 1, WordKind::Unbuilt),
-        ("add|Buy|-shop", 2, WordKind::Unbuilt),
-        ("add|rc.gc=off|Buy", 1, WordKind::Unbuilt),
+        ("done", 0, WordKind::NoFilter),
+        ("1|modify|due:never2", 2, WordKind::Date),
+        ("add|x|due:2026-02-30", 2, WordKind::Date),
+        ("add|x|due:999999999999", 2, WordKind::Date),
+        ("1|modify|depends:9", 2, WordKind::Unbuilt),
+        ("add|x|recur:weekly", 0, WordKind::Missing),
+        ("add|x|due:tomorrow|recur:weekly", 3, WordKind::Unbuilt),
+        ("(|1|list", 2, WordKind::End),
+        ("(|1|count", 2, WordKind::End),
         ("undo|2", 1, WordKind::Extra),
-        ("count|+PENDING", 1, WordKind::Unbuilt),
-        ("export|2", 1, WordKind::Unbuilt),
     ];
     for (line, word, kind) in rows {
         let mut disk = empty_disk(alloc, &[])?;

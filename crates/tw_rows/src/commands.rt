@@ -1,0 +1,238 @@
+// Command lines one after another over one store.
+
+use crate::machine::{Given, drawn, held, link, machine, run_given};
+use std::alloc::Global;
+use std::process::Abort;
+use std::test::Fail;
+use tw_cli::{Cause, Outcome};
+use tw_time::Zone;
+use tw_world::MemoryDisk;
+
+const SECOND: u64 = 1_700_000_000;
+
+// Runs a line with identifiers from `first` on, and compares its status, and what it prints or, where it fails, tells.
+fn check(
+    rt: &impl Abort,
+    alloc: Global,
+    first: u128,
+    row: (&str, u8, &str),
+    disk: &mut MemoryDisk,
+) -> Result<(), Fail> {
+    let (line, status, text) = row;
+    let mut none = link(alloc, Vec::new(alloc))?;
+    let given = Given::new(first, SECOND);
+    let ended = run_given(alloc, &given, line, disk, &mut none, &[])?;
+    let wanted = format!(in alloc; "{}\n", text)?;
+    assert_eq!(rt; ended.outcome.status, status, "{line}");
+    if status == 0 {
+        assert_eq!(rt; ended.out.bytes(), wanted.as_bytes(), "{line}");
+        assert_eq!(rt; ended.err.bytes(), b"".as_slice(), "{line}");
+    } else {
+        assert_eq!(rt; ended.out.bytes(), b"".as_slice(), "{line}");
+        assert_eq!(rt; ended.err.bytes(), wanted.as_bytes(), "{line}");
+    }
+    Ok(())
+}
+
+// Runs lines over one store, that of number N with identifiers from N on, from 1.
+fn follow(rt: &impl Abort, alloc: Global, rows: &[(&str, u8, &str)]) -> Result<(), Fail> {
+    let mut disk = machine(alloc)?;
+    let mut first: u128 = 1;
+    for row in rows {
+        check(rt, alloc, first, *row, &mut disk)?;
+        first = u128::saturating_add(first, 1);
+    }
+    Ok(())
+}
+
+const ANNOTATED: [(&str, u8, &str); 12] = [
+    ("add|Buy|milk", 0, "Created task 1."),
+    ("1|annotate|one", 0, "Annotated 1 task."),
+    ("1|annotate|two", 0, "Annotated 1 task."),
+    ("1|denotate|o", 0, "Denotated 1 task."),
+    (
+        "export",
+        0,
+        "[\n{\"annotations\":[{\"description\":\"two\",\"entry\":\"20231114T221321Z\"}],\"description\":\"Buy milk\",\"entry\":\"20231114T221320Z\",\"modified\":\"20231114T221320Z\",\"status\":\"pending\",\"urgency\":0.800,\"uuid\":\"00000000-0000-4000-8000-000000000001\"}\n]",
+    ),
+    ("1|denotate|o", 0, "Denotated 1 task."),
+    ("1|denotate|o", 1, "task: no matches"),
+    ("9|done", 1, "task: no matches"),
+    ("count", 0, "1"),
+    ("+nothing|ids", 0, ""),
+    (
+        "description.has:milk|uuids",
+        0,
+        "00000000-0000-4000-8000-000000000001",
+    ),
+    ("1|modify|depends:9", 2, "task: bad word 2"),
+];
+
+const FILTERED: [(&str, u8, &str); 14] = [
+    ("add|a|project:a.b", 0, "Created task 1."),
+    ("project:a|count", 0, "1"),
+    ("project.is:a|count", 0, "0"),
+    ("add|b", 0, "Created task 2."),
+    ("add|c", 0, "Created task 3."),
+    ("1|or|2|xor|1|and|2|ids", 0, "1 2"),
+    ("(|1|or|2|)|xor|(|1|and|2|)|ids", 0, "1 2"),
+    ("1|or|(|2|xor|1|)|and|2|ids", 0, "1 2"),
+    ("+PENDING|or|2|xor|1|and|+PENDING|ids", 0, "2 3"),
+    ("1|xor|2|and|3|ids", 0, "1"),
+    ("1|2|ids", 0, "1 2"),
+    ("1|and|2|ids", 0, ""),
+    (
+        "rc.gc=maybe|count",
+        2,
+        "task: line 0 of the settings is no setting",
+    ),
+    ("rc.gc=off|count|2-3", 0, "2"),
+];
+
+// After an undo the tasks that are open again stand behind all numbers that were given.
+const LIVED: [(&str, u8, &str); 21] = [
+    ("add|Buy|milk|+shop|project:Home", 0, "Created task 1."),
+    ("log|Sleep", 0, "Logged task."),
+    ("1|append|and|bread", 0, "Modified 1 task."),
+    ("1|prepend|Soon:", 0, "Modified 1 task."),
+    ("1|modify|priority:H", 0, "Modified 1 task."),
+    ("1|modify|priority:H", 0, "Modified 1 task."),
+    ("1|start", 0, "Started 1 task."),
+    ("1|start", 1, "task: no matches"),
+    ("+ACTIVE|ids", 0, "1"),
+    ("1|stop", 0, "Stopped 1 task."),
+    ("1|duplicate|-shop", 0, "Duplicated 1 task."),
+    ("+shop|count", 0, "1"),
+    ("1|2|done", 0, "Completed 2 tasks."),
+    ("+COMPLETED|count", 0, "3"),
+    ("1|done", 1, "task: no matches"),
+    ("undo", 0, "Undone 4 operations."),
+    ("1|2|delete", 1, "task: no matches"),
+    ("3|4|delete", 0, "Deleted 2 tasks."),
+    ("3|4|purge", 1, "task: no matches"),
+    ("+DELETED|purge", 0, "Purged 2 tasks."),
+    ("count", 0, "1"),
+];
+
+// The second task has a tag of the words alone, the fifth an urgency of 15 + 6 + 1 + 0.8, and the sixth waits.
+const EXPORTED: [(&str, u8, &str); 9] = [
+    ("add|Buy|due:eom", 0, "Created task 1."),
+    ("add|+shop|Buy", 0, "Created task 2."),
+    ("add|Buy|-shop", 0, "Created task 3."),
+    ("add|rc.gc=off|Buy", 0, "Created task 4."),
+    (
+        "add|Call|Ann|priority:H|project:Home|+next",
+        0,
+        "Created task 5.",
+    ),
+    ("add|Sleep|wait:tomorrow", 0, "Created task 6."),
+    ("count|+PENDING", 0, "5"),
+    (
+        "export|2|5",
+        0,
+        "[\n{\"description\":\"Buy\",\"entry\":\"20231114T221320Z\",\"modified\":\"20231114T221320Z\",\"status\":\"pending\",\"tags\":[\"shop\"],\"urgency\":0.800,\"uuid\":\"00000000-0000-4000-8000-000000000002\"},\n{\"description\":\"Call Ann\",\"entry\":\"20231114T221320Z\",\"modified\":\"20231114T221320Z\",\"priority\":\"H\",\"project\":\"Home\",\"status\":\"pending\",\"tags\":[\"next\"],\"urgency\":22.800,\"uuid\":\"00000000-0000-4000-8000-000000000005\"}\n]",
+    ),
+    (
+        "status:waiting|export",
+        0,
+        "[\n{\"description\":\"Sleep\",\"entry\":\"20231114T221320Z\",\"modified\":\"20231114T221320Z\",\"status\":\"waiting\",\"urgency\":-3.000,\"uuid\":\"00000000-0000-4000-8000-000000000006\",\"wait\":\"20231115T000000Z\"}\n]",
+    ),
+];
+
+#[test]
+fn commands_follow_each_other(rt: HostRuntime) -> Result<(), Fail> {
+    let alloc = rt.alloc();
+    follow(&rt, alloc, &ANNOTATED)?;
+    follow(&rt, alloc, &FILTERED)?;
+    follow(&rt, alloc, &LIVED)?;
+    follow(&rt, alloc, &EXPORTED)
+}
+
+// Runs a line that is carried out.
+fn done(
+    rt: &impl Abort,
+    alloc: Global,
+    given: &Given<'_>,
+    line: &str,
+    disk: &mut MemoryDisk,
+) -> Result<(), Fail> {
+    let mut none = link(alloc, Vec::new(alloc))?;
+    let ended = run_given(alloc, given, line, disk, &mut none, &[])?;
+    assert_eq!(rt; ended.outcome.status, 0, "{line}");
+    Ok(())
+}
+
+// A property of the first task of a store, or `none`.
+fn stored(alloc: Global, disk: &mut MemoryDisk, property: &str) -> Result<String, Fail> {
+    let task = held(alloc, disk, drawn(1))?.ok_or("no task")?;
+    Ok(String::from_str(alloc, task.get(property).unwrap_or("none"))?)
+}
+
+// A zone, and words for moments at 2026-03-04T10:00:00Z, a Wednesday, and the moment that a task has then.
+const MOMENTS: [(&str, &str, &str); 11] = [
+    ("", "add|x|due:tomorrow", "1772668800"),
+    ("", "add|x|due:monday", "1773014400"),
+    ("", "add|x|due:wednesday", "1773187200"),
+    ("", "add|x|due:sow", "1772409600"),
+    ("", "add|x|due:eow", "1773014399"),
+    ("", "add|x|due:soq", "1767225600"),
+    ("", "add|x|due:eoq", "1775001599"),
+    ("", "add|x|due:eoy", "1798761599"),
+    ("", "add|x|due:3d", "1772877600"),
+    ("", "add|x|due:later", "253370592000"),
+    ("EST5EDT,M3.2.0,M11.1.0", "add|x|due:tomorrow", "1772686800"),
+];
+
+#[test]
+fn a_moment_is_stored(rt: HostRuntime) -> Result<(), Fail> {
+    let alloc = rt.alloc();
+    for (rule, line, value) in MOMENTS {
+        let Ok(zone) = Zone::read(rule) else {
+            return Err(Fail::new("no zone"));
+        };
+        let mut given = Given::new(1, 1_772_618_400);
+        given.zone = zone;
+        let mut disk = machine(alloc)?;
+        done(&rt, alloc, &given, line, &mut disk)?;
+        let due = stored(alloc, &mut disk, "due")?;
+        assert_eq!(rt; due.as_str(), value, "{line}");
+    }
+    Ok(())
+}
+
+// Lines over one store, and a property of its task after each: two annotations of one moment, of which the first is taken away.
+const NOTES: [(&str, &str, &str); 5] = [
+    ("add|Buy|milk", "annotation_1700000000", "none"),
+    ("1|annotate|one", "annotation_1700000000", "one"),
+    ("1|annotate|two", "annotation_1700000001", "two"),
+    ("1|denotate|o", "annotation_1700000000", "none"),
+    ("count", "annotation_1700000001", "two"),
+];
+
+#[test]
+fn annotations_of_one_moment_stand_at_seconds_of_their_own(rt: HostRuntime) -> Result<(), Fail> {
+    let alloc = rt.alloc();
+    let mut disk = machine(alloc)?;
+    for (line, property, value) in NOTES {
+        done(&rt, alloc, &Given::new(1, SECOND), line, &mut disk)?;
+        let text = stored(alloc, &mut disk, property)?;
+        assert_eq!(rt; text.as_str(), value, "{line}");
+    }
+    Ok(())
+}
+
+#[test]
+fn a_setting_that_is_none_ends_every_command(rt: HostRuntime) -> Result<(), Fail> {
+    let alloc = rt.alloc();
+    let mut given = Given::new(1, SECOND);
+    given.settings = "urgency.due.coefficient=abc";
+    for line in ["add|Buy|milk", "add", "count", "sync", "rc.gc=maybe|undo"] {
+        let mut disk = machine(alloc)?;
+        let mut none = link(alloc, Vec::new(alloc))?;
+        let ended = run_given(alloc, &given, line, &mut disk, &mut none, &[])?;
+        let cause = Cause::BadSetting { line: 1 };
+        assert_eq!(rt; ended.outcome, Outcome { status: 2, cause }, "{line}");
+        assert_eq!(rt; disk.calls(), 0);
+    }
+    Ok(())
+}
