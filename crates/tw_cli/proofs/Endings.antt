@@ -37,6 +37,7 @@ refusal_fails refusal.NoMatch = refl
 refusal_fails refusal.NothingToUndo = refl
 refusal_fails (refusal.BadWords word kind) = refl
 refusal_fails (refusal.IdTaken uuid) = refl
+refusal_fails (refusal.Cycle uuid) = refl
 
 pub carry_fails : (e : CarryError) → end_of (carry_cause e) ≡ Failed
 carry_fails (carry.Open e) = open_fails e

@@ -16,7 +16,7 @@ use Rattle.tw_cli.specs.declared.carry.CarryError.TheVariants as carry
 use Rattle.tw_cli.specs.declared.syncing.SyncFailure.{SyncFailure}
 use Rattle.tw_cli.specs.declared.syncing.SyncFailure.TheVariants as failure
 use Rattle.tw_cli.specs.declared.cause.Cause.{Cause}
-use Rattle.tw_cli.specs.declared.cause.Cause.TheVariants.{Done, NoMatch, NothingToUndo, BadWords, BadSetting, NoServer, IdTaken, DiskFault, RecordTooLong, Memory, LinkFault, BadReply, Gone, Busy, OutOfSync, BadSegment, SegmentTooLong, PullTooLong, OutFault, Damaged}
+use Rattle.tw_cli.specs.declared.cause.Cause.TheVariants.{Done, NoMatch, NothingToUndo, BadWords, BadSetting, NoServer, IdTaken, Cycle, DiskFault, RecordTooLong, Memory, LinkFault, BadReply, Gone, Busy, OutOfSync, BadSegment, SegmentTooLong, PullTooLong, OutFault, Damaged}
 
 -- how a run ends
 pub data End : Type 0 where
@@ -58,6 +58,7 @@ refusal_cause refusal.NoMatch = NoMatch
 refusal_cause refusal.NothingToUndo = NothingToUndo
 refusal_cause (refusal.BadWords word kind) = BadWords word kind
 refusal_cause (refusal.IdTaken uuid) = IdTaken uuid
+refusal_cause (refusal.Cycle uuid) = Cycle uuid
 
 -- of a command that is not carried out
 abbrev pub carry_cause : CarryError → Cause

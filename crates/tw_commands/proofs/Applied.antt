@@ -11,27 +11,30 @@ use Rattle.tw_replica.specs.Body.{Step}
 use Rattle.tw_replica.specs.Body.Step.{Commit}
 use Rattle.tw_replica.specs.State.{State, applied, misfit, unless, is_idle, moved_to}
 use Rattle.tw_commands.specs.Plan.{Plan, step_in}
-use Rattle.tw_commands.specs.Texts.{shown}
 use Rattle.tw_commands.specs.Commands.{plan_of}
 use Rattle.tw_commands.specs.Laws.{CarriedIsApplied, ChangesAreCarriedOut}
-use Rattle.tw_commands.specs.Carried.{Carried, then_shown, carried_by}
+use Rattle.tw_commands.specs.Carried.{Carried, concluded, with_text, then_concluded, carried_by}
 use Rattle.tw_commands.specs.declared.request.Request.{Request}
 use Rattle.tw_commands.specs.declared.refusal.Refusal.{Refusal}
 
-then_is : (plan : Plan) (old : State) (step : Step) (o : Option State) (c : Carried) → then_shown plan old step o ≡ Ok c → (c.step ≡ step) × (o ≡ Some c.new)
-then_is plan old step None c e = absurd cc
-then_is plan old step (Some new) c e =
-    let same : record { step = step; new = new; text = shown plan.show old new } ≡ c = cc in
-    (ap (λ (d : Carried). d.step) (sym same), ap (λ (d : Carried). Some d.new) same)
+texted_is : (step : Step) (new : State) (text : Result (List ℕ) Refusal) (c : Carried) → with_text step new text ≡ Ok c → (c.step ≡ step) × (c.new ≡ new)
+texted_is step new (Err refusal) c e = absurd cc
+texted_is step new (Ok text) c e =
+    let same : record { step = step; new = new; text = text } ≡ c = cc in
+    (ap (λ (d : Carried). d.step) (sym same), ap (λ (d : Carried). d.new) (sym same))
+
+then_is : (request : Request) (plan : Plan) (old : State) (step : Step) (o : Option State) (c : Carried) → then_concluded request plan old step o ≡ Ok c → (c.step ≡ step) × (o ≡ Some c.new)
+then_is request plan old step None c e = absurd cc
+then_is request plan old step (Some new) c e = let is = texted_is step new (concluded request plan.show old new) c e in (is.0, ap Some (sym is.1))
 
 pub by_plan : (request : Request) (old : State) (plan : Plan) (c : Carried) → carried_by request old (Ok plan) ≡ Ok c → applied old (step_in request.at old plan.work) ≡ Some c.new
-by_plan request old plan c e = (then_is plan old (step_in request.at old plan.work) (applied old (step_in request.at old plan.work)) c e).1
+by_plan request old plan c e = (then_is request plan old (step_in request.at old plan.work) (applied old (step_in request.at old plan.work)) c e).1
 
 by_is : (request : Request) (old : State) (planned : Result Plan Refusal) (c : Carried) → carried_by request old planned ≡ Ok c → applied old c.step ≡ Some c.new
 by_is request old (Err refusal) c e = absurd cc
 by_is request old (Ok plan) c e =
     let step = step_in request.at old plan.work in
-    let is = then_is plan old step (applied old step) c e in
+    let is = then_is request plan old step (applied old step) c e in
     ap (applied old) is.0 ∙ is.1
 
 pub carried_applies : CarriedIsApplied
@@ -61,4 +64,4 @@ pub changes_carried : ChangesAreCarriedOut
 changes_carried request ids old plan renumber changes planned works =
     let there = leads renumber changes request.at old in
     let step : applied old (step_in request.at old plan.work) ≡ Some there.0 = ap (λ w. applied old (step_in request.at old w)) works ∙ there.1 in
-    (record { step = step_in request.at old plan.work; new = there.0; text = shown plan.show old there.0 }, ap (carried_by request old) planned ∙ ap (then_shown plan old (step_in request.at old plan.work)) step)
+    (there.0, ap (carried_by request old) planned ∙ ap (then_concluded request plan old (step_in request.at old plan.work)) step)

@@ -3,3 +3,4 @@ mod Deciding
 pub mod Copying
 pub mod Joining
 pub mod Taken
+pub mod Circling

@@ -3,26 +3,40 @@ use Rattle.std.specs.Prelude.{ℕ, List, Option, Some, None, Result, Ok, Err}
 use Rattle.tw_world.specs.declared.ids.IdWords.{IdWords}
 use Rattle.tw_replica.specs.Body.{Step}
 use Rattle.tw_replica.specs.State.{State, applied}
-use Rattle.tw_commands.specs.Plan.{Plan, step_in}
+use Rattle.tw_commands.specs.Plan.{Plan, Show, step_in}
 use Rattle.tw_commands.specs.Commands.{plan_of}
+use Rattle.tw_commands.specs.Circles.{circle_in}
 use Rattle.tw_commands.specs.Texts.{shown}
 use Rattle.tw_commands.specs.declared.request.Request.{Request}
 use Rattle.tw_commands.specs.declared.refusal.Refusal.{Refusal}
-use Rattle.tw_commands.specs.declared.refusal.Refusal.TheVariants.{NothingToUndo}
+use Rattle.tw_commands.specs.declared.refusal.Refusal.TheVariants.{NothingToUndo, Cycle}
 
 pub record Carried : Type 0 where
   pub step : Step
   pub new : State
   pub text : List ℕ
 
+abbrev pub unless_circle : Option (List ℕ) → Result (List ℕ) Refusal → Result (List ℕ) Refusal
+unless_circle None text = text
+unless_circle (Some d) text = Err (Cycle d)
+
+-- the text of a command whose step led from one state to another, or why it does nothing after all
+abbrev pub concluded : Request → Show → (old new : State) → Result (List ℕ) Refusal
+concluded request show old new = unless_circle (circle_in request.line.command old new) (Ok (shown show old new))
+
+abbrev pub with_text : Step → State → Result (List ℕ) Refusal → Result Carried Refusal
+with_text step new (Err refusal) = Err refusal
+with_text step new (Ok text) = Ok (record { step = step; new = new; text = text })
+
 -- a step that leads nowhere takes back what is not there
-abbrev pub then_shown : Plan → (old : State) → Step → Option State → Result Carried Refusal
-then_shown plan old step None = Err NothingToUndo
-then_shown plan old step (Some new) = Ok (record { step = step; new = new; text = shown plan.show old new })
+abbrev pub then_concluded : Request → Plan → (old : State) → Step → Option State → Result Carried Refusal
+then_concluded request plan old step None = Err NothingToUndo
+then_concluded request plan old step (Some new) = with_text step new (concluded request plan.show old new)
 
 abbrev pub carried_by : Request → (old : State) → Result Plan Refusal → Result Carried Refusal
 carried_by request old (Err refusal) = Err refusal
-carried_by request old (Ok plan) = then_shown plan old (step_in request.at old plan.work) (applied old (step_in request.at old plan.work))
+carried_by request old (Ok plan) =
+    then_concluded request plan old (step_in request.at old plan.work) (applied old (step_in request.at old plan.work))
 
 -- what a request comes to, by the uuids that are drawn for it
 abbrev pub carried_out : Request → IdWords → State → Result Carried Refusal

@@ -7,6 +7,8 @@ pub mod Effects
 pub mod Makes
 pub mod Looks
 pub mod Commands
+pub mod Circles
+pub mod Searches
 pub mod Texts
 pub mod Carried
 pub mod Ready

@@ -1,5 +1,6 @@
 -- What commands print.
-use Rattle.std.specs.Prelude.{ℕ, ◌+◌, ◌-◌, ◌==◌, cond, List, [], ◌++◌, length, Option, Some, None, codes}
+use Rattle.std.specs.Prelude.{ℕ, ◌+◌, ◌-◌, ◌==◌, cond, List, [], ◌++◌, length, Option, Some, None, Result, Ok, Err, codes}
+use Rattle.std.specs.Global.{Vec}
 use Rattle.std.specs.Fmt.{decimal}
 use Rattle.tw_model.specs.Places.{Places, id_of}
 use Rattle.tw_replica.specs.State.{State}
@@ -7,6 +8,7 @@ use Rattle.tw_commands.specs.Plan.{Show}
 use Rattle.tw_commands.specs.Plan.Show.{Counted, Created, Logged, TakenBack, Text}
 use Rattle.tw_commands.specs.declared.plan.Deed.{Deed}
 use Rattle.tw_commands.specs.declared.plan.Deed.TheVariants.{Modified, Annotated, Denotated, Completed, Deleted, Purged, Started, Stopped, Duplicated}
+use Rattle.tw_commands.specs.declared.refusal.Refusal.{Refusal}
 
 -- a number between two texts
 abbrev pub numbered : List ℕ → ℕ → List ℕ → List ℕ
@@ -56,3 +58,8 @@ shown (Created u) old new = created_text u new.numbers
 shown Logged old new = codes "Logged task.\n"
 shown TakenBack old new = undone_text (length old.pending - (length new.pending + 1))
 shown (Text text) old new = text
+
+-- the same of what the code holds
+abbrev pub texted : Result (Vec ℕ) Refusal → Result (List ℕ) Refusal
+texted (Ok text) = Ok text.items
+texted (Err refusal) = Err refusal

@@ -3,6 +3,7 @@
 //! It stands on `tw_replica` for the steps, on `tw_words` and `tw_filter` for what was asked, and on `tw_export` for the JSON.
 #![tactic(auto)]
 
+mod circles;
 mod commands;
 mod effect;
 pub mod laws;

@@ -6,9 +6,12 @@ ghost use Rattle.tw_replica.specs.Prepared.{IsPrepared, prepared_state};
 ghost use Rattle.tw_commands.specs.Commands.{ids_after, MayHaveDrawn};
 ghost use Rattle.tw_commands.specs.Plan.{step_in, work_view, show_view};
 ghost use Rattle.tw_commands.specs.Plan.Work.{Changes};
-ghost use Rattle.tw_commands.specs.Texts.{shown};
+ghost use Rattle.tw_commands.specs.Circles.{circle_in};
+ghost use Rattle.tw_commands.specs.Texts.{shown, texted};
+ghost use Rattle.tw_commands.specs.Carried.{concluded};
 ghost use Rattle.tw_commands.specs.Ready.{IsReady, NotReady};
 
+use crate::circles::{first_circle, is_judged};
 use crate::commands::plan_of;
 use crate::plan::{Plan, Show, Work};
 use crate::refusal::Refusal;
@@ -18,6 +21,7 @@ use std::alloc::Global;
 use tw_model::Change;
 use tw_replica::{Prepared, Replica, ReplicaError};
 use tw_world::{IdWords, Memory, Moment};
+use uuid::Uuid;
 
 /// A command that is made in memory: its step, which is yet to be written, and what is to be printed then.
 #[derive(Drop)]
@@ -82,6 +86,40 @@ fn shown(alloc: Global, show: Show, pending: usize, prepared: &Prepared) -> Resu
     }
 }
 
+// The first circle that a command closes. Before its step, so many operations were pending.
+fn circle_in(
+    alloc: Global,
+    request: &Request<'_>,
+    pending: usize,
+    prepared: &Prepared,
+) -> Result<Option<Uuid>, Memory>
+    ensures { IfOk result (λ circle. (old : State) → pending ≡ length old.pending
+        → circle ≡ circle_in request.now.line.command old (prepared_state prepared.now)) }
+{
+    if is_judged(request.line.command) {
+        first_circle(alloc, prepared.tasks(), prepared.pending(), pending)
+    } else {
+        Ok(None)
+    }
+}
+
+// The text of a command, or why it does nothing after all.
+fn concluded(
+    alloc: Global,
+    request: &Request<'_>,
+    show: Show,
+    pending: usize,
+    prepared: &Prepared,
+) -> Result<Result<Vec<u8>, Refusal>, Memory>
+    ensures { IfOk result (λ text. (old : State) → pending ≡ length old.pending
+        → texted text ≡ concluded request.now (show_view show) old (prepared_state prepared.now)) }
+{
+    if let Some(uuid) = circle_in(alloc, request, pending, prepared)? {
+        return Ok(Err(Refusal::Cycle { uuid }));
+    }
+    Ok(Ok(shown(alloc, show, pending, prepared)?))
+}
+
 /// Makes in memory what a request comes to in a replica, with its text, or says why the command does nothing.
 /// All the memory that it wants is taken here. What is refused is dropped with the replica.
 pub fn decide(
@@ -106,6 +144,8 @@ pub fn decide(
         Ok(prepared) => prepared,
         Err(refusal) => return Ok(Err(refusal)),
     };
-    let text = shown(alloc, show, pending, &prepared)?;
-    Ok(Ok(Ready { prepared, text }))
+    match concluded(alloc, request, show, pending, &prepared)? {
+        Ok(text) => Ok(Ok(Ready { prepared, text })),
+        Err(refusal) => Ok(Err(refusal)),
+    }
 }

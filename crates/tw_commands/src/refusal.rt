@@ -13,4 +13,6 @@ pub enum Refusal {
     BadWords { word: u64, kind: WordKind },
     /// This uuid was drawn for a task, and has one already.
     IdTaken { uuid: Uuid },
+    /// A task gains a dependency on this one, and paths of dependencies lead from this one back to it.
+    Cycle { uuid: Uuid },
 }

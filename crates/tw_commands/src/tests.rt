@@ -1,4 +1,5 @@
 // What commands come to in a replica in memory.
+mod circles;
 mod statuses;
 
 use crate::{Ready, Refusal, Request, decide};

@@ -139,13 +139,31 @@ const EXPORTED: [(&str, u8, &str); 9] = [
     ),
 ];
 
+// A dependency that closes a circle is refused, and nothing is changed.
+const CIRCLED: [(&str, u8, &str); 9] = [
+    ("add|a", 0, "Created task 1."),
+    ("add|b", 0, "Created task 2."),
+    ("2|modify|depends:1", 0, "Modified 1 task."),
+    (
+        "1|modify|depends:2|priority:H",
+        2,
+        "task: dependency on 00000000-0000-4000-8000-000000000002 closes a circle",
+    ),
+    ("+BLOCKED|ids", 0, "2"),
+    ("+BLOCKING|ids", 0, "1"),
+    ("priority.any:|count", 0, "0"),
+    ("2|modify|depends:-1", 0, "Modified 1 task."),
+    ("1|modify|depends:2", 0, "Modified 1 task."),
+];
+
 #[test]
 fn commands_follow_each_other(rt: HostRuntime) -> Result<(), Fail> {
     let alloc = rt.alloc();
     follow(&rt, alloc, &ANNOTATED)?;
     follow(&rt, alloc, &FILTERED)?;
     follow(&rt, alloc, &LIVED)?;
-    follow(&rt, alloc, &EXPORTED)
+    follow(&rt, alloc, &EXPORTED)?;
+    follow(&rt, alloc, &CIRCLED)
 }
 
 // Runs a line that is carried out.

@@ -78,7 +78,7 @@ fn words_outside_the_grammar_are_told(rt: HostRuntime) -> Result<(), Fail> {
         ("1|modify|due:never2", 2, WordKind::Date),
         ("add|x|due:2026-02-30", 2, WordKind::Date),
         ("add|x|due:999999999999", 2, WordKind::Date),
-        ("1|modify|depends:9", 2, WordKind::Unbuilt),
+        ("1|modify|depends:9", 2, WordKind::Id),
         ("add|x|recur:weekly", 0, WordKind::Missing),
         ("add|x|due:tomorrow|recur:weekly", 3, WordKind::Unbuilt),
         ("(|1|list", 2, WordKind::End),

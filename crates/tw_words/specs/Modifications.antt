@@ -152,9 +152,8 @@ word_fault clock adding sole plain word = tagged_fault clock adding sole plain w
 
 -- ---- words that are not carried out yet
 
--- whether the program carries out words of a field: of dependencies and of recurrence it does not
+-- whether the program carries out words of a field: of recurrence it does not
 abbrev pub is_field_built : Field → Bool
-is_field_built field.Depends = false
 is_field_built field.Recur = false
 is_field_built _ = true
 

@@ -115,7 +115,7 @@ fn is_field_built(field: Field) -> bool
     ensures { result ≡ is_field_built field }
 {
     match field {
-        Field::Depends | Field::Recur => false,
+        Field::Recur => false,
         _ => true,
     }
 }

@@ -42,11 +42,14 @@ add|description: > 1 Value
 add| > 1 Value
 add|description:x| > 2 Value
 add|| > right
-1|modify|depends:0 > 2 Unbuilt
-1|modify|depends:99|due:never > 2 Unbuilt
+1|modify|depends:0 > 2 Value
+1|modify|depends:1-3 > 2 Value
+1|modify|depends:1,,2 > 2 Value
+1|modify|depends:- > 2 Value
+1|modify|depends:99|due:never > 3 Date
 1|modify|priority:X|depends: > 2 Value
-1|duplicate|x|depends:-1 > 3 Unbuilt
-log|x|depends:1 > 2 Unbuilt
+1|duplicate|x|depends:-1 > right
+log|x|depends:1 > right
 1|annotate|depends:1 > right
 depends:1|modify|x > right
 depends:1|recur.any:|count|depends:2 > right
@@ -86,7 +89,7 @@ fn the_first_bad_word_is_named(rt: HostRuntime) -> Result<(), Fail> {
         let judged = text_of(alloc, judge_line(alloc, &line, NOW, &Zone::utc()))?;
         assert_eq!(rt; judged.as_str(), want, "{row}");
     }
-    assert_eq!(rt; ROWS.split('\n').count(), 58);
+    assert_eq!(rt; ROWS.split('\n').count(), 61);
     Ok(())
 }
 
