@@ -46,6 +46,17 @@ every other word is of the description. A filter has numbers of tasks, uuids,
 due.before:eow, and words of the description, with and, or, xor, ! and brackets
 between them. Words behind -- are text.
 
+attributes that a change may set:
+  description project priority due wait scheduled until entry
+attributes that a filter may ask for, too:
+  modified start end status depends recur parent uuid
+modifiers, as in due.before:eow:
+  none any is equals isnt not before below after above has contains hasnt
+  startswith left endswith right word noword
+virtual tags:
+  PENDING WAITING COMPLETED DELETED ACTIVE OVERDUE BLOCKED BLOCKING TAGGED
+  ANNOTATED
+
 The tasks lie in the file replica.journal, in the folder that the variable
 TASKDATA names, or the setting data.location; without them in .task of the
 folder that HOME names. A folder that is not there is made, and so is the
@@ -56,6 +67,17 @@ names. A word rc.NAME=VALUE sets one for a run:
 
   sync.server.url=http://HOST:PORT
   sync.server.client_id=UUID
+
+settings:
+  data.location sync.server.url sync.server.client_id gc recurrence
+  recurrence.limit urgency.age.max urgency.user.tag.next.coefficient
+  urgency.due.coefficient urgency.blocking.coefficient
+  urgency.uda.priority.H.coefficient urgency.uda.priority.M.coefficient
+  urgency.uda.priority.L.coefficient urgency.scheduled.coefficient
+  urgency.active.coefficient urgency.age.coefficient
+  urgency.annotations.coefficient urgency.tags.coefficient
+  urgency.project.coefficient urgency.blocked.coefficient
+  urgency.waiting.coefficient
 
 status:
   0 done                        4 out of memory
