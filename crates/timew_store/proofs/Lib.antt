@@ -28,3 +28,6 @@ pub mod AsTheyStand
 pub mod MonthTexts
 pub mod Changing
 pub mod GatheredLines
+pub mod ReadOn
+pub mod FilesRead
+pub mod Loads

@@ -15,3 +15,4 @@ pub mod History
 pub mod Held
 pub mod Writing
 pub mod Writable
+pub mod Store

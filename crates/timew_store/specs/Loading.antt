@@ -1,13 +1,20 @@
 -- What loading a store does to the folder and the journal.
-use Rattle.std.specs.Prelude.{◌≡◌, ◌≤◌, ℕ, List, [], ◌∷◌, length, take, Option, Some, None}
-use Rattle.tw_world.specs.Disk.{DiskModel}
+use Rattle.std.specs.Prelude.{◌≡◌, ◌⊎◌, ◌≤◌, ℕ, true, List, [], ◌∷◌, ◌++◌, length, take, Option, Some, None}
+use Rattle.tw_world.specs.Disk.{DiskModel, Rose}
+use Rattle.tw_world.specs.Disk as disk
 use Rattle.tw_world.specs.Crash.{Settled, Tells, Kept, LeavesOnly}
 use Rattle.tw_world.specs.Folder.{Files, FolderModel}
-use Rattle.tw_journal.specs.Open.{Records}
+use Rattle.tw_journal.specs.Record.{rows}
+use Rattle.tw_journal.specs.Open.{Records, IsDamagedAt, IsFault}
+use Rattle.tw_journal.specs.Journal.{IsOpenOn}
+use Rattle.tw_journal.specs.declared.journal.JournalError.{JournalError}
+use Rattle.tw_journal.specs.declared.journal.JournalError.TheVariants.{Disk, Closed, Damaged, TooLong, Memory as NoMemory}
 use Rattle.tw_journal.specs.declared.journal.Journal.{Journal}
 use Rattle.timew_store.specs.Body.{FileChange, Step, step_of}
 use Rattle.timew_store.specs.Body.Step.{Change, Undo}
 use Rattle.timew_store.specs.History.{History, Stands}
+use Rattle.timew_store.specs.declared.error.StoreError.{StoreError}
+use Rattle.timew_store.specs.declared.error.StoreError.TheVariants.{Folder, Journal as OfJournal, Memory}
 use Rattle.timew_store.specs.Held.{magic, Held, OpensTo, IsAtRest, finished}
 
 -- the first so many of the files are finished
@@ -49,3 +56,51 @@ pub record IsLoaded {F D : Type 0} (m : FolderModel F) (n : DiskModel D) (f0 f1 
   pub records : Records magic (n.seen d0) bodies
   pub rest : (history : History) → Stands bodies history → IsAtRest m n journal f1 d1 bodies history
   pub finished_now : (history : History) → Stands bodies history → m.seen f1 ≡ finished (m.seen f0) history.last
+
+-- why month files are not read
+abbrev pub FilesRefused : {F : Type 0} → FolderModel F → (old new : F) → StoreError → Type 0
+FilesRefused m old new Folder = Rose (m.faults old) (m.faults new)
+FilesRefused m old new (OfJournal e) = ⊥
+FilesRefused m old new Memory = Unit {0}
+
+-- the last of these bodies is that of no step, and its record stands at this offset
+pub record EndsInNoStep (bodies : List (List ℕ)) (offset : ℕ) : Type 0 where
+  pub front : List (List ℕ)
+  pub body : List ℕ
+  pub split : bodies ≡ front ++ body ∷ []
+  pub none : step_of body ≡ None
+  pub place : offset ≡ length (rows (magic ∷ front))
+
+-- why the last record is not read: as damaged only where it holds no step
+abbrev pub LastRefused : {D : Type 0} → DiskModel D → (before after : D) → Journal → JournalError → Type 0
+LastRefused n before after journal Disk = Rose (n.faults before) (n.faults after)
+LastRefused n before after journal NoMemory = Unit {0}
+LastRefused n before after journal (Damaged offset) = disk.Tells n before → (bodies : List (List ℕ)) → IsOpenOn n magic journal before bodies → EndsInNoStep bodies offset
+LastRefused n before after journal (TooLong bytes) = ⊥
+LastRefused n before after journal Closed = journal.closed ≡ true
+
+-- the file has records, the last of which holds no step
+pub record HoldsNoStep (file : List ℕ) (offset : ℕ) : Type 0 where
+  pub bodies : List (List ℕ)
+  pub records : Records magic file bodies
+  pub end : EndsInNoStep bodies offset
+
+-- why a journal is not opened with its last step
+abbrev pub OpeningRefused : {D : Type 0} → DiskModel D → (before after : D) → JournalError → Type 0
+OpeningRefused n before after Disk = Rose (n.faults before) (n.faults after)
+OpeningRefused n before after NoMemory = Unit {0}
+OpeningRefused n before after (Damaged offset) = disk.Tells n before → IsDamagedAt magic (n.seen before) offset ⊎ HoldsNoStep (n.seen before) offset
+OpeningRefused n before after (TooLong bytes) = ⊥
+OpeningRefused n before after Closed = ⊥
+
+-- why the last change is not finished
+abbrev pub FinishRefused : {F D : Type 0} → FolderModel F → DiskModel D → (f0 f1 : F) (d0 d1 : D) → StoreError → Type 0
+FinishRefused m n f0 f1 d0 d1 Folder = Rose (m.faults f0) (m.faults f1)
+FinishRefused m n f0 f1 d0 d1 (OfJournal e) = OpeningRefused n d0 d1 e
+FinishRefused m n f0 f1 d0 d1 Memory = Unit {0}
+
+-- a refusal that has nothing to do with the bytes of the journal
+abbrev pub IsStoreFault : StoreError → Type 0
+IsStoreFault Folder = Unit {0}
+IsStoreFault (OfJournal e) = IsFault e
+IsStoreFault Memory = Unit {0}

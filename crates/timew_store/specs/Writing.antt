@@ -11,8 +11,8 @@ use Rattle.timew_store.specs.Body.{FileChange}
 use Rattle.timew_store.specs.History.{History, stepped}
 use Rattle.timew_store.specs.Held.{magic, IsAtRest, HasOld, AreApart}
 use Rattle.timew_store.specs.declared.write.NewFile.{NewFile}
-use Rattle.timew_store.specs.declared.write.StoreError.{StoreError}
-use Rattle.timew_store.specs.declared.write.StoreError.TheVariants.{Folder, Journal as OfJournal, Memory}
+use Rattle.timew_store.specs.declared.error.StoreError.{StoreError}
+use Rattle.timew_store.specs.declared.error.StoreError.TheVariants.{Folder, Journal as OfJournal, Memory}
 
 -- the error that a fault of the folder becomes
 abbrev pub error_of : FolderError → StoreError

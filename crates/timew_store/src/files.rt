@@ -1,10 +1,66 @@
 // Month files as they are kept.
+ghost use Rattle.std.specs.Prelude.{◌≡◌, true, filter, map, IfOk, IfErr};
+ghost use Rattle.std.specs.List.{AllByRecursion};
+ghost use Rattle.std.specs.String.{string_bytes};
+ghost use Rattle.tw_world.specs.Crash.{Tells, Reads};
+ghost use Rattle.timew_store.specs.Body.{is_month_name};
+ghost use Rattle.timew_store.specs.Gathered.{file_of, files_of, months_in};
+ghost use Rattle.timew_store.specs.Held.{bytes_of};
+ghost use Rattle.timew_store.specs.Loading.{FilesRefused};
 
-use tw_world::Text;
+use crate::error::StoreError;
+use crate::name::is_month_name;
+use std::alloc::Global;
+use tw_world::{Folder, Memory, Text};
 
 /// A month file: its name, and its bytes.
 #[derive(Drop)]
 pub(crate) struct MonthFile {
     pub name: Text,
     pub bytes: Vec<u8>,
+}
+
+// The names of month files among names.
+fn months_among(alloc: Global, names: &Vec<String>) -> Result<Vec<Text>, Memory>
+    ensures names { IfOk result (λ months. months.items ≡ filter is_month_name (map string_bytes names.now.items)) }
+{
+    let mut months = Vec::new(alloc);
+    for name in names {
+        if is_month_name(name.as_bytes()) {
+            months.push(Text::from_str(alloc, name.as_str())?)?;
+        }
+    }
+    Ok(months)
+}
+
+fn read_file<F: Folder>(alloc: Global, folder: &mut F, name: &Text) -> Result<MonthFile, StoreError>
+    requires { is_month_name name.now ≡ true }
+    ensures file { IfOk result (λ file. Tells F.model folder.old → file_of file ≡ (name.now, bytes_of (F.model.seen folder.old) name.now)) }
+    ensures reads { Reads F.model folder.old folder.new }
+    ensures refused { IfErr result (FilesRefused F.model folder.old folder.new) }
+{
+    let bytes = match folder.read(alloc, name.as_str())? {
+        Some(bytes) => bytes,
+        None => Vec::new(alloc),
+    };
+    let name = name.copy(alloc)?;
+    Ok(MonthFile { name, bytes })
+}
+
+/// The month files of a folder, in byte order of their names.
+pub(crate) fn read_files<F: Folder>(
+    alloc: Global,
+    folder: &mut F,
+) -> Result<Vec<MonthFile>, StoreError>
+    ensures files { IfOk result (λ files. Tells F.model folder.old → files_of files.items ≡ months_in (F.model.seen folder.old)) }
+    ensures reads { Reads F.model folder.old folder.new }
+    ensures refused { IfErr result (FilesRefused F.model folder.old folder.new) }
+{
+    let names = folder.names(alloc)?;
+    let months = months_among(alloc, &names)?;
+    let mut files = Vec::new(alloc);
+    for name in &months {
+        files.push(read_file(alloc, folder, name)?)?;
+    }
+    Ok(files)
 }

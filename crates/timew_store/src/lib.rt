@@ -5,11 +5,13 @@
 
 mod body;
 mod changes;
+mod error;
 mod fields;
 mod files;
 mod gathering;
 mod interval;
 mod intervals;
+mod kept;
 pub mod laws;
 mod line;
 mod load;
@@ -19,15 +21,18 @@ mod name;
 mod order;
 mod record;
 mod rows;
+mod store;
 mod tail;
 mod texts;
 mod write;
 mod writing;
 
+pub use error::{LoadError, StoreError};
 pub use interval::{Interval, Texts};
 pub use intervals::Intervals;
 pub use month::{MonthError, read_month};
 pub use months::write_month;
+pub use store::Store;
 pub use writing::put_line;
 
 #[cfg(test)]

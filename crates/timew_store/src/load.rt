@@ -1,5 +1,5 @@
 // Loading a store: the last change is finished.
-ghost use Rattle.std.specs.Prelude.{◌≡◌, ◌⊎◌, List, ℕ, OnOk, IfOk, IsErrOf, true, false, Some};
+ghost use Rattle.std.specs.Prelude.{◌≡◌, ◌⊎◌, List, ℕ, OnOk, IfOk, IfErr, IsErrOf, true, false, Some};
 ghost use Rattle.tw_world.specs.Disk.{Rose, Untouched};
 ghost use Rattle.tw_world.specs.Disk as tells;
 ghost use Rattle.tw_world.specs.Turns.{InTurns, crash_of};
@@ -7,13 +7,14 @@ ghost use Rattle.tw_journal.specs.Journal.{IsOpenOn, is_closed, journal_end};
 ghost use Rattle.timew_store.specs.Body.{names_rise};
 ghost use Rattle.tw_world.specs.Crash.{Tells, Settled, LeavesOnly, Kept, Reads};
 ghost use Rattle.tw_world.specs.Folder.{same_bytes, is_file_name};
-ghost use Rattle.timew_store.specs.Held.{magic, bytes_of, finished_file, finished};
-ghost use Rattle.timew_store.specs.Loading.{IsFinishedTo, IsLoaded, OpensAlike, last_of};
+ghost use Rattle.timew_store.specs.Held.{magic, bytes_of, finished_file, finished, Held, OpensTo};
+ghost use Rattle.timew_store.specs.Loading.{IsFinishedTo, IsLoaded, OpensAlike, last_of, LastRefused, FinishRefused, IsStoreFault};
 ghost use Rattle.timew_store.specs.Writing.{change_of, changes_of, AreFileNames};
 
 use crate::body::read_record;
+use crate::error::StoreError;
 use crate::fields::ReadError;
-use crate::write::{NewFile, StoreError};
+use crate::write::NewFile;
 use std::alloc::Global;
 use tw_journal::{Journal, JournalError};
 use tw_world::{Disk, Folder, FolderError};
@@ -52,11 +53,7 @@ fn finish_file<F: Folder>(alloc: Global, folder: &mut F, file: &NewFile) -> Resu
 }
 
 // Finishes a change.
-pub fn finish<F: Folder>(
-    alloc: Global,
-    folder: &mut F,
-    files: &Vec<NewFile>,
-) -> Result<(), FolderError>
+fn finish<F: Folder>(alloc: Global, folder: &mut F, files: &Vec<NewFile>) -> Result<(), FolderError>
     requires { AreFileNames files.now.items }
     ensures done { OnOk result (Tells F.model folder.old → F.model.seen folder.new ≡ finished (F.model.seen folder.old) (changes_of files.now.items)) }
     ensures settled { OnOk result (Tells F.model folder.old → Settled F.model folder.old → Settled F.model folder.new) }
@@ -75,12 +72,13 @@ fn last_files<D: Disk>(
     alloc: Global,
     journal: &Journal,
     disk: &mut D,
-) -> Result<Vec<NewFile>, StoreError>
+) -> Result<Vec<NewFile>, JournalError>
     requires length { is_closed journal.now ≡ false → D.model.len disk.old ≡ journal_end journal.now }
     ensures value { IfOk result (λ files. (bodies : List (List ℕ)) → IsOpenOn D.model magic journal.now disk.old bodies → last_of bodies ≡ Some (changes_of files.items)) }
     ensures names { IfOk result (λ files. AreFileNames files.items) }
     ensures rise { IfOk result (λ files. names_rise (changes_of files.items) ≡ true) }
     ensures untouched { Untouched D.model disk.old disk.new }
+    ensures refused { IfErr result (λ e. LastRefused D.model disk.old disk.new journal.now e) }
 {
     let count = journal.count();
     if count == 0 {
@@ -89,23 +87,27 @@ fn last_files<D: Disk>(
     let body = journal.body(alloc, disk, count - 1)?;
     match read_record(alloc, &body) {
         Ok(held) => Ok(held.into_files()),
-        Err(ReadError::Memory) => Err(StoreError::Memory),
+        Err(ReadError::Memory) => Err(JournalError::Memory),
         Err(ReadError::Malformed) => {
             let offset = journal.offset(disk, count - 1)?;
-            Err(StoreError::Journal(JournalError::Damaged { offset }))
+            Err(JournalError::Damaged { offset })
         }
     }
 }
 
-// Opens the journal and finishes the last change.
-pub fn open_and_finish<F: Folder, D: Disk>(
+/// Opens the journal and finishes the last change.
+pub(crate) fn open_and_finish<F: Folder, D: Disk>(
     alloc: Global,
     folder: &mut F,
     disk: &mut D,
 ) -> Result<Journal, StoreError>
     ensures loaded { IfOk result (λ journal. Tells F.model folder.old → Settled F.model folder.old → tells.Tells D.model disk.old → IsLoaded F.model D.model folder.old folder.new disk.old disk.new journal) }
-    ensures length { IfOk result (λ journal. D.model.len disk.new ≡ journal_end journal) }
+    ensures length { IfOk result (λ journal. (D.model.len disk.new ≡ journal_end journal) × (is_closed journal ≡ false)) }
     ensures any_moment { Tells F.model folder.old → Settled F.model folder.old → tells.Tells D.model disk.old → InTurns F.model (crash_of D.model) (OpensAlike F.model D.model folder.old disk.old) folder.old disk.old folder.new disk.new }
+    ensures refused { IfErr result (λ e. FinishRefused F.model D.model folder.old folder.new disk.old disk.new e) }
+    ensures sound { (held : Held) → tells.Tells D.model disk.old → OpensTo (F.model.seen folder.old) (D.model.seen disk.old) held → IfErr result IsStoreFault }
+    ensures folder { Kept F.model folder.old folder.new }
+    ensures disk { tells.Kept D.model disk.old disk.new }
 {
     let journal = Journal::open(alloc, disk, b"TIMEWJ01")?;
     let files = last_files(alloc, &journal, disk)?;

@@ -1,11 +1,12 @@
 use crate::body::read_record;
+use crate::error::StoreError;
 use crate::fields::ReadError;
 use crate::files::MonthFile;
 use crate::load::open_and_finish;
 use crate::record::{change_body, undo_body};
 use crate::rows::{RowsError, read_rows};
-use crate::write::{StoreError, write_change};
-use crate::{Intervals, MonthError, Texts, read_month, write_month};
+use crate::write::write_change;
+use crate::{Intervals, LoadError, MonthError, Store, Texts, read_month, write_month};
 use std::alloc::Global;
 use std::test::Fail;
 use tw_world::{Folder, MemoryDisk, MemoryFolder, Text};
@@ -240,6 +241,56 @@ fn files_are_read_in_any_order(rt: HostRuntime) -> Result<(), Fail> {
             want,
             "{january} and {february}"
         );
+    }
+    Ok(())
+}
+
+// A folder with these files.
+fn folder_of(alloc: Global, files: &[(&str, &str)]) -> Result<MemoryFolder, Fail> {
+    let mut content = Vec::new(alloc);
+    for (name, text) in files {
+        content.push((
+            String::from_str(alloc, name)?,
+            text.as_bytes().to_vec(alloc)?,
+        ))?;
+    }
+    Ok(MemoryFolder::new(alloc, content, Vec::new(alloc))?)
+}
+
+#[test]
+fn a_store_holds_the_month_files(rt: HostRuntime) -> Result<(), Fail> {
+    let alloc = rt.alloc();
+    let table = [
+        (
+            "inc 20260105T090000Z - 20260105T090005Z\n",
+            "inc 20260201T000000Z\n",
+            "2",
+        ),
+        ("", "", "0"),
+        (
+            "inc 20260105T090000Z\n",
+            "inc 20260201T000000Z\n",
+            "2026-02.data 1",
+        ),
+        ("inc x", "inc y", "2026-01.data 1"),
+    ];
+    for (january, february, want) in table {
+        let files = [
+            ("2026-02.data", february),
+            ("2026-01.data", january),
+            ("notes", "inc z"),
+        ];
+        let mut folder = folder_of(alloc, &files)?;
+        let mut disk = MemoryDisk::new(alloc, Vec::new(alloc), Vec::new(alloc))?;
+        let told = match Store::load(alloc, &mut folder, &mut disk) {
+            Ok(store) => format!(in alloc; "{}", store.intervals().len())?,
+            Err(LoadError::BadLine { file, line }) => format!(in alloc;
+                "{} {line}",
+                file.as_str()
+            )?,
+            Err(_) => String::new(alloc),
+        };
+        assert_eq!(rt; told.as_str(), want, "{january} and {february}");
     }
     Ok(())
 }

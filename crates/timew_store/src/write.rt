@@ -1,6 +1,7 @@
 // Writing a change: its record, and then its files.
 ghost use Rattle.std.specs.Prelude.{◌≡◌, ◌∷◌, ◌++◌, [], List, ℕ, length, OnOk, IfErr, false};
 ghost use Rattle.tw_world.specs.Disk.{Rose};
+ghost use Rattle.tw_world.specs.Disk as tells;
 ghost use Rattle.tw_world.specs.Crash.{Tells, Settled, LeavesOnly, Kept};
 ghost use Rattle.tw_world.specs.Turns.{InTurns, crash_of};
 ghost use Rattle.tw_journal.specs.Journal.{IsOpenOn, is_closed, journal_end};
@@ -9,52 +10,9 @@ ghost use Rattle.timew_store.specs.History.{History};
 ghost use Rattle.timew_store.specs.Held.{magic, replaced, IsPartly, IsAtRest, held_by, OpensToEither, Held};
 ghost use Rattle.timew_store.specs.Writing.{changes_of, AreFileNames, IsReadyFor, WriteRefused};
 
-use tw_journal::{Journal, JournalError};
-use tw_world::{Disk, Folder, FolderError, Memory, Text};
-
-/// Why a store refuses.
-#[derive(Clone, Copy, Debug, PartialEq, Eq, Drop)]
-pub enum StoreError {
-    Folder,
-    Journal(JournalError),
-    Memory,
-}
-
-impl From<Memory> for StoreError {
-    ghost use Rattle.std.specs.Prelude.{◌≡◌};
-    ghost use Rattle.timew_store.specs.declared.write.StoreError.TheVariants.{Memory as NoMemory};
-
-    ghost from_gives = { λ _ e. e ≡ NoMemory };
-
-    fn from(_: Memory) -> StoreError {
-        StoreError::Memory
-    }
-}
-
-impl From<JournalError> for StoreError {
-    ghost use Rattle.std.specs.Prelude.{◌≡◌};
-    ghost use Rattle.timew_store.specs.declared.write.StoreError.TheVariants.{Journal as OfJournal};
-
-    ghost from_gives = { λ error e. e ≡ OfJournal error };
-
-    fn from(error: JournalError) -> StoreError {
-        StoreError::Journal(error)
-    }
-}
-
-impl From<FolderError> for StoreError {
-    ghost use Rattle.std.specs.Prelude.{◌≡◌};
-    ghost use Rattle.timew_store.specs.Writing.{error_of};
-
-    ghost from_gives = { λ error e. e ≡ error_of error };
-
-    fn from(error: FolderError) -> StoreError {
-        match error {
-            FolderError::Failed => StoreError::Folder,
-            FolderError::Memory => StoreError::Memory,
-        }
-    }
-}
+use crate::error::StoreError;
+use tw_journal::Journal;
+use tw_world::{Disk, Folder, FolderError, Text};
 
 /// What a change makes of one month file.
 #[derive(Drop)]
@@ -65,7 +23,7 @@ pub struct NewFile {
 }
 
 // Replaces the files of a change, one after another.
-pub fn replace_all<F: Folder>(folder: &mut F, files: &Vec<NewFile>) -> Result<(), FolderError>
+fn replace_all<F: Folder>(folder: &mut F, files: &Vec<NewFile>) -> Result<(), FolderError>
     requires { AreFileNames files.now.items }
     ensures done { OnOk result (Tells F.model folder.old → F.model.seen folder.new ≡ replaced (F.model.seen folder.old) (changes_of files.now.items)) }
     ensures settled { OnOk result (Tells F.model folder.old → Settled F.model folder.old → Settled F.model folder.new) }
@@ -79,8 +37,8 @@ pub fn replace_all<F: Folder>(folder: &mut F, files: &Vec<NewFile>) -> Result<()
     Ok(())
 }
 
-// Writes the record of a change, and then its files.
-pub fn write_change<F: Folder, D: Disk>(
+/// Writes the record of a change, and then its files.
+pub(crate) fn write_change<F: Folder, D: Disk>(
     journal: &mut Journal,
     folder: &mut F,
     disk: &mut D,
@@ -95,6 +53,8 @@ pub fn write_change<F: Folder, D: Disk>(
         → InTurns F.model (crash_of D.model) (OpensToEither (held_by F.model folder.old before) (record { files = replaced (F.model.seen folder.old) (changes_of files.now.items); undoable = after.undoable })) folder.old disk.old folder.new disk.new }
     ensures length { is_closed journal.new ≡ false → D.model.len disk.new ≡ journal_end journal.new }
     ensures refused { IfErr result (λ e. WriteRefused F.model D.model journal.old journal.new folder.old folder.new disk.old disk.new body.now e) }
+    ensures folder { Kept F.model folder.old folder.new }
+    ensures disk { tells.Kept D.model disk.old disk.new }
 {
     if let Err(error) = journal.append(disk, body) {
         return Err(StoreError::Journal(error));

@@ -1,0 +1,154 @@
+-- Why a store is not loaded, and what it holds where it is.
+use Rattle.std.proofs.Common.{◌≡◌, ℕ, ◌+◌, true, false, List, [], ◌∷◌, ◌++◌, length, take, Some, None, refl, sym, ap, subst, ◌∙◌, arith}
+use Rattle.std.specs.Prelude.{slice_index_or, Result, Ok, Err, IsErrAnd, IfErr}
+use Rattle.std.proofs.lemmas.List.{take_all, take_more}
+use Rattle.tw_world.specs.Disk.{DiskModel}
+use Rattle.tw_world.specs.Disk as disk
+use Rattle.tw_world.specs.Crash.{Tells, Settled, Reads, Kept}
+use Rattle.tw_world.specs.Folder.{Files, FolderModel}
+use Rattle.tw_world.proofs.Crashes.{still_settled}
+use Rattle.tw_journal.specs.Record.{rows}
+use Rattle.tw_journal.specs.Open.{IsFault}
+use Rattle.tw_journal.specs.Journal.{IsOpenOn, IsOpened, ReadRefused}
+use Rattle.tw_journal.specs.declared.journal.Journal.{Journal}
+use Rattle.tw_journal.specs.declared.journal.JournalError.{JournalError}
+use Rattle.tw_journal.specs.declared.journal.JournalError.TheVariants.{Disk, Closed, Damaged, TooLong, Memory as NoMemory}
+use Rattle.tw_journal.proofs.Places.{still_open}
+use Rattle.tw_journal.proofs.Unique.{one_records}
+use Rattle.timew_store.specs.Body.{FileChange, step_of}
+use Rattle.timew_store.specs.History.{History, Stands}
+use Rattle.timew_store.specs.Held.{magic, Held, OpensTo, IsAtRest, finished}
+use Rattle.timew_store.specs.Loading.{IsLoaded, EndsInNoStep, LastRefused, FinishRefused, IsStoreFault, files_or, last_of}
+use Rattle.timew_store.specs.Gathered.{RowsRefused, files_of, months_in, lines_in}
+use Rattle.timew_store.specs.Rows.{judged, rows_of}
+use Rattle.timew_store.specs.Store.{HoldMonths, IsLoadedStore, not_read, not_loaded, MonthsRefused, LoadRefused, IsLoadFault}
+use Rattle.timew_store.specs.declared.files.MonthFile.{MonthFile}
+use Rattle.timew_store.specs.declared.store.Store.{Store}
+use Rattle.timew_store.specs.declared.rows.RowsError.{RowsError}
+use Rattle.timew_store.specs.declared.rows.RowsError.TheVariants as read
+use Rattle.timew_store.specs.declared.error.StoreError.{StoreError}
+use Rattle.timew_store.specs.declared.error.StoreError.TheVariants as store
+use Rattle.timew_store.specs.declared.error.LoadError.{LoadError}
+use Rattle.timew_store.specs.declared.error.LoadError.TheVariants.{Folder, Journal as OfJournal, BadLine, Memory}
+use Rattle.timew_store.proofs.Again.{last_stands}
+use Rattle.timew_store.proofs.FilesRead.{judged_files}
+
+-- what holds of the error that is passed on
+pub passed_on : {T E : Type 0} (r : Result T E) (e : E) (P : E → Type 0) → IsErrAnd r (λ x. x ≡ e) → P e → IfErr r P
+passed_on (Ok v) e P is has = tt
+passed_on (Err x) e P is has = subst P (sym is) has
+
+-- ---- the last record
+
+last_of-push : (front : List (List ℕ)) (body : List ℕ) → last_of (front ++ body ∷ []) ≡ files_or (step_of body)
+last_of-push [] body = refl
+last_of-push (b ∷ []) body = refl
+last_of-push (b ∷ next ∷ front) body = last_of-push (next ∷ front) body
+
+pub ends_in_none : (bodies : List (List ℕ)) (k : ℕ) (body : List ℕ) (offset : ℕ) → length bodies ≡ k + 1 → body ≡ slice_index_or bodies k [] → step_of body ≡ None → offset ≡ length (rows (magic ∷ take k bodies)) → EndsInNoStep bodies offset
+ends_in_none bodies k body offset long is none place = record {
+  front = take k bodies;
+  body = body;
+  split = sym (take_all (k + 1) bodies (omega (arith, long))) ∙ take_more bodies k [] (omega (arith, long)) ∙ ap (λ (b : List ℕ). take k bodies ++ b ∷ []) (sym is);
+  none = none;
+  place = place;
+}
+
+module _ {D : Type 0} (n : DiskModel D) where
+  pub body_refused : (d0 d1 : D) (journal : Journal) (e : JournalError) → ReadRefused n d0 d1 journal e → LastRefused n d0 d1 journal e
+  body_refused d0 d1 journal Disk r = r
+  body_refused d0 d1 journal NoMemory r = tt
+  body_refused d0 d1 journal (Damaged offset) r = λ tells bodies on. absurd (r tells magic bodies on)
+  body_refused d0 d1 journal (TooLong bytes) r = r
+  body_refused d0 d1 journal Closed r = r
+
+  pub offset_refused : (d0 d1 d2 : D) (journal : Journal) (e : JournalError) → disk.Untouched n d0 d1 → ReadRefused n d1 d2 journal e → LastRefused n d0 d2 journal e
+  offset_refused d0 d1 d2 journal Disk untouched r = omega (arith, untouched.kept.faults, r)
+  offset_refused d0 d1 d2 journal NoMemory untouched r = tt
+  offset_refused d0 d1 d2 journal (Damaged offset) untouched r = λ tells bodies on. absurd (r (untouched.kept.tells ∙ tells) magic bodies (still_open n magic journal d0 d1 bodies untouched on))
+  offset_refused d0 d1 d2 journal (TooLong bytes) untouched r = r
+  offset_refused d0 d1 d2 journal Closed untouched r = r
+
+  no_end : (bodies : List (List ℕ)) (offset : ℕ) (changes : List FileChange) → EndsInNoStep bodies offset → last_of bodies ≡ Some changes → ⊥
+  no_end bodies offset changes end last =
+      let none : last_of bodies ≡ None = ap last_of end.split ∙ last_of-push end.front end.body ∙ ap files_or end.none in
+      some_none (sym last ∙ none)
+    where
+      some_none : Some changes ≡ None → ⊥
+      some_none e = cc
+
+  last_fault : (d1 d2 : D) (journal : Journal) (bodies : List (List ℕ)) (changes : List FileChange) (e : JournalError) → disk.Tells n d1 → IsOpenOn n magic journal d1 bodies → last_of bodies ≡ Some changes → LastRefused n d1 d2 journal e → IsFault e
+  last_fault d1 d2 journal bodies changes Disk tells on last r = tt
+  last_fault d1 d2 journal bodies changes NoMemory tells on last r = tt
+  last_fault d1 d2 journal bodies changes (Damaged offset) tells on last r = no_end bodies offset changes (r tells bodies on) last
+  last_fault d1 d2 journal bodies changes (TooLong bytes) tells on last r = r
+  last_fault d1 d2 journal bodies changes Closed tells on last r = apart r on.open_now
+    where
+      apart : journal.closed ≡ true → journal.closed ≡ false → ⊥
+      apart e f = cc
+
+-- where the records stand for a history, the last one is read
+pub last_sound : {F D : Type 0} (m : FolderModel F) (n : DiskModel D) (f0 : F) (d0 d1 d2 : D) (journal : Journal) (held : Held) (e : JournalError) → disk.Tells n d1 → IsOpened n magic d0 d1 journal → OpensTo (m.seen f0) (n.seen d0) held → LastRefused n d1 d2 journal e → IsFault e
+last_sound m n f0 d0 d1 d2 journal held e tells opened opens r =
+    let same = one_records magic (n.seen d0) opened.bodies opens.bodies opened.records opens.records in
+    last_fault n d1 d2 journal opened.bodies opens.history.last e tells opened.now (ap last_of same ∙ last_stands opens.bodies opens.history opens.stands) r
+
+-- ---- the month files
+
+module _ {F : Type 0} (m : FolderModel F) where
+  pub rows_refused : (f0 f1 : F) (files : List MonthFile) (e : RowsError) → (Tells m f0 → files_of files ≡ months_in (m.seen f0)) → RowsRefused e (judged (lines_in (files_of files))) → MonthsRefused m f0 f1 (not_read e)
+  rows_refused f0 f1 files (read.BadLine file line) are r = λ tells. sym (judged_files (m.seen f0) files (are tells)) ∙ r
+  rows_refused f0 f1 files read.Memory are r = tt
+
+  pub months_fault : (f0 f1 : F) (e : LoadError) → MonthsRefused m f0 f1 e → IsLoadFault e
+  months_fault f0 f1 Folder r = tt
+  months_fault f0 f1 (OfJournal e) r = absurd r
+  months_fault f0 f1 (BadLine file line) r = tt
+  months_fault f0 f1 Memory r = tt
+
+-- ---- both
+
+pub store_fault : (e : StoreError) → IsStoreFault e → IsLoadFault (not_loaded e)
+store_fault store.Folder r = tt
+store_fault (store.Journal e) r = r
+store_fault store.Memory r = tt
+
+module _ {F D : Type 0} (m : FolderModel F) (n : DiskModel D) where
+  pub finish_refused : (f0 f1 : F) (d0 d1 : D) (e : StoreError) → FinishRefused m n f0 f1 d0 d1 e → LoadRefused m n f0 f1 d0 d1 (not_loaded e)
+  finish_refused f0 f1 d0 d1 store.Folder r = r
+  finish_refused f0 f1 d0 d1 (store.Journal e) r = r
+  finish_refused f0 f1 d0 d1 store.Memory r = tt
+
+  -- the files are those that the folder and the journal open to
+  loaded_files : (f0 f1 : F) (d0 d1 : D) (journal : Journal) (held : Held) → IsLoaded m n f0 f1 d0 d1 journal → OpensTo (m.seen f0) (n.seen d0) held → m.seen f1 ≡ held.files
+  loaded_files f0 f1 d0 d1 journal held loaded opens =
+      let same = one_records magic (n.seen d0) opens.bodies loaded.bodies opens.records loaded.records in
+      loaded.finished_now opens.history (subst (λ (b : List (List ℕ)). Stands b opens.history) same opens.stands) ∙ opens.files_are
+
+  pub months_refused : (f0 f1 f2 : F) (d0 d1 : D) (journal : Journal) (e : LoadError) → Kept m f0 f1 → (Tells m f0 → Settled m f0 → disk.Tells n d0 → IsLoaded m n f0 f1 d0 d1 journal) → MonthsRefused m f1 f2 e → LoadRefused m n f0 f2 d0 d1 e
+  months_refused f0 f1 f2 d0 d1 journal Folder kept loaded r = omega (arith, kept.faults, r)
+  months_refused f0 f1 f2 d0 d1 journal (OfJournal e) kept loaded r = absurd r
+  months_refused f0 f1 f2 d0 d1 journal (BadLine file line) kept loaded r = λ told settled tells held opens.
+      ap rows_of (sym (loaded_files f0 f1 d0 d1 journal held (loaded told settled tells) opens)) ∙ r (kept.tells ∙ told)
+  months_refused f0 f1 f2 d0 d1 journal Memory kept loaded r = tt
+
+  -- a read leaves at rest what rests
+  rest_kept : (journal : Journal) (f1 f2 : F) (d : D) (bodies : List (List ℕ)) (history : History) → Reads m f1 f2 → IsAtRest m n journal f1 d bodies history → IsAtRest m n journal f2 d bodies history
+  rest_kept journal f1 f2 d bodies history reads rest = record {
+    tells = reads.steps.tells ∙ rest.tells;
+    settled = still_settled m f1 f2 rest.tells rest.settled reads;
+    open_on = rest.open_on;
+    stands = rest.stands;
+    whole = ap (λ (s : Files). finished s history.last) (reads.seen rest.tells) ∙ rest.whole ∙ sym (reads.seen rest.tells);
+  }
+
+  pub store_loaded : (f0 f1 f2 : F) (d0 d1 : D) (store : Store) → Tells m f1 → Reads m f1 f2 → IsLoaded m n f0 f1 d0 d1 store.journal → HoldMonths (m.seen f1) store.months → IsLoadedStore m n f0 f2 d0 d1 store
+  store_loaded f0 f1 f2 d0 d1 store told reads loaded months =
+      let months_now : HoldMonths (m.seen f2) store.months = subst (λ (s : Files). HoldMonths s store.months) (sym (reads.seen told)) months in
+      record {
+        bodies = loaded.bodies;
+        records = loaded.records;
+        on = λ history stands. record { rest = rest_kept store.journal f1 f2 d1 loaded.bodies history reads (loaded.rest history stands); months = months_now };
+        finished_now = λ history stands. reads.seen told ∙ loaded.finished_now history stands;
+        months = months_now;
+      }

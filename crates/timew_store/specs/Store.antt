@@ -1,0 +1,89 @@
+-- A store: month files with their intervals, over a journal.
+use Rattle.std.specs.Prelude.{◌≡◌, ℕ, Bool, List, Ok, Err}
+use Rattle.tw_world.specs.Disk.{DiskModel, Rose}
+use Rattle.tw_world.specs.Disk as disk
+use Rattle.tw_world.specs.Crash.{Settled, Tells}
+use Rattle.tw_world.specs.Folder.{Files, FolderModel}
+use Rattle.tw_journal.specs.Open.{Records, IsFault}
+use Rattle.tw_journal.specs.Journal.{is_closed, journal_end}
+use Rattle.timew_store.specs.History.{History, Stands}
+use Rattle.timew_store.specs.Held.{magic, Held, OpensTo, IsAtRest, finished}
+use Rattle.timew_store.specs.Gathered.{files_of, months_in}
+use Rattle.timew_store.specs.Loading.{OpeningRefused}
+use Rattle.timew_store.specs.Rows.{rows_of}
+use Rattle.timew_store.specs.declared.interval.Interval.{Interval}
+use Rattle.timew_store.specs.declared.kept.Months.{Months}
+use Rattle.timew_store.specs.declared.store.Store.{Store}
+use Rattle.timew_store.specs.declared.rows.RowsError.{RowsError}
+use Rattle.timew_store.specs.declared.rows.RowsError.TheVariants as read
+use Rattle.timew_store.specs.declared.error.StoreError.{StoreError}
+use Rattle.timew_store.specs.declared.error.StoreError.TheVariants as store
+use Rattle.timew_store.specs.declared.error.LoadError.{LoadError}
+use Rattle.timew_store.specs.declared.error.LoadError.TheVariants.{Folder, Journal as OfJournal, BadLine, Memory}
+
+-- these are the month files of a folder, and their intervals
+pub record HoldMonths (files : Files) (months : Months) : Type 0 where
+  pub files_are : files_of months.files.items ≡ months_in files
+  pub rows_are : rows_of files ≡ Ok months.rows
+
+-- the store is open on a folder and a journal, which rest
+pub record IsStoreOn {F D : Type 0} (m : FolderModel F) (n : DiskModel D) (store : Store) (folder : F) (disk : D) (bodies : List (List ℕ)) (history : History) : Type 0 where
+  pub rest : IsAtRest m n store.journal folder disk bodies history
+  pub months : HoldMonths (m.seen folder) store.months
+
+-- its intervals
+abbrev pub rows_kept : Store → List Interval
+rows_kept store = store.months.rows
+
+-- whether a fault of the journal has closed it
+abbrev pub is_store_closed : Store → Bool
+is_store_closed store = is_closed store.journal
+
+-- where the records of its journal end
+abbrev pub store_end : Store → ℕ
+store_end store = journal_end store.journal
+
+-- ---- loading
+
+-- A store was loaded: it is open on the records of the journal, whose last change is finished.
+pub record IsLoadedStore {F D : Type 0} (m : FolderModel F) (n : DiskModel D) (f0 f1 : F) (d0 d1 : D) (store : Store) : Type 0 where
+  pub bodies : List (List ℕ)
+  pub records : Records magic (n.seen d0) bodies
+  pub on : (history : History) → Stands bodies history → IsStoreOn m n store f1 d1 bodies history
+  pub finished_now : (history : History) → Stands bodies history → m.seen f1 ≡ finished (m.seen f0) history.last
+  -- whatever the records stand for
+  pub months : HoldMonths (m.seen f1) store.months
+
+abbrev pub not_loaded : StoreError → LoadError
+not_loaded store.Folder = Folder
+not_loaded (store.Journal e) = OfJournal e
+not_loaded store.Memory = Memory
+
+abbrev pub not_read : RowsError → LoadError
+not_read (read.BadLine file line) = BadLine file line
+not_read read.Memory = Memory
+
+-- why the month files of a folder hold no intervals
+abbrev pub MonthsRefused : {F : Type 0} → FolderModel F → (old new : F) → LoadError → Type 0
+MonthsRefused m old new Folder = Rose (m.faults old) (m.faults new)
+MonthsRefused m old new (OfJournal e) = ⊥
+MonthsRefused m old new (BadLine file line) = Tells m old → rows_of (m.seen old) ≡ Err (file, line)
+MonthsRefused m old new Memory = Unit {0}
+
+-- this is the first bad line of the files that the folder and the journal open to
+abbrev pub IsBadLine : Files → List ℕ → List ℕ × ℕ → Type 0
+IsBadLine files journal line = (held : Held) → OpensTo files journal held → rows_of held.files ≡ Err line
+
+-- why a store is not loaded
+abbrev pub LoadRefused : {F D : Type 0} → FolderModel F → DiskModel D → (f0 f1 : F) (d0 d1 : D) → LoadError → Type 0
+LoadRefused m n f0 f1 d0 d1 Folder = Rose (m.faults f0) (m.faults f1)
+LoadRefused m n f0 f1 d0 d1 (OfJournal e) = OpeningRefused n d0 d1 e
+LoadRefused m n f0 f1 d0 d1 (BadLine file line) = Tells m f0 → Settled m f0 → disk.Tells n d0 → IsBadLine (m.seen f0) (n.seen d0) (file, line)
+LoadRefused m n f0 f1 d0 d1 Memory = Unit {0}
+
+-- a refusal that has nothing to do with the bytes of the journal
+abbrev pub IsLoadFault : LoadError → Type 0
+IsLoadFault Folder = Unit {0}
+IsLoadFault (OfJournal e) = IsFault e
+IsLoadFault (BadLine file line) = Unit {0}
+IsLoadFault Memory = Unit {0}
