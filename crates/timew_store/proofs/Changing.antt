@@ -34,7 +34,7 @@ months_good (n ∷ names) = by_case (is_month_name n) refl (months_good names)
     by_case true is more = (is, more)
     by_case false is more = more
 
-added_good : (k : List ℕ) (names : List (List ℕ)) → is_month_name k ≡ true → AreMonthNames names → AreMonthNames (add_name k names)
+pub added_good : (k : List ℕ) (names : List (List ℕ)) → is_month_name k ≡ true → AreMonthNames names → AreMonthNames (add_name k names)
 added_good k [] is are = (is, tt)
 added_good k (n ∷ names) is are = by_case (bytes_cmp k n) (added_good k names is are.1)
   where
@@ -46,7 +46,7 @@ added_good k (n ∷ names) is are = by_case (bytes_cmp k n) (added_good k names 
 abbrev pub AreMonthFiles : List MonthFile → Type 0
 AreMonthFiles files = AllByRecursion (λ f. is_month_name f.name ≡ true) files
 
-with_good : (months : List MonthFile) (names : List (List ℕ)) → AreMonthFiles months → AreMonthNames names → AreMonthNames (with_names (files_of months) names)
+pub with_good : (months : List MonthFile) (names : List (List ℕ)) → AreMonthFiles months → AreMonthNames names → AreMonthNames (with_names (files_of months) names)
 with_good [] names are good = good
 with_good (m ∷ months) names are good = with_good months (add_name m.name names) are.1 (added_good m.name names are.0 good)
 
@@ -87,7 +87,7 @@ each_same files months rows (n ∷ names) texts good =
     ∙ ap (λ (l : List FileChange). month_change files rows n ++ l) (each_same files months rows names texts good.1)
     ∙ sym (flat_map-cons (month_change files rows) n names)
 
-names_kept : (files : Files) (names : List (List ℕ)) → names_in (map (λ name. (name, bytes_of files name)) names) ≡ names
+pub names_kept : (files : Files) (names : List (List ℕ)) → names_in (map (λ name. (name, bytes_of files name)) names) ≡ names
 names_kept files [] = refl
 names_kept files (n ∷ names) = ap (λ (l : List (List ℕ)). n ∷ l) (names_kept files names)
 

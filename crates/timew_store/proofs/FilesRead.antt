@@ -1,5 +1,5 @@
 -- The month files of a folder, as they are read one after another.
-use Rattle.std.proofs.Common.{◌≡◌, ℕ, zero, suc, ◌+◌, ◌<◌, List, [], ◌∷◌, ◌++◌, map, length, take, get_or, refl, sym, ap, subst, ◌∙◌, arith}
+use Rattle.std.proofs.Common.{true, ◌≡◌, ℕ, zero, suc, ◌+◌, ◌<◌, List, [], ◌∷◌, ◌++◌, map, length, take, get_or, refl, sym, ap, subst, ◌∙◌, arith}
 use Rattle.std.proofs.lemmas.List.{take_more, map-append}
 use Rattle.std.proofs.lemmas.List.Concat.{flat_map-cons}
 use Rattle.std.specs.List.{AllByRecursion}
@@ -8,6 +8,7 @@ use Rattle.tw_world.specs.Crash.{Tells, Reads}
 use Rattle.timew_store.specs.declared.files.MonthFile.{MonthFile}
 use Rattle.timew_store.specs.Gathered.{NamedBytes, file_of, files_of, months_in, lines_in}
 use Rattle.timew_store.specs.Held.{bytes_of}
+use Rattle.timew_store.specs.Kept.{are_named}
 use Rattle.timew_store.specs.Month.{lines}
 use Rattle.timew_store.specs.Rows.{Found, found_from, found_in, month_names, judged, rows_of}
 
@@ -23,6 +24,7 @@ all_here P (y ∷ xs) (suc i) x all lt is = all_here P xs i x all.1 (omega (arit
 pub record AreReadTo {F : Type 0} (m : FolderModel F) (first now : F) (names : List (List ℕ)) (files : List MonthFile) (i : ℕ) : Type 0 where
   pub reads : Reads m first now
   pub files_are : Tells m first → files_of files ≡ named_bytes (m.seen first) (take i names)
+  pub named : are_named files ≡ true
 
 pub one_file_read : (files : Files) (names : List (List ℕ)) (i : ℕ) (name : List ℕ) (had : List MonthFile) (file : MonthFile) → i < length names → name ≡ get_or names i name → files_of had ≡ named_bytes files (take i names)
     → file_of file ≡ (name, bytes_of files name) → files_of (had ++ file ∷ []) ≡ named_bytes files (take (i + 1) names)

@@ -31,3 +31,7 @@ pub mod GatheredLines
 pub mod ReadOn
 pub mod FilesRead
 pub mod Loads
+pub mod RisingMonths
+pub mod MonthsAfter
+pub mod Prepares
+pub mod Undoes

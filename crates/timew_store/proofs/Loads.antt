@@ -18,7 +18,7 @@ use Rattle.tw_journal.proofs.Unique.{one_records}
 use Rattle.timew_store.specs.Body.{FileChange, step_of}
 use Rattle.timew_store.specs.History.{History, Stands}
 use Rattle.timew_store.specs.Held.{magic, Held, OpensTo, IsAtRest, finished}
-use Rattle.timew_store.specs.Loading.{IsLoaded, EndsInNoStep, LastRefused, FinishRefused, IsStoreFault, files_or, last_of}
+use Rattle.timew_store.specs.Loading.{IsLoaded, EndsInNoStep, IsNoStep, StepRefused, LastRefused, FinishRefused, IsStoreFault, files_or, last_of}
 use Rattle.timew_store.specs.Gathered.{RowsRefused, files_of, months_in, lines_in}
 use Rattle.timew_store.specs.Rows.{judged, rows_of}
 use Rattle.timew_store.specs.Store.{HoldMonths, IsLoadedStore, not_read, not_loaded, MonthsRefused, LoadRefused, IsLoadFault}
@@ -45,29 +45,36 @@ last_of-push [] body = refl
 last_of-push (b ∷ []) body = refl
 last_of-push (b ∷ next ∷ front) body = last_of-push (next ∷ front) body
 
-pub ends_in_none : (bodies : List (List ℕ)) (k : ℕ) (body : List ℕ) (offset : ℕ) → length bodies ≡ k + 1 → body ≡ slice_index_or bodies k [] → step_of body ≡ None → offset ≡ length (rows (magic ∷ take k bodies)) → EndsInNoStep bodies offset
-ends_in_none bodies k body offset long is none place = record {
+ends_in_none : (bodies : List (List ℕ)) (k offset : ℕ) → length bodies ≡ k + 1 → IsNoStep bodies k offset → EndsInNoStep bodies offset
+ends_in_none bodies k offset long is = record {
   front = take k bodies;
-  body = body;
-  split = sym (take_all (k + 1) bodies (omega (arith, long))) ∙ take_more bodies k [] (omega (arith, long)) ∙ ap (λ (b : List ℕ). take k bodies ++ b ∷ []) (sym is);
-  none = none;
-  place = place;
+  body = slice_index_or bodies k [];
+  split = sym (take_all (k + 1) bodies (omega (arith, long))) ∙ take_more bodies k [] (omega (arith, long));
+  none = is.0;
+  place = is.1;
 }
 
 module _ {D : Type 0} (n : DiskModel D) where
-  pub body_refused : (d0 d1 : D) (journal : Journal) (e : JournalError) → ReadRefused n d0 d1 journal e → LastRefused n d0 d1 journal e
-  body_refused d0 d1 journal Disk r = r
-  body_refused d0 d1 journal NoMemory r = tt
-  body_refused d0 d1 journal (Damaged offset) r = λ tells bodies on. absurd (r tells magic bodies on)
-  body_refused d0 d1 journal (TooLong bytes) r = r
-  body_refused d0 d1 journal Closed r = r
+  pub body_refused : (k : ℕ) (d0 d1 : D) (journal : Journal) (e : JournalError) → ReadRefused n d0 d1 journal e → StepRefused n d0 d1 journal k e
+  body_refused k d0 d1 journal Disk r = r
+  body_refused k d0 d1 journal NoMemory r = tt
+  body_refused k d0 d1 journal (Damaged offset) r = λ tells bodies on. absurd (r tells magic bodies on)
+  body_refused k d0 d1 journal (TooLong bytes) r = r
+  body_refused k d0 d1 journal Closed r = r
 
-  pub offset_refused : (d0 d1 d2 : D) (journal : Journal) (e : JournalError) → disk.Untouched n d0 d1 → ReadRefused n d1 d2 journal e → LastRefused n d0 d2 journal e
-  offset_refused d0 d1 d2 journal Disk untouched r = omega (arith, untouched.kept.faults, r)
-  offset_refused d0 d1 d2 journal NoMemory untouched r = tt
-  offset_refused d0 d1 d2 journal (Damaged offset) untouched r = λ tells bodies on. absurd (r (untouched.kept.tells ∙ tells) magic bodies (still_open n magic journal d0 d1 bodies untouched on))
-  offset_refused d0 d1 d2 journal (TooLong bytes) untouched r = r
-  offset_refused d0 d1 d2 journal Closed untouched r = r
+  pub offset_refused : (k : ℕ) (d0 d1 d2 : D) (journal : Journal) (e : JournalError) → disk.Untouched n d0 d1 → ReadRefused n d1 d2 journal e → StepRefused n d0 d2 journal k e
+  offset_refused k d0 d1 d2 journal Disk untouched r = omega (arith, untouched.kept.faults, r)
+  offset_refused k d0 d1 d2 journal NoMemory untouched r = tt
+  offset_refused k d0 d1 d2 journal (Damaged offset) untouched r = λ tells bodies on. absurd (r (untouched.kept.tells ∙ tells) magic bodies (still_open n magic journal d0 d1 bodies untouched on))
+  offset_refused k d0 d1 d2 journal (TooLong bytes) untouched r = r
+  offset_refused k d0 d1 d2 journal Closed untouched r = r
+
+  pub last_refused : (d0 d1 : D) (journal : Journal) (k : ℕ) (e : JournalError) → journal.count ≡ k + 1 → StepRefused n d0 d1 journal k e → LastRefused n d0 d1 journal e
+  last_refused d0 d1 journal k Disk count r = r
+  last_refused d0 d1 journal k NoMemory count r = tt
+  last_refused d0 d1 journal k (Damaged offset) count r = λ tells bodies on. ends_in_none bodies k offset (omega (arith, on.count, count)) (r tells bodies on)
+  last_refused d0 d1 journal k (TooLong bytes) count r = r
+  last_refused d0 d1 journal k Closed count r = r
 
   no_end : (bodies : List (List ℕ)) (offset : ℕ) (changes : List FileChange) → EndsInNoStep bodies offset → last_of bodies ≡ Some changes → ⊥
   no_end bodies offset changes end last =

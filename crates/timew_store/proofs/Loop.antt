@@ -1,16 +1,15 @@
 -- Reading one file after the other, as a loop does.
 use Rattle.std.proofs.Common.{◌≡◌, ℕ, suc, ◌-◌, ◌+◌, ◌≤◌, ◌<◌, List, [], ◌∷◌, ◌++◌, length, true, Option, Some, None, refl, sym, ap, ◌∙◌, append_assoc, arith}
 use Rattle.std.proofs.lemmas.List.{append-nil, map-append}
-use Rattle.tw_world.specs.Folder.{is_file_name}
 use Rattle.timew_store.specs.declared.fields.ReadError.{ReadError}
 use Rattle.timew_store.specs.declared.fields.ReadError.TheVariants.{Memory, Malformed}
 use Rattle.timew_store.specs.declared.write.NewFile.{NewFile}
-use Rattle.timew_store.specs.Body.{FileChange, ◌>>=◌, file_at, files_at, names_rise}
+use Rattle.timew_store.specs.Body.{FileChange, AreMonths, is_month_name, ◌>>=◌, file_at, files_at, names_rise}
 use Rattle.timew_store.specs.Reading.{Fails, step_in, files_held}
 use Rattle.timew_store.specs.Loading.{files_in}
 use Rattle.timew_store.specs.declared.body.Record.{Record}
 use Rattle.timew_store.specs.declared.body.Record.TheVariants.{Change, Undo}
-use Rattle.timew_store.specs.Writing.{change_of, changes_of, AreFileNames}
+use Rattle.timew_store.specs.Writing.{change_of, changes_of}
 
 -- what was read before, and what is still read
 abbrev pub with_front : List FileChange → Option (List FileChange × List ℕ) → Option (List FileChange × List ℕ)
@@ -43,7 +42,7 @@ is_done front count i bytes total le so_far =
 
 -- ---- what was read
 
-pub names_more : (files : List NewFile) (file : NewFile) → AreFileNames files → is_file_name file.name ≡ true → AreFileNames (files ++ file ∷ [])
+pub names_more : (files : List NewFile) (file : NewFile) → AreMonths (changes_of files) → is_month_name file.name ≡ true → AreMonths (changes_of (files ++ file ∷ []))
 names_more [] file are is = (is, tt)
 names_more (f ∷ files) file are is = (are.0, names_more files file are.1 is)
 

@@ -6,13 +6,9 @@ use Rattle.std.proofs.lemmas.Bool.{le-ltb}
 use Rattle.std.proofs.lemmas.List.{take_at, drop_at, append-nil, length-append}
 use Rattle.std.proofs.lemmas.List.Concat.{flat_map-cons}
 use Rattle.std.proofs.lemmas.Nat.{from_be_bytes-to_be_bytes_4}
-use Rattle.timew_store.specs.Body.{FileChange, Step, field_bytes, file_bytes, files_bytes, body_of, is_month_name, names_rise, number_at, field_at, named, file_at, files_at, files_of, step_of}
+use Rattle.timew_store.specs.Body.{FileChange, Step, field_bytes, file_bytes, files_bytes, body_of, is_month_name, AreMonths, names_rise, number_at, field_at, named, file_at, files_at, files_of, step_of}
 use Rattle.timew_store.specs.Body.Step.{Change, Undo}
 use Rattle.timew_store.specs.Loading.{files_in}
-
--- each file has the name of a month
-abbrev pub AreMonths : List FileChange → Type 0
-AreMonths files = AllByRecursion (λ f. is_month_name f.name ≡ true) files
 
 number_again : (w : Width) (limit : ℕ) (len : (n : ℕ) → length (to_be_bytes w n) ≡ byte_len w) (again : (n : ℕ) → n < limit → from_be_bytes w (to_be_bytes w n) ≡ n) (n : ℕ) (rest : List ℕ) → n < limit → number_at w (to_be_bytes w n ++ rest) ≡ Some (n, rest)
 number_again w limit len again n rest lt =

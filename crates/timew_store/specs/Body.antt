@@ -1,8 +1,8 @@
 -- The journal's records of a store: which month files a change replaces, with their bytes before and after.
-use Rattle.std.specs.Prelude.{ℕ, zero, suc, ◌+◌, ◌-◌, ◌*◌, Bool, true, ◌&&◌, ◌==◌, nat_lt, nat_le, if◌then◌else◌, List, [], ◌∷◌, ◌++◌, length, take, drop, slice_index, codes, Option, Some, None}
+use Rattle.std.specs.Prelude.{◌≡◌, ℕ, zero, suc, ◌+◌, ◌-◌, ◌*◌, Bool, true, ◌&&◌, ◌==◌, nat_lt, nat_le, if◌then◌else◌, List, [], ◌∷◌, ◌++◌, length, take, drop, slice_index, codes, Option, Some, None}
 use Rattle.std.specs.Int.{Width, w32, byte_len, from_be_bytes, to_be_bytes}
 use Rattle.std.specs.Char.{is_ascii_digit}
-use Rattle.std.specs.List.{flat_map, list_all}
+use Rattle.std.specs.List.{flat_map, list_all, AllByRecursion}
 use Rattle.std.specs.Ordering.{is_lt}
 use Rattle.tw_world.specs.Folder.{bytes_cmp, same_bytes}
 
@@ -42,6 +42,10 @@ abbrev pub is_month_name : List ℕ → Bool
 is_month_name name =
     (length name == 12) && list_all is_ascii_digit (take 4 name) && (slice_index name 4 == 45) && list_all is_ascii_digit (take 2 (drop 5 name))
     && nat_le 1 (two_digits (drop 5 name)) && nat_le (two_digits (drop 5 name)) 12 && same_bytes (drop 7 name) (codes ".data")
+
+-- each file has the name of a month
+abbrev pub AreMonths : List FileChange → Type 0
+AreMonths files = AllByRecursion (λ f. is_month_name f.name ≡ true) files
 
 -- the names rise in byte order, so none stands twice
 abbrev pub rises_from : List ℕ → List FileChange → Bool

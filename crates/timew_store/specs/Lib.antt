@@ -16,3 +16,4 @@ pub mod Held
 pub mod Writing
 pub mod Writable
 pub mod Store
+pub mod Undo

@@ -1,5 +1,5 @@
 -- What loading a store does to the folder and the journal.
-use Rattle.std.specs.Prelude.{◌≡◌, ◌⊎◌, ◌≤◌, ℕ, true, List, [], ◌∷◌, ◌++◌, length, take, Option, Some, None}
+use Rattle.std.specs.Prelude.{◌≡◌, ◌⊎◌, ◌≤◌, ℕ, true, List, [], ◌∷◌, ◌++◌, length, take, slice_index_or, Option, Some, None}
 use Rattle.tw_world.specs.Disk.{DiskModel, Rose}
 use Rattle.tw_world.specs.Disk as disk
 use Rattle.tw_world.specs.Crash.{Settled, Tells, Kept, LeavesOnly}
@@ -62,6 +62,18 @@ abbrev pub FilesRefused : {F : Type 0} → FolderModel F → (old new : F) → S
 FilesRefused m old new Folder = Rose (m.faults old) (m.faults new)
 FilesRefused m old new (OfJournal e) = ⊥
 FilesRefused m old new Memory = Unit {0}
+
+-- the body with this number is that of no step, and its record stands at this offset
+abbrev pub IsNoStep : List (List ℕ) → ℕ → ℕ → Type 0
+IsNoStep bodies k offset = (step_of (slice_index_or bodies k []) ≡ None) × (offset ≡ length (rows (magic ∷ take k bodies)))
+
+-- why the record with this number is not read: as damaged only where it holds no step
+abbrev pub StepRefused : {D : Type 0} → DiskModel D → (before after : D) → Journal → ℕ → JournalError → Type 0
+StepRefused n before after journal k Disk = Rose (n.faults before) (n.faults after)
+StepRefused n before after journal k NoMemory = Unit {0}
+StepRefused n before after journal k (Damaged offset) = disk.Tells n before → (bodies : List (List ℕ)) → IsOpenOn n magic journal before bodies → IsNoStep bodies k offset
+StepRefused n before after journal k (TooLong bytes) = ⊥
+StepRefused n before after journal k Closed = journal.closed ≡ true
 
 -- the last of these bodies is that of no step, and its record stands at this offset
 pub record EndsInNoStep (bodies : List (List ℕ)) (offset : ℕ) : Type 0 where

@@ -1,13 +1,17 @@
 -- A store: month files with their intervals, over a journal.
-use Rattle.std.specs.Prelude.{◌≡◌, ℕ, Bool, List, Ok, Err}
+use Rattle.std.specs.Prelude.{◌≡◌, ℕ, ◌+◌, Bool, List, [], ◌∷◌, ◌++◌, length, Ok, Err}
 use Rattle.tw_world.specs.Disk.{DiskModel, Rose}
 use Rattle.tw_world.specs.Disk as disk
 use Rattle.tw_world.specs.Crash.{Settled, Tells}
 use Rattle.tw_world.specs.Folder.{Files, FolderModel}
 use Rattle.tw_journal.specs.Open.{Records, IsFault}
-use Rattle.tw_journal.specs.Journal.{is_closed, journal_end}
+use Rattle.tw_journal.specs.Journal.{is_closed, journal_end, IsOpenOn, AppendRefused}
+use Rattle.tw_journal.specs.declared.journal.JournalError.{JournalError}
+use Rattle.timew_store.specs.Body.{FileChange, body_of}
+use Rattle.timew_store.specs.Body.Step.{Change}
 use Rattle.timew_store.specs.History.{History, Stands}
-use Rattle.timew_store.specs.Held.{magic, Held, OpensTo, IsAtRest, finished}
+use Rattle.timew_store.specs.Held.{magic, Held, OpensTo, IsAtRest, finished, held_by, replaced}
+use Rattle.timew_store.specs.Months.{changes_to}
 use Rattle.timew_store.specs.Gathered.{files_of, months_in}
 use Rattle.timew_store.specs.Loading.{OpeningRefused}
 use Rattle.timew_store.specs.Rows.{rows_of}
@@ -87,3 +91,44 @@ IsLoadFault Folder = Unit {0}
 IsLoadFault (OfJournal e) = IsFault e
 IsLoadFault (BadLine file line) = Unit {0}
 IsLoadFault Memory = Unit {0}
+
+-- ---- changing
+
+-- the changes that an undo can take back, with this one where it changes something
+abbrev pub with_any : List FileChange → List (List FileChange) → List (List FileChange)
+with_any [] undoable = undoable
+with_any (f ∷ files) undoable = (f ∷ files) ∷ undoable
+
+-- the state after a change to these intervals
+abbrev pub changed : Held → List Interval → Held
+changed held rows = record { files = replaced held.files (changes_to held.files rows); undoable = with_any (changes_to held.files rows) held.undoable }
+
+-- the bodies that a change adds: one, or none where nothing changes
+abbrev pub change_bodies : List FileChange → List (List ℕ)
+change_bodies [] = []
+change_bodies (f ∷ files) = body_of (Change (f ∷ files)) ∷ []
+
+-- the store is open on these records, and holds this
+pub record IsMovedTo {F D : Type 0} (m : FolderModel F) (n : DiskModel D) (store : Store) (folder : F) (disk : D) (bodies : List (List ℕ)) (held : Held) : Type 0 where
+  pub history : History
+  pub on : IsStoreOn m n store folder disk bodies history
+  pub holds : held_by m folder history ≡ held
+
+-- the journal refused this body, and the folder was not used
+pub record IsRefusedBody {D : Type 0} (n : DiskModel D) (old new : Store) (d0 d1 : D) (body : List ℕ) (e : JournalError) : Type 0 where
+  pub refused : AppendRefused n old.journal new.journal d0 d1 (length body + 5) e
+  pub months : new.months ≡ old.months
+
+-- the record of this body stands
+abbrev pub StandsMore : {D : Type 0} → DiskModel D → (old new : Store) (d0 d1 : D) (body : List ℕ) → Type 0
+StandsMore n old new d0 d1 body = (bodies : List (List ℕ)) → IsOpenOn n magic old.journal d0 bodies → IsOpenOn n magic new.journal d1 (bodies ++ body ∷ [])
+
+-- the body of a change to these intervals, of a store that is open
+abbrev pub IsChangeBody : {F D : Type 0} → FolderModel F → DiskModel D → Store → F → D → List Interval → List ℕ → Type 0
+IsChangeBody m n store folder disk rows body = (bodies : List (List ℕ)) (history : History) → IsStoreOn m n store folder disk bodies history → body ≡ body_of (Change (changes_to (m.seen folder) rows))
+
+-- Why a change is not made. Where the journal refuses, the folder is not used; where the folder fails, the record stands.
+abbrev pub ChangeRefused : {F D : Type 0} → FolderModel F → DiskModel D → (old new : Store) (f0 f1 : F) (d0 d1 : D) → List Interval → StoreError → Type 0
+ChangeRefused m n old new f0 f1 d0 d1 rows store.Folder = Rose (m.faults f0) (m.faults f1) × ((body : List ℕ) × IsChangeBody m n old f0 d0 rows body × StandsMore n old new d0 d1 body)
+ChangeRefused m n old new f0 f1 d0 d1 rows (store.Journal e) = (f1 ≡ f0) × ((body : List ℕ) × IsChangeBody m n old f0 d0 rows body × IsRefusedBody n old new d0 d1 body e)
+ChangeRefused m n old new f0 f1 d0 d1 rows store.Memory = (new ≡ old) × (f1 ≡ f0) × (d1 ≡ d0)

@@ -1,10 +1,10 @@
 // Reading the body of a record.
 ghost use Rattle.std.specs.Prelude.{◌≡◌, IfOk, true};
 ghost use Rattle.std.specs.Ordering.{is_lt};
-ghost use Rattle.tw_world.specs.Folder.{bytes_cmp, is_file_name};
-ghost use Rattle.timew_store.specs.Body.{named, file_at, files_at, files_of, step_of, names_rise};
+ghost use Rattle.tw_world.specs.Folder.{bytes_cmp};
+ghost use Rattle.timew_store.specs.Body.{AreMonths, is_month_name, named, file_at, files_at, files_of, step_of, names_rise};
 ghost use Rattle.timew_store.specs.Reading.{Gives, step_in, files_held};
-ghost use Rattle.timew_store.specs.Writing.{change_of, changes_of, AreFileNames};
+ghost use Rattle.timew_store.specs.Writing.{change_of, changes_of};
 
 use crate::fields::{ReadError, field_at, u32_at};
 use crate::name::is_month_name;
@@ -21,7 +21,7 @@ pub enum Record {
 
 fn read_name(alloc: Global, name: &[u8]) -> Result<Text, ReadError>
     ensures value { Gives (λ text. text) result (named name.now) }
-    ensures name { IfOk result (λ text. is_file_name text ≡ true) }
+    ensures name { IfOk result (λ text. is_month_name text ≡ true) }
 {
     if !is_month_name(name) {
         return Err(ReadError::Malformed);
@@ -35,7 +35,7 @@ fn read_name(alloc: Global, name: &[u8]) -> Result<Text, ReadError>
 #[tactic(auto, unfolding(crate::specs::Body::file_at))]
 fn read_file(alloc: Global, bytes: &[u8]) -> Result<(NewFile, &[u8]), ReadError>
     ensures value { Gives (λ x. (change_of x.0, x.1.now)) result (file_at bytes.now) }
-    ensures name { IfOk result (λ x. is_file_name x.0.name ≡ true) }
+    ensures name { IfOk result (λ x. is_month_name x.0.name ≡ true) }
 {
     let (name, rest) = field_at(bytes)?;
     let (old, rest) = field_at(rest)?;
@@ -48,7 +48,7 @@ fn read_file(alloc: Global, bytes: &[u8]) -> Result<(NewFile, &[u8]), ReadError>
 
 fn read_files(alloc: Global, count: u32, bytes: &[u8]) -> Result<(Vec<NewFile>, &[u8]), ReadError>
     ensures value { Gives (λ x. (changes_of x.0.items, x.1.now)) result (files_at count bytes.now) }
-    ensures names { IfOk result (λ x. AreFileNames x.0.items) }
+    ensures names { IfOk result (λ x. AreMonths (changes_of x.0.items)) }
 {
     let mut files = Vec::new(alloc);
     let mut rest = bytes;
@@ -84,7 +84,7 @@ fn is_before(file: &NewFile, next: &NewFile) -> bool
 #[tactic(auto, unfolding(crate::specs::Body::files_of))]
 fn all_files(alloc: Global, bytes: &[u8]) -> Result<Vec<NewFile>, ReadError>
     ensures value { Gives (λ files. changes_of files.items) result (files_of bytes.now) }
-    ensures names { IfOk result (λ files. AreFileNames files.items) }
+    ensures names { IfOk result (λ files. AreMonths (changes_of files.items)) }
     ensures rise { IfOk result (λ files. names_rise (changes_of files.items) ≡ true) }
 {
     let (count, rest) = u32_at(bytes)?;
@@ -100,7 +100,7 @@ fn all_files(alloc: Global, bytes: &[u8]) -> Result<Vec<NewFile>, ReadError>
 #[tactic(auto, unfolding(crate::specs::Body::step_of))]
 pub(crate) fn read_record(alloc: Global, body: &[u8]) -> Result<Record, ReadError>
     ensures value { Gives step_in result (step_of body.now) }
-    ensures names { IfOk result (λ held. AreFileNames (files_held held)) }
+    ensures names { IfOk result (λ held. AreMonths (changes_of (files_held held))) }
     ensures rise { IfOk result (λ held. names_rise (changes_of (files_held held)) ≡ true) }
 {
     match body {

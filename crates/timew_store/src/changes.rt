@@ -1,12 +1,13 @@
 // What becomes of the month files when intervals are to stand in them.
-ghost use Rattle.std.specs.Prelude.{◌≡◌, ◌++◌, ◌∷◌, [], ℕ, List, true, map, OnOk, IfOk};
+ghost use Rattle.std.specs.Prelude.{◌≡◌, ◌++◌, ◌∷◌, [], ℕ, List, true, Ok, map, OnOk, IfOk};
 ghost use Rattle.std.specs.List.{flat_map, AllByRecursion};
 ghost use Rattle.tw_world.specs.Folder.{Files, same_bytes, add_name};
-ghost use Rattle.timew_store.specs.Body.{is_month_name, names_rise};
+ghost use Rattle.timew_store.specs.Body.{AreMonths};
 ghost use Rattle.timew_store.specs.Gathered.{files_of, months_in};
-ghost use Rattle.timew_store.specs.Interval.{AreRows};
-ghost use Rattle.timew_store.specs.Kept.{bytes_in, text_in, names_in, with_names, one_change};
+ghost use Rattle.timew_store.specs.Held.{replaced};
+ghost use Rattle.timew_store.specs.Kept.{bytes_in, text_in, names_in, with_names, one_change, are_named};
 ghost use Rattle.timew_store.specs.Months.{changes_to};
+ghost use Rattle.timew_store.specs.Rows.{rows_of};
 ghost use Rattle.timew_store.specs.Writable.{IsWritable};
 ghost use Rattle.timew_store.specs.Writing.{changes_of};
 
@@ -24,8 +25,8 @@ fn has_name(file: &MonthFile, name: &Text) -> bool
     file.name.as_str() == name.as_str()
 }
 
-// The names of these files.
-fn names_of(alloc: Global, files: &Vec<MonthFile>) -> Result<Vec<Text>, Memory>
+/// The names of these files.
+pub(crate) fn names_of(alloc: Global, files: &Vec<MonthFile>) -> Result<Vec<Text>, Memory>
     ensures { IfOk result (λ names. names.items ≡ names_in (files_of files.now.items)) }
 {
     let mut names = Vec::with_capacity(alloc, files.len())?;
@@ -101,8 +102,11 @@ pub(crate) fn changes_to(
     kept: &Vec<MonthFile>,
     rows: &Intervals,
 ) -> Result<Vec<NewFile>, Memory>
+    requires { are_named kept.now.items ≡ true }
     ensures changes { IfOk result (λ changes. (files : Files) → files_of kept.now.items ≡ months_in files → changes_of changes.items ≡ changes_to files rows.now) }
+    ensures named { IfOk result (λ changes. AreMonths (changes_of changes.items)) }
     ensures writable { OnOk result (AllByRecursion IsWritable rows.now) }
+    ensures hold { OnOk result ((files : Files) → rows_of (replaced files (changes_to files rows.now)) ≡ Ok rows.now) }
 {
     let months = texts_of(alloc, rows.as_slice())?;
     let names = all_names(alloc, kept, &months)?;

@@ -104,3 +104,71 @@ impl From<RowsError> for LoadError {
         }
     }
 }
+
+/// Why a change is not taken back.
+#[derive(Debug, Drop)]
+pub enum UndoError {
+    /// The folder failed. The record stands, and the next load finishes the undo.
+    Folder,
+    /// The journal refused, and the folder was not used.
+    Journal(JournalError),
+    /// Without the change this line of this month file would be no interval, or overlap one that stands before it in order.
+    BadLine { file: Text, line: u64 },
+    /// This file no longer has the bytes that the change left.
+    Edited { file: Text },
+    /// Every change is undone.
+    NothingToUndo,
+    /// There was no memory.
+    Memory,
+}
+
+impl From<StoreError> for UndoError {
+    ghost use Rattle.std.specs.Prelude.{◌≡◌};
+    ghost use Rattle.timew_store.specs.Undo.{not_written};
+
+    ghost from_gives = { λ error e. e ≡ not_written error };
+
+    fn from(error: StoreError) -> UndoError {
+        match error {
+            StoreError::Folder => UndoError::Folder,
+            StoreError::Journal(error) => UndoError::Journal(error),
+            StoreError::Memory => UndoError::Memory,
+        }
+    }
+}
+
+impl From<RowsError> for UndoError {
+    ghost use Rattle.std.specs.Prelude.{◌≡◌};
+    ghost use Rattle.timew_store.specs.Undo.{not_read_back};
+
+    ghost from_gives = { λ error e. e ≡ not_read_back error };
+
+    fn from(error: RowsError) -> UndoError {
+        match error {
+            RowsError::BadLine { file, line } => UndoError::BadLine { file, line },
+            RowsError::Memory => UndoError::Memory,
+        }
+    }
+}
+
+impl From<JournalError> for UndoError {
+    ghost use Rattle.std.specs.Prelude.{◌≡◌};
+    ghost use Rattle.timew_store.specs.declared.error.UndoError.TheVariants.{Journal as OfJournal};
+
+    ghost from_gives = { λ error e. e ≡ OfJournal error };
+
+    fn from(error: JournalError) -> UndoError {
+        UndoError::Journal(error)
+    }
+}
+
+impl From<Memory> for UndoError {
+    ghost use Rattle.std.specs.Prelude.{◌≡◌};
+    ghost use Rattle.timew_store.specs.declared.error.UndoError.TheVariants.{Memory as NoMemory};
+
+    ghost from_gives = { λ _ e. e ≡ NoMemory };
+
+    fn from(_: Memory) -> UndoError {
+        UndoError::Memory
+    }
+}

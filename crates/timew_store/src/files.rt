@@ -6,10 +6,14 @@ ghost use Rattle.tw_world.specs.Crash.{Tells, Reads};
 ghost use Rattle.timew_store.specs.Body.{is_month_name};
 ghost use Rattle.timew_store.specs.Gathered.{file_of, files_of, months_in};
 ghost use Rattle.timew_store.specs.Held.{bytes_of};
+ghost use Rattle.timew_store.specs.Kept.{are_named};
 ghost use Rattle.timew_store.specs.Loading.{FilesRefused};
+ghost use Rattle.timew_store.specs.Store.{HoldMonths, MonthsRefused};
 
-use crate::error::StoreError;
+use crate::error::{LoadError, StoreError};
+use crate::kept::Months;
 use crate::name::is_month_name;
+use crate::rows::read_rows;
 use std::alloc::Global;
 use tw_world::{Folder, Memory, Text};
 
@@ -36,6 +40,7 @@ fn months_among(alloc: Global, names: &Vec<String>) -> Result<Vec<Text>, Memory>
 fn read_file<F: Folder>(alloc: Global, folder: &mut F, name: &Text) -> Result<MonthFile, StoreError>
     requires { is_month_name name.now ≡ true }
     ensures file { IfOk result (λ file. Tells F.model folder.old → file_of file ≡ (name.now, bytes_of (F.model.seen folder.old) name.now)) }
+    ensures name { IfOk result (λ file. file.name ≡ name.now) }
     ensures reads { Reads F.model folder.old folder.new }
     ensures refused { IfErr result (FilesRefused F.model folder.old folder.new) }
 {
@@ -47,13 +52,11 @@ fn read_file<F: Folder>(alloc: Global, folder: &mut F, name: &Text) -> Result<Mo
     Ok(MonthFile { name, bytes })
 }
 
-/// The month files of a folder, in byte order of their names.
-pub(crate) fn read_files<F: Folder>(
-    alloc: Global,
-    folder: &mut F,
-) -> Result<Vec<MonthFile>, StoreError>
+// The month files of a folder, in byte order of their names.
+fn read_files<F: Folder>(alloc: Global, folder: &mut F) -> Result<Vec<MonthFile>, StoreError>
     ensures files { IfOk result (λ files. Tells F.model folder.old → files_of files.items ≡ months_in (F.model.seen folder.old)) }
     ensures reads { Reads F.model folder.old folder.new }
+    ensures named { IfOk result (λ files. are_named files.items ≡ true) }
     ensures refused { IfErr result (FilesRefused F.model folder.old folder.new) }
 {
     let names = folder.names(alloc)?;
@@ -63,4 +66,15 @@ pub(crate) fn read_files<F: Folder>(
         files.push(read_file(alloc, folder, name)?)?;
     }
     Ok(files)
+}
+
+/// The month files of a folder and their intervals, or the first bad line.
+pub(crate) fn read_months<F: Folder>(alloc: Global, folder: &mut F) -> Result<Months, LoadError>
+    ensures months { IfOk result (λ months. Tells F.model folder.old → HoldMonths (F.model.seen folder.old) months) }
+    ensures reads { Reads F.model folder.old folder.new }
+    ensures refused { IfErr result (λ e. MonthsRefused F.model folder.old folder.new e) }
+{
+    let files = read_files(alloc, folder)?;
+    let rows = read_rows(alloc, &files)?;
+    Ok(Months { files, rows })
 }

@@ -3,6 +3,7 @@
 //! It stands on tw_journal (records on a disk), tw_time (moments) and tw_world (folders).
 #![tactic(auto)]
 
+mod after;
 mod body;
 mod changes;
 mod error;
@@ -19,15 +20,17 @@ mod month;
 mod months;
 mod name;
 mod order;
+mod prepared;
 mod record;
 mod rows;
 mod store;
 mod tail;
 mod texts;
+mod undo;
 mod write;
 mod writing;
 
-pub use error::{LoadError, StoreError};
+pub use error::{LoadError, StoreError, UndoError};
 pub use interval::{Interval, Texts};
 pub use intervals::Intervals;
 pub use month::{MonthError, read_month};

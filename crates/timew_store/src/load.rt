@@ -1,17 +1,18 @@
 // Loading a store: the last change is finished.
-ghost use Rattle.std.specs.Prelude.{◌≡◌, ◌⊎◌, List, ℕ, OnOk, IfOk, IfErr, IsErrOf, true, false, Some};
+ghost use Rattle.std.specs.Prelude.{◌≡◌, ◌⊎◌, ◌<◌, [], List, ℕ, slice_index_or, OnOk, IfOk, IfErr, IsErrOf, true, false, Some};
 ghost use Rattle.tw_world.specs.Disk.{Rose, Untouched};
 ghost use Rattle.tw_world.specs.Disk as tells;
 ghost use Rattle.tw_world.specs.Turns.{InTurns, crash_of};
-ghost use Rattle.tw_journal.specs.Journal.{IsOpenOn, is_closed, journal_end};
-ghost use Rattle.timew_store.specs.Body.{names_rise};
+ghost use Rattle.tw_journal.specs.Journal.{IsOpenOn, is_closed, journal_end, journal_count};
+ghost use Rattle.timew_store.specs.Body.{AreMonths, names_rise, step_of};
+ghost use Rattle.timew_store.specs.Reading.{step_in, files_held};
 ghost use Rattle.tw_world.specs.Crash.{Tells, Settled, LeavesOnly, Kept, Reads};
 ghost use Rattle.tw_world.specs.Folder.{same_bytes, is_file_name};
 ghost use Rattle.timew_store.specs.Held.{magic, bytes_of, finished_file, finished, Held, OpensTo};
-ghost use Rattle.timew_store.specs.Loading.{IsFinishedTo, IsLoaded, OpensAlike, last_of, LastRefused, FinishRefused, IsStoreFault};
+ghost use Rattle.timew_store.specs.Loading.{IsFinishedTo, IsLoaded, OpensAlike, last_of, StepRefused, LastRefused, FinishRefused, IsStoreFault};
 ghost use Rattle.timew_store.specs.Writing.{change_of, changes_of, AreFileNames};
 
-use crate::body::read_record;
+use crate::body::{Record, read_record};
 use crate::error::StoreError;
 use crate::fields::ReadError;
 use crate::write::NewFile;
@@ -67,6 +68,32 @@ fn finish<F: Folder>(alloc: Global, folder: &mut F, files: &Vec<NewFile>) -> Res
     Ok(())
 }
 
+/// The step of the record with a number, from 0, or `Damaged` at its gate where it holds none.
+pub(crate) fn read_step<D: Disk>(
+    alloc: Global,
+    journal: &Journal,
+    disk: &mut D,
+    n: u64,
+) -> Result<Record, JournalError>
+    requires inside { n < journal_count journal.now }
+    requires length { is_closed journal.now ≡ false → D.model.len disk.old ≡ journal_end journal.now }
+    ensures step { IfOk result (λ held. (bodies : List (List ℕ)) → IsOpenOn D.model magic journal.now disk.old bodies → step_of (slice_index_or bodies n []) ≡ Some (step_in held)) }
+    ensures names { IfOk result (λ held. AreMonths (changes_of (files_held held))) }
+    ensures rise { IfOk result (λ held. names_rise (changes_of (files_held held)) ≡ true) }
+    ensures untouched { Untouched D.model disk.old disk.new }
+    ensures refused { IfErr result (λ e. StepRefused D.model disk.old disk.new journal.now n e) }
+{
+    let body = journal.body(alloc, disk, n)?;
+    match read_record(alloc, &body) {
+        Ok(held) => Ok(held),
+        Err(ReadError::Memory) => Err(JournalError::Memory),
+        Err(ReadError::Malformed) => {
+            let offset = journal.offset(disk, n)?;
+            Err(JournalError::Damaged { offset })
+        }
+    }
+}
+
 // What the last record does to the files.
 fn last_files<D: Disk>(
     alloc: Global,
@@ -84,15 +111,8 @@ fn last_files<D: Disk>(
     if count == 0 {
         return Ok(Vec::new(alloc));
     }
-    let body = journal.body(alloc, disk, count - 1)?;
-    match read_record(alloc, &body) {
-        Ok(held) => Ok(held.into_files()),
-        Err(ReadError::Memory) => Err(JournalError::Memory),
-        Err(ReadError::Malformed) => {
-            let offset = journal.offset(disk, count - 1)?;
-            Err(JournalError::Damaged { offset })
-        }
-    }
+    let last = read_step(alloc, journal, disk, count - 1)?;
+    Ok(last.into_files())
 }
 
 /// Opens the journal and finishes the last change.

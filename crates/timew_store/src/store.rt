@@ -1,16 +1,26 @@
 // A store of intervals.
-ghost use Rattle.std.specs.Prelude.{◌≡◌, IfOk, IfErr, false};
+ghost use Rattle.std.specs.Prelude.{◌≡◌, ◌∷◌, ◌++◌, [], List, ℕ, IfOk, IfErr, OnOk, OnErr, false};
 ghost use Rattle.tw_world.specs.Disk as tells;
 ghost use Rattle.tw_world.specs.Crash.{Tells, Settled, Kept};
 ghost use Rattle.tw_world.specs.Turns.{InTurns, crash_of};
-ghost use Rattle.timew_store.specs.Held.{Held, OpensTo};
+ghost use Rattle.timew_store.specs.Body.{AreMonths};
+ghost use Rattle.timew_store.specs.History.{History};
+ghost use Rattle.timew_store.specs.Held.{Held, OpensTo, OpensToEither, IsAtRest, held_by, replaced};
 ghost use Rattle.timew_store.specs.Loading.{OpensAlike};
-ghost use Rattle.timew_store.specs.Store.{IsLoadedStore, LoadRefused, IsLoadFault, rows_kept, is_store_closed, store_end};
+ghost use Rattle.timew_store.specs.Months.{changes_to};
+ghost use Rattle.timew_store.specs.Store.{IsStoreOn, IsLoadedStore, LoadRefused, IsLoadFault, rows_kept, is_store_closed, store_end, IsMovedTo, changed, change_bodies, ChangeRefused};
+ghost use Rattle.timew_store.specs.Undo.{IsTakenBack, OpensToEitherOf, UndoRefused};
+ghost use Rattle.timew_store.specs.Undoing.{undone_held};
+ghost use Rattle.timew_store.specs.Writing.{changes_of, IsReadyFor, WriteRefused};
 
-use crate::error::LoadError;
+use crate::error::{LoadError, StoreError, UndoError};
+use crate::files::read_months;
 use crate::intervals::Intervals;
-use crate::kept::{Months, read_months};
+use crate::kept::Months;
 use crate::load::open_and_finish;
+use crate::prepared::{Prepared, prepared_change};
+use crate::undo::{last_change, prepared_undo};
+use crate::write::write_change;
 use std::alloc::Global;
 use tw_journal::Journal;
 use tw_world::{Disk, Folder};
@@ -52,5 +62,93 @@ impl Store {
         ensures { result.now ≡ rows_kept self.now }
     {
         &self.months.rows
+    }
+
+    /// Lets these intervals stand in the month files. Where no file's text differs, nothing is written.
+    ///
+    /// The record is written first, and then each file is replaced. Where the journal refuses, the folder is not used.
+    pub fn change<F: Folder, D: Disk>(
+        &mut self,
+        alloc: Global,
+        folder: &mut F,
+        disk: &mut D,
+        next: Intervals,
+    ) -> Result<(), StoreError>
+        requires length { is_store_closed self.old ≡ false → D.model.len disk.old ≡ store_end self.old }
+        ensures changed { OnOk result ((bodies : List (List ℕ)) (history : History) → IsStoreOn F.model D.model self.old folder.old disk.old bodies history → IsMovedTo F.model D.model self.new folder.new disk.new (bodies ++ change_bodies (changes_to (F.model.seen folder.old) next)) (changed (held_by F.model folder.old history) next)) }
+        ensures rows { OnOk result (rows_kept self.new ≡ next) }
+        ensures any_moment { (bodies : List (List ℕ)) (history : History) → IsStoreOn F.model D.model self.old folder.old disk.old bodies history → InTurns F.model (crash_of D.model) (OpensToEither (held_by F.model folder.old history) (changed (held_by F.model folder.old history) next)) folder.old disk.old folder.new disk.new }
+        ensures length { is_store_closed self.new ≡ false → D.model.len disk.new ≡ store_end self.new }
+        ensures refused { IfErr result (λ e. ChangeRefused F.model D.model self.old self.new folder.old folder.new disk.old disk.new next e) }
+        ensures folder { Kept F.model folder.old folder.new }
+        ensures disk { tells.Kept D.model disk.old disk.new }
+    {
+        let prepared = prepared_change(alloc, &self.months, next)?;
+        if prepared.changes.len() == 0 {
+            let Prepared {
+                changes: _,
+                body: _,
+                months,
+            } = prepared;
+            self.months = months;
+            return Ok(());
+        }
+        self.write(folder, disk, prepared)?;
+        Ok(())
+    }
+
+    /// Takes back the last change that is not undone: its files get their old bytes back.
+    ///
+    /// Nothing is written where a file of it was edited since, or where a line would be none without the change.
+    pub fn undo<F: Folder, D: Disk>(
+        &mut self,
+        alloc: Global,
+        folder: &mut F,
+        disk: &mut D,
+    ) -> Result<(), UndoError>
+        requires length { is_store_closed self.old ≡ false → D.model.len disk.old ≡ store_end self.old }
+        ensures undone { OnOk result ((bodies : List (List ℕ)) (history : History) → IsStoreOn F.model D.model self.old folder.old disk.old bodies history → IsTakenBack F.model D.model self.new folder.old folder.new disk.new bodies history) }
+        ensures any_moment { (bodies : List (List ℕ)) (history : History) → IsStoreOn F.model D.model self.old folder.old disk.old bodies history → InTurns F.model (crash_of D.model) (OpensToEitherOf (held_by F.model folder.old history) (undone_held (held_by F.model folder.old history))) folder.old disk.old folder.new disk.new }
+        ensures length { is_store_closed self.new ≡ false → D.model.len disk.new ≡ store_end self.new }
+        ensures refused { IfErr result (λ e. UndoRefused F.model D.model self.old self.new folder.old folder.new disk.old disk.new e) }
+        ensures folder { Kept F.model folder.old folder.new }
+        ensures disk { tells.Kept D.model disk.old disk.new }
+    {
+        let Some(change) = last_change(alloc, &self.journal, disk)? else {
+            return Err(UndoError::NothingToUndo);
+        };
+        let prepared = prepared_undo(alloc, &self.months, change)?;
+        self.write(folder, disk, prepared)?;
+        Ok(())
+    }
+
+    // Writes the record of what was prepared, and then its files.
+    fn write<F: Folder, D: Disk>(
+        &mut self,
+        folder: &mut F,
+        disk: &mut D,
+        prepared: Prepared,
+    ) -> Result<(), StoreError>
+        requires length { is_store_closed self.old ≡ false → D.model.len disk.old ≡ store_end self.old }
+        requires named { AreMonths (changes_of prepared.changes.items) }
+        ensures done { OnOk result ((bodies : List (List ℕ)) (before after : History) → IsReadyFor F.model D.model self.old.journal folder.old disk.old bodies before after prepared.body.items (changes_of prepared.changes.items) → IsAtRest F.model D.model self.new.journal folder.new disk.new (bodies ++ prepared.body.items ∷ []) after) }
+        ensures replaced { OnOk result (Tells F.model folder.old → F.model.seen folder.new ≡ replaced (F.model.seen folder.old) (changes_of prepared.changes.items)) }
+        ensures months { OnOk result (self.new.months ≡ prepared.months) }
+        ensures any_moment { (bodies : List (List ℕ)) (before after : History) → IsReadyFor F.model D.model self.old.journal folder.old disk.old bodies before after prepared.body.items (changes_of prepared.changes.items)
+            → InTurns F.model (crash_of D.model) (OpensToEither (held_by F.model folder.old before) (record { files = replaced (F.model.seen folder.old) (changes_of prepared.changes.items); undoable = after.undoable })) folder.old disk.old folder.new disk.new }
+        ensures length { is_store_closed self.new ≡ false → D.model.len disk.new ≡ store_end self.new }
+        ensures refused { IfErr result (λ e. WriteRefused F.model D.model self.old.journal self.new.journal folder.old folder.new disk.old disk.new prepared.body.items e) }
+        ensures kept { OnErr result (self.new.months ≡ self.old.months) }
+        ensures folder { Kept F.model folder.old folder.new }
+        ensures disk { tells.Kept D.model disk.old disk.new }
+    {
+        let Prepared {
+            changes,
+            body,
+            months,
+        } = prepared;
+        write_change(&mut self.journal, folder, disk, &changes, &body)?;
+        self.months = months;
+        Ok(())
     }
 }

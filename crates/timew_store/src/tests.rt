@@ -6,7 +6,7 @@ use crate::load::open_and_finish;
 use crate::record::{change_body, undo_body};
 use crate::rows::{RowsError, read_rows};
 use crate::write::write_change;
-use crate::{Intervals, LoadError, MonthError, Store, Texts, read_month, write_month};
+use crate::{Intervals, LoadError, MonthError, Store, Texts, UndoError, read_month, write_month};
 use std::alloc::Global;
 use std::test::Fail;
 use tw_world::{Folder, MemoryDisk, MemoryFolder, Text};
@@ -292,5 +292,136 @@ fn a_store_holds_the_month_files(rt: HostRuntime) -> Result<(), Fail> {
         };
         assert_eq!(rt; told.as_str(), want, "{january} and {february}");
     }
+    Ok(())
+}
+
+// The intervals of a month's lines.
+fn rows_of(alloc: Global, lines: &str) -> Result<Intervals, Fail> {
+    let rows = read_month(alloc, lines.as_bytes())
+        .ok()
+        .ok_or("a bad line")?;
+    Ok(Intervals::in_order(rows).ok_or("out of order")?)
+}
+
+// The text of a file of a folder, or `none`.
+fn file_text(alloc: Global, folder: &mut MemoryFolder, name: &str) -> Result<String, Fail> {
+    match folder.read(alloc, name).ok().ok_or("no folder")? {
+        Some(bytes) => Ok(String::from_utf8(bytes).ok().ok_or("no text")?),
+        None => Ok(String::from_str(alloc, "none")?),
+    }
+}
+
+#[test]
+fn changes_are_taken_back_one_after_another(rt: HostRuntime) -> Result<(), Fail> {
+    let alloc = rt.alloc();
+    let mut folder = folder_of(alloc, &[])?;
+    let mut disk = MemoryDisk::new(alloc, Vec::new(alloc), Vec::new(alloc))?;
+    let mut store = Store::load(alloc, &mut folder, &mut disk)
+        .ok()
+        .ok_or("no store")?;
+    let table = [
+        "inc 20260105T090000Z - 20260105T090005Z # code\n",
+        "inc 20260105T090000Z\n",
+        "",
+    ];
+    for lines in table {
+        let next = rows_of(alloc, lines)?;
+        assert!(rt;
+            store.change(alloc, &mut folder, &mut disk, next).is_ok(),
+            "{lines}"
+        );
+        assert_eq!(rt;
+            file_text(alloc, &mut folder, "2026-01.data")?.as_str(),
+            lines
+        );
+    }
+    for lines in [table[1], table[0], ""] {
+        assert!(rt;
+            store.undo(alloc, &mut folder, &mut disk).is_ok(),
+            "{lines}"
+        );
+        assert_eq!(rt;
+            file_text(alloc, &mut folder, "2026-01.data")?.as_str(),
+            lines
+        );
+    }
+    let undone = store.undo(alloc, &mut folder, &mut disk);
+    assert!(rt; matches!(&undone, Err(UndoError::NothingToUndo)));
+    assert_eq!(rt; store.intervals().len(), 0);
+    Ok(())
+}
+
+// A text that a file is given by hand after a change, and what an undo then says.
+#[test]
+fn an_undo_looks_at_the_files(rt: HostRuntime) -> Result<(), Fail> {
+    let alloc = rt.alloc();
+    let table = [
+        (
+            "2026-01.data",
+            "inc 20260105T090000Z - 20260105T090006Z\n",
+            "2026-01.data was edited",
+        ),
+        (
+            "2026-02.data",
+            "inc 20260201T000000Z - 20260201T000001Z\n",
+            "undone",
+        ),
+        (
+            "2026-02.data",
+            "inc 20260105T073000Z - 20260105T080000Z\n",
+            "2026-02.data 1",
+        ),
+    ];
+    for (file, text, want) in table {
+        let old = "inc 20260105T070000Z - 20260105T080000Z\n";
+        let mut folder = folder_of(alloc, &[("2026-01.data", old)])?;
+        let mut disk = MemoryDisk::new(alloc, Vec::new(alloc), Vec::new(alloc))?;
+        let mut store = Store::load(alloc, &mut folder, &mut disk)
+            .ok()
+            .ok_or("no store")?;
+        let next = rows_of(alloc, "inc 20260105T090000Z - 20260105T090005Z\n")?;
+        assert!(rt;
+            store.change(alloc, &mut folder, &mut disk, next).is_ok(),
+            "{want}"
+        );
+        assert!(rt; folder.replace(file, text.as_bytes()).is_ok());
+        let mut store = Store::load(alloc, &mut folder, &mut disk)
+            .ok()
+            .ok_or("no store")?;
+        let told = match store.undo(alloc, &mut folder, &mut disk) {
+            Ok(()) => String::from_str(alloc, "undone")?,
+            Err(UndoError::Edited { file }) => format!(in alloc; "{} was edited", file.as_str())?,
+            Err(UndoError::BadLine { file, line }) => format!(in alloc;
+                "{} {line}",
+                file.as_str()
+            )?,
+            Err(_) => String::new(alloc),
+        };
+        assert_eq!(rt; told.as_str(), want);
+    }
+    Ok(())
+}
+
+// The folder fails at the second of two files: the next load replaces it.
+#[test]
+fn a_change_of_two_files_is_finished(rt: HostRuntime) -> Result<(), Fail> {
+    let alloc = rt.alloc();
+    let mut folder = MemoryFolder::new(alloc, Vec::new(alloc), [2].to_vec(alloc)?)?;
+    let mut disk = MemoryDisk::new(alloc, Vec::new(alloc), Vec::new(alloc))?;
+    let mut store = Store::load(alloc, &mut folder, &mut disk)
+        .ok()
+        .ok_or("no store")?;
+    let lines = "inc 20260105T090000Z - 20260105T090005Z\ninc 20260201T000000Z\n";
+    let changed = store.change(alloc, &mut folder, &mut disk, rows_of(alloc, lines)?);
+    assert_eq!(rt; changed, Err(StoreError::Folder));
+    assert_eq!(rt;
+        file_text(alloc, &mut folder, "2026-02.data")?.as_str(),
+        "none"
+    );
+    assert!(rt; Store::load(alloc, &mut folder, &mut disk).is_ok());
+    assert_eq!(rt;
+        file_text(alloc, &mut folder, "2026-02.data")?.as_str(),
+        "inc 20260201T000000Z\n"
+    );
     Ok(())
 }

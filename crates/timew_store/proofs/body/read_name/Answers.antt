@@ -1,13 +1,12 @@
 use Rattle.std.proofs.Common.{◌≡◌, true, ap, ◌∙◌, rules}
-use Rattle.tw_world.specs.Folder.{is_file_name}
 use Rattle.timew_store.specs.Body.{is_month_name}
-use Rattle.timew_store.proofs.MonthForm.{month_file, month_utf8}
+use Rattle.timew_store.proofs.MonthForm.{month_utf8}
 use Rattle.timew_store.proofs.body.read_name.Goals as goal
 
 pub returns-in_ok-from_str-in-Ok-clause-name : goal.returns-in_ok-from_str-in-Ok-clause-name
 returns-in_ok-from_str-in-Ok-clause-name c =
     let is : is_month_name c.args.name.now ≡ true = search rules in
-    ap is_file_name (c.in_ok-from_str-in-Ok.ensures ∙ c.in-Ok.ensures.cases.0) ∙ month_file c.args.name.now is
+    ap is_month_name (c.in_ok-from_str-in-Ok.ensures ∙ c.in-Ok.ensures.cases.0) ∙ is
 
 pub returns-in-Err-clause-value : goal.returns-in-Err-clause-value
 returns-in-Err-clause-value c =

@@ -1,36 +1,23 @@
-use Rattle.std.proofs.Common.{◌≡◌, ◌∙◌, sym, ap, List, ℕ, ◌-◌, arith, slice_index_or, [], Some, None}
-use Rattle.timew_store.specs.Body.{step_of}
+use Rattle.std.proofs.Common.{◌≡◌, ◌∙◌, sym, ap, List, ℕ, ◌-◌, arith, Some}
+use Rattle.timew_store.specs.Body.{FileChange}
 use Rattle.timew_store.specs.Loading.{files_or}
 use Rattle.timew_store.specs.Writing.{changes_of}
-use Rattle.timew_store.specs.Held.{magic}
 use Rattle.timew_store.proofs.Again.{last_by_number}
 use Rattle.timew_store.proofs.Loop.{files_of_step}
-use Rattle.tw_journal.proofs.Places.{still_open}
-use Rattle.timew_store.proofs.Loads.{passed_on, body_refused, offset_refused, ends_in_none}
+use Rattle.timew_store.proofs.Loads.{passed_on, last_refused}
+use Rattle.timew_store.proofs.Prepares.{file_names}
 use Rattle.timew_store.proofs.load.last_files.Goals as goal
 
-pub returns-in-Ok-clause-value : goal.returns-in-Ok-clause-value
-returns-in-Ok-clause-value g c = λ bodies on.
-    let body_is : c.in_ok-body.body.items ≡ slice_index_or bodies (c.count-count.result - 1) [] = c.in_ok-body.ensures.body magic bodies on in
-    last_by_number bodies (c.count-count.result - 1) (omega (arith, on.count, c.count-count.ensures, c.if-count-eq0.false))
-    ∙ ap (λ (b : List ℕ). files_or (step_of b)) (sym body_is ∙ sym c.deref.ensures.value)
-    ∙ ap files_or c.in-Ok.ensures.value
-    ∙ ap Some (files_of_step c.in-Ok.held ∙ ap changes_of (sym c.into_files.ensures))
-
-pub returns-in_err-body-clause-refused : goal.returns-in_err-body-clause-refused
-returns-in_err-body-clause-refused g c =
+pub returns-in_err-last-clause-refused : goal.returns-in_err-last-clause-refused
+returns-in_err-last-clause-refused g c =
     passed_on c.from_residual.result _ _ c.from_residual.ensures.1
-    (body_refused g.D.Disk.model c.args.disk.now c.body.new.disk c.args.journal.now c.in_err-body.field-0.0 c.in_err-body.ensures.refused)
+    (last_refused g.D.Disk.model c.args.disk.now c.read_step.new.disk c.args.journal.now (c.count-count.result - 1) c.in_err-last.field-0.0 (omega (arith, c.count-count.ensures, c.if-count-eq0.false)) c.in_err-last.ensures.refused)
 
-pub returns-in_err-offset-in-Err-Malformed-clause-refused : goal.returns-in_err-offset-in-Err-Malformed-clause-refused
-returns-in_err-offset-in-Err-Malformed-clause-refused g c =
-    passed_on c.from_residual-in_err-offset-in-Err-Malformed.result _ _ c.from_residual-in_err-offset-in-Err-Malformed.ensures.1
-    (offset_refused g.D.Disk.model c.args.disk.now c.body.new.disk c.offset.new.disk c.args.journal.now c.in_err-offset-in-Err-Malformed.field-0.0 c.body.ensures.untouched c.in_err-offset-in-Err-Malformed.ensures.refused)
+pub returns-clause-value : goal.returns-clause-value
+returns-clause-value g c = λ bodies on.
+    last_by_number bodies (c.count-count.result - 1) (omega (arith, on.count, c.count-count.ensures, c.if-count-eq0.false))
+    ∙ ap files_or (c.in_ok-last.ensures.step bodies on)
+    ∙ ap Some (files_of_step c.in_ok-last.last ∙ ap changes_of (sym c.into_files.ensures))
 
-pub returns-clause-refused : goal.returns-clause-refused
-returns-clause-refused g c = λ tells bodies on.
-    let k = c.count-count.result - 1 in
-    let none : step_of c.deref.result.now ≡ None = rw c.in-Err-Malformed.field-0-is at c.in-Err-Malformed.ensures.value in
-    ends_in_none bodies k c.in_ok-body.body.items c.in_ok-offset-in-Err-Malformed.offset (omega (arith, on.count, c.count-count.ensures, c.if-count-eq0.false))
-    (c.in_ok-body.ensures.body magic bodies on) (ap step_of (sym c.deref.ensures.value) ∙ none)
-    (c.in_ok-offset-in-Err-Malformed.ensures.place magic bodies (still_open g.D.Disk.model magic c.args.journal.now c.args.disk.now c.body.new.disk bodies c.body.ensures.untouched on))
+pub returns-clause-names : goal.returns-clause-names
+returns-clause-names g c = file_names c.into_files.result.items (rw c.into_files.ensures c.in_ok-last.ensures.names)

@@ -1,7 +1,7 @@
 use Rattle.std.proofs.Common.{sym, ◌∙◌}
 use Rattle.timew_store.proofs.FilesRead.{judged_files}
 use Rattle.timew_store.proofs.Loads.{passed_on, rows_refused}
-use Rattle.timew_store.proofs.kept.read_months.Goals as goal
+use Rattle.timew_store.proofs.files.read_months.Goals as goal
 
 pub returns-in_err-rows-clause-refused : goal.returns-in_err-rows-clause-refused
 returns-in_err-rows-clause-refused g c =

@@ -1,0 +1,400 @@
+-- The change that an undo takes back, and a store that has taken it back.
+use Rattle.std.specs.Prelude.{cond, slice_get, slice_index_or, not, option_map, IfSome}
+use Rattle.std.proofs.Common.{◌≡◌, inl, inr, ℕ, zero, suc, ◌+◌, ◌-◌, ◌≤◌, ◌<◌, ◌^◌, Bool, true, false, ◌&&◌, List, [], ◌∷◌, ◌++◌, length, take, Option, Some, None, Result, Ok, Err, refl, sym, ap, subst, ◌∙◌, add-one, arith}
+use Rattle.std.proofs.lemmas.List.{take_all, take_more, append-nil}
+use Rattle.std.specs.List.{AllByRecursion}
+use Rattle.tw_world.specs.Disk.{DiskModel}
+use Rattle.tw_world.specs.Disk as disk
+use Rattle.tw_world.proofs.Moments as moments
+use Rattle.tw_world.specs.Crash.{Tells, Settled, LeavesOnly}
+use Rattle.tw_world.specs.Turns.{InTurns, crash_of}
+use Rattle.tw_world.specs.Turns.InTurns.{second}
+use Rattle.std.specs.Ordering.{is_lt}
+use Rattle.tw_world.specs.Folder.{Files, FolderModel, same_bytes, bytes_cmp}
+use Rattle.tw_world.proofs.Crashes.{CountsNow}
+use Rattle.tw_world.proofs.TurnRules.{disk_run, ends_second, turns_weaker}
+use Rattle.tw_journal.specs.Journal.{IsOpenOn, AppendRefused}
+use Rattle.tw_journal.specs.declared.journal.Journal.{Journal}
+use Rattle.tw_journal.specs.declared.journal.JournalError.{JournalError}
+use Rattle.tw_journal.specs.declared.journal.JournalError.TheVariants as cause
+use Rattle.tw_journal.proofs.Places.{still_open}
+use Rattle.timew_store.specs.Body.{FileChange, Step, AreMonths, body_of, step_of, names_rise, rises_from, ◌>>=◌}
+use Rattle.timew_store.specs.Body.Step.{Change, Undo}
+use Rattle.timew_store.specs.Gathered.{NamedBytes, RowsRefused, files_of, months_in, lines_in}
+use Rattle.timew_store.specs.Held.{magic, Held, OpensTo, OpensToEither, IsAtRest, held_by, bytes_of, replaced, HasOld, AreApart}
+use Rattle.timew_store.specs.History.{History, Stands, start, applied, stepped, replayed, with_change, undone, exchanged, exchanged_file, same_file, same_files}
+use Rattle.timew_store.specs.Kept.{bytes_in, first_edited_in}
+use Rattle.timew_store.specs.Loading.{IsNoStep}
+use Rattle.timew_store.specs.Rows.{judged, rows_of}
+use Rattle.timew_store.specs.Undoing.{NoUndo, first_edited, undone_held, unless_edited, unless_unread, taken_back}
+use Rattle.timew_store.specs.Undoing.NoUndo.{Nothing, EditedFile, Bad}
+use Rattle.timew_store.specs.Store.{HoldMonths, IsStoreOn, IsMovedTo}
+use Rattle.timew_store.specs.Undo.{undo_bodies, IsTakenBack, OpensToEitherOf, not_read_back, not_written, WalkRefused, BackRefused, IsUndoBody, UndoJournalRefused, UndoRefused}
+use Rattle.timew_store.specs.Writing.{changes_of, IsReadyFor, WriteRefused}
+use Rattle.timew_store.specs.Reading.{step_in}
+use Rattle.timew_store.specs.declared.body.Record.{Record}
+use Rattle.timew_store.specs.declared.body.Record.TheVariants as records
+use Rattle.timew_store.specs.declared.write.NewFile.{NewFile}
+use Rattle.std.specs.Global.{Vec, Global}
+use Rattle.tw_world.proofs.Moments.{untouched_join}
+use Rattle.timew_store.specs.declared.files.MonthFile.{MonthFile}
+use Rattle.timew_store.specs.declared.rows.RowsError.{RowsError}
+use Rattle.timew_store.specs.declared.rows.RowsError.TheVariants as read
+use Rattle.timew_store.specs.declared.error.StoreError.{StoreError}
+use Rattle.timew_store.specs.declared.error.StoreError.TheVariants as write
+use Rattle.timew_store.specs.declared.error.UndoError.{UndoError}
+use Rattle.timew_store.specs.declared.error.UndoError.TheVariants as undo
+use Rattle.timew_store.specs.declared.interval.Interval.{Interval}
+use Rattle.timew_store.specs.declared.store.Store.{Store}
+use Rattle.timew_store.specs.declared.kept.Months.{Months}
+use Rattle.timew_store.proofs.Again.{rise_apart}
+use Rattle.timew_store.proofs.Changing.{bytes_kept}
+use Rattle.timew_store.proofs.FilesRead.{judged_files}
+use Rattle.timew_store.proofs.Finishing.{same_bytes_exact, same_bytes_itself}
+use Rattle.timew_store.proofs.Prepares.{opens_here}
+use Rattle.timew_store.proofs.StepAgain.{step_again}
+use Rattle.timew_store.proofs.Turning.{replayed-push}
+
+-- ---- from the last record back
+
+-- the history one step before, and the step
+pub record IsOneBack (bodies : List (List ℕ)) (n : ℕ) (step : Step) (g : History) : Type 0 where
+  pub before : History
+  pub stands : Stands (take n bodies) before
+  pub leads : applied before step ≡ Some g
+
+pub one_back : (bodies : List (List ℕ)) (n : ℕ) (step : Step) (g : History) → n < length bodies → step_of (slice_index_or bodies n []) ≡ Some step → Stands (take (n + 1) bodies) g → IsOneBack bodies n step g
+one_back bodies n step g lt is stands =
+    of_before (replayed start (take n bodies)) refl
+    (sym (replayed-push (take n bodies) start (slice_index_or bodies n [])) ∙ ap (replayed start) (sym (take_more bodies n [] lt)) ∙ stands)
+  where
+    of_step : (h : History) → stepped h (slice_index_or bodies n []) ≡ Some g → applied h step ≡ Some g
+    of_step h e = sym (ap (λ (o : Option Step). o >>= applied h) is) ∙ e
+
+    of_before : (o : Option History) → replayed start (take n bodies) ≡ o → (o >>= λ h. stepped h (slice_index_or bodies n [])) ≡ Some g → IsOneBack bodies n step g
+    of_before None here e = absurd (cc)
+    of_before (Some h) here e = record { before = h; stands = here; leads = of_step h e }
+
+-- what the walk knows
+pub record WalkedTo (bodies : List (List ℕ)) (history : History) (n depth : ℕ) : Type 0 where
+  pub now : History
+  pub stands : Stands (take n bodies) now
+  pub same : slice_get history.undoable 0 ≡ slice_get now.undoable depth
+
+undone_one : (files : List FileChange) (h g : History) (depth : ℕ) → applied h (Undo files) ≡ Some g → slice_get g.undoable depth ≡ slice_get h.undoable (suc depth)
+undone_one files h g depth e = of_stack h.undoable refl e
+  where
+    of_stack : (stack : List (List FileChange)) → h.undoable ≡ stack → undone files stack ≡ Some g → slice_get g.undoable depth ≡ slice_get h.undoable (suc depth)
+    of_stack [] here is = absurd (cc)
+    of_stack (change ∷ earlier) here is = of_case (same_files files (exchanged change)) is
+      where
+        of_case : (b : Bool) → cond b (Some (record { undoable = earlier; last = files })) None ≡ Some g → slice_get g.undoable depth ≡ slice_get h.undoable (suc depth)
+        of_case false is = absurd (cc)
+        of_case true is = let same : record { undoable = earlier; last = files } ≡ g = cc in sym (ap (λ (k : History). slice_get k.undoable depth) same) ∙ sym (ap (λ (l : List (List FileChange)). slice_get l (suc depth)) here)
+
+changed_one : (files : List FileChange) (h g : History) → applied h (Change files) ≡ Some g → g.undoable ≡ files ∷ h.undoable
+changed_one files h g e = let same : with_change files h ≡ g = cc in sym (ap (λ (k : History). k.undoable) same)
+
+pub walked_over_undo : (bodies : List (List ℕ)) (history : History) (n depth : ℕ) (files : List FileChange) → n < length bodies → step_of (slice_index_or bodies n []) ≡ Some (Undo files) → WalkedTo bodies history (n + 1) depth → WalkedTo bodies history n (depth + 1)
+walked_over_undo bodies history n depth files lt is walked =
+    let back = one_back bodies n (Undo files) walked.now lt is walked.stands in
+    record { now = back.before; stands = back.stands; same = walked.same ∙ undone_one files back.before walked.now depth back.leads ∙ ap (λ (d : ℕ). slice_get back.before.undoable d) (sym (add-one depth)) }
+
+pub walked_over_change : (bodies : List (List ℕ)) (history : History) (n depth : ℕ) (files : List FileChange) → n < length bodies → step_of (slice_index_or bodies n []) ≡ Some (Change files) → WalkedTo bodies history (n + 1) (depth + 1) → WalkedTo bodies history n depth
+walked_over_change bodies history n depth files lt is walked =
+    let back = one_back bodies n (Change files) walked.now lt is walked.stands in
+    record { now = back.before; stands = back.stands; same = walked.same ∙ ap (λ (l : List (List FileChange)). slice_get l (depth + 1)) (changed_one files back.before walked.now back.leads) ∙ ap (λ (d : ℕ). slice_get (files ∷ back.before.undoable) d) (add-one depth) }
+
+pub walked_to_change : (bodies : List (List ℕ)) (history : History) (n : ℕ) (files : List FileChange) → n < length bodies → step_of (slice_index_or bodies n []) ≡ Some (Change files) → WalkedTo bodies history (n + 1) 0 → Some files ≡ slice_get history.undoable 0
+walked_to_change bodies history n files lt is walked =
+    let back = one_back bodies n (Change files) walked.now lt is walked.stands in
+    sym (walked.same ∙ ap (λ (l : List (List FileChange)). slice_get l 0) (changed_one files back.before walked.now back.leads))
+
+pub walk_begun : (bodies : List (List ℕ)) (history : History) (n : ℕ) → length bodies ≤ n → Stands bodies history → WalkedTo bodies history n 0
+walk_begun bodies history n le stands = record { now = history; stands = ap (replayed start) (take_all n bodies le) ∙ stands; same = refl }
+
+pub walk_ended : (bodies : List (List ℕ)) (history : History) (n depth : ℕ) → n ≤ 0 → WalkedTo bodies history n depth → None ≡ slice_get history.undoable 0
+walk_ended bodies history zero depth le walked =
+    let same : start ≡ walked.now = some_both walked.stands in
+    sym (walked.same ∙ ap (λ (h : History). slice_get h.undoable depth) (sym same))
+  where
+    some_both : Some start ≡ Some walked.now → start ≡ walked.now
+    some_both e = cc
+walk_ended bodies history (suc n) depth le walked = absurd (omega arith)
+
+-- what the loop knows
+pub record IsWalking {D : Type 0} (m : DiskModel D) (journal : Journal) (first now : D) (n depth : ℕ) : Type 0 where
+  pub inside : n + depth ≤ journal.count
+  pub untouched : disk.Untouched m first now
+  pub walked : (bodies : List (List ℕ)) (history : History) → IsOpenOn m magic journal first bodies → Stands bodies history → WalkedTo bodies history n depth
+
+-- what a record makes of the depth
+abbrev pub Deepens : Record → ℕ → ℕ → Type 0
+Deepens (records.Undo files) depth next = next ≡ depth + 1
+Deepens (records.Change files) depth next = depth ≡ next + 1
+
+module _ {D : Type 0} (m : DiskModel D) (journal : Journal) (first now : D) (n depth : ℕ) (held : Record) (walking : IsWalking m journal first now n depth) (some : 0 < n)
+    (is : (bodies : List (List ℕ)) → IsOpenOn m magic journal now bodies → step_of (slice_index_or bodies (n - 1) []) ≡ Some (step_in held)) where
+  step_is : (bodies : List (List ℕ)) → IsOpenOn m magic journal first bodies → step_of (slice_index_or bodies (n - 1) []) ≡ Some (step_in held)
+  step_is bodies on = is bodies (still_open m magic journal first now bodies walking.untouched on)
+
+  inside : (bodies : List (List ℕ)) → IsOpenOn m magic journal first bodies → n - 1 < length bodies
+  inside bodies on = omega (arith, walking.inside, on.count, some)
+
+  walked_here : (bodies : List (List ℕ)) (history : History) → IsOpenOn m magic journal first bodies → Stands bodies history → WalkedTo bodies history ((n - 1) + 1) depth
+  walked_here bodies history on stands = let whole : n ≡ (n - 1) + 1 = omega (arith, some) in subst (λ (k : ℕ). WalkedTo bodies history k depth) whole (walking.walked bodies history on stands)
+
+  pub walking_on : (later : D) (next : ℕ) → disk.Untouched m now later → Deepens held depth next → IsWalking m journal first later (n - 1) next
+  walking_on later next read deepens = by_case held deepens (λ bodies on. step_is bodies on)
+    where
+      whole : disk.Untouched m first later
+      whole = untouched_join m first now later walking.untouched read
+
+      by_case : (h : Record) → Deepens h depth next → ((bodies : List (List ℕ)) → IsOpenOn m magic journal first bodies → step_of (slice_index_or bodies (n - 1) []) ≡ Some (step_in h)) → IsWalking m journal first later (n - 1) next
+      by_case (records.Undo files) deepens step = record {
+        inside = omega (arith, walking.inside, some, deepens);
+        untouched = whole;
+        walked = λ bodies history on stands. subst (λ (d : ℕ). WalkedTo bodies history (n - 1) d) (sym deepens) (walked_over_undo bodies history (n - 1) depth (changes_of files.items) (inside bodies on) (step bodies on) (walked_here bodies history on stands));
+      }
+      by_case (records.Change files) deepens step = record {
+        inside = omega (arith, walking.inside, some, deepens);
+        untouched = whole;
+        walked = λ bodies history on stands. walked_over_change bodies history (n - 1) next (changes_of files.items) (inside bodies on) (step bodies on) (subst (λ (d : ℕ). WalkedTo bodies history ((n - 1) + 1) d) deepens (walked_here bodies history on stands));
+      }
+
+  pub walking_found : (files : Vec NewFile) → held ≡ records.Change files → depth ≡ 0 → (bodies : List (List ℕ)) (history : History) → IsOpenOn m magic journal first bodies → Stands bodies history → Some (changes_of files.items) ≡ slice_get history.undoable 0
+  walking_found files held_is none bodies history on stands =
+      walked_to_change bodies history (n - 1) (changes_of files.items) (inside bodies on) (step_is bodies on ∙ ap (λ (h : Record). Some (step_in h)) held_is)
+      (subst (λ (d : ℕ). WalkedTo bodies history ((n - 1) + 1) d) none (walked_here bodies history on stands))
+
+-- ---- old and new exchanged
+
+pub exchanged_rise : (files : List FileChange) → names_rise (exchanged files) ≡ names_rise files
+exchanged_rise [] = refl
+exchanged_rise (f ∷ files) = over f.name files
+  where
+    over : (name : List ℕ) (files : List FileChange) → rises_from name (exchanged files) ≡ rises_from name files
+    over name [] = refl
+    over name (f ∷ files) = ap (λ (b : Bool). is_lt (bytes_cmp name f.name) && b) (over f.name files)
+
+pub exchanged_months : (files : List FileChange) → AreMonths files → AreMonths (exchanged files)
+exchanged_months [] are = tt
+exchanged_months (f ∷ files) are = (are.0, exchanged_months files are.1)
+
+same_itself : (files : List FileChange) → same_files files files ≡ true
+same_itself [] = refl
+same_itself (f ∷ files) =
+    ap (λ (b : Bool). (b && same_bytes f.old f.old && same_bytes f.new f.new) && same_files files files) (same_bytes_itself f.name)
+    ∙ ap (λ (b : Bool). (b && same_bytes f.new f.new) && same_files files files) (same_bytes_itself f.old)
+    ∙ ap (λ (b : Bool). b && same_files files files) (same_bytes_itself f.new)
+    ∙ same_itself files
+
+edited_none : (files : Files) (change : List FileChange) → first_edited files change ≡ None → HasOld files (exchanged change)
+edited_none files [] none = tt
+edited_none files (f ∷ change) none = by_case (same_bytes (bytes_of files f.name) f.new) refl none (edited_none files change)
+  where
+    by_case : (b : Bool) → same_bytes (bytes_of files f.name) f.new ≡ b → cond b (first_edited files change) (Some f.name) ≡ None → (first_edited files change ≡ None → HasOld files (exchanged change)) → HasOld files (exchanged (f ∷ change))
+    by_case true is none rest = (same_bytes_exact (bytes_of files f.name) f.new is, rest none)
+    by_case false is none rest = absurd (cc)
+
+pub edited_kept : (files : Files) (change : List FileChange) → AreMonths change → first_edited_in (months_in files) change ≡ first_edited files change
+edited_kept files [] are = refl
+edited_kept files (f ∷ change) are =
+    ap (λ (b : List ℕ). cond (same_bytes b f.new) (first_edited_in (months_in files) change) (Some f.name)) (bytes_kept files f.name are.0)
+    ∙ ap (λ (o : Option (List ℕ)). cond (same_bytes (bytes_of files f.name) f.new) o (Some f.name)) (edited_kept files change are.1)
+
+-- ---- an undo
+
+pub top_of : (stack : List (List FileChange)) (change : List FileChange) → Some change ≡ slice_get stack 0 → (earlier : List (List FileChange)) × (stack ≡ change ∷ earlier)
+top_of [] change is = absurd (cc)
+top_of (c ∷ earlier) change is = (earlier, ap (λ (d : List FileChange). d ∷ earlier) (some_both is))
+  where
+    some_both : Some change ≡ Some c → c ≡ change
+    some_both e = cc
+
+none_of : (stack : List (List FileChange)) → None ≡ slice_get stack 0 → stack ≡ []
+none_of [] is = refl
+none_of (c ∷ earlier) is = absurd (cc)
+
+module _ {F D : Type 0} (m : FolderModel F) (n : DiskModel D) where
+  -- reading the journal leaves at rest what rests
+  pub rest_read : (journal : Journal) (f : F) (d0 d1 : D) (bodies : List (List ℕ)) (history : History) → disk.Untouched n d0 d1 → IsAtRest m n journal f d0 bodies history → IsAtRest m n journal f d1 bodies history
+  rest_read journal f d0 d1 bodies history untouched rest = record {
+    tells = rest.tells;
+    settled = rest.settled;
+    open_on = still_open n magic journal d0 d1 bodies untouched rest.open_on;
+    stands = rest.stands;
+    whole = rest.whole;
+  }
+
+  -- and every image opens to what the store holds
+  pub read_turns : (journal : Journal) (f : F) (d0 d1 : D) (bodies : List (List ℕ)) (history : History) (P : Files → List ℕ → Type 0) → disk.Untouched n d0 d1 → IsAtRest m n journal f d0 bodies history
+      → ((x : Files) (y : List ℕ) → OpensTo x y (held_by m f history) → P x y) → LeavesOnly (crash_of n) d0 d1 (λ y. (x : Files) → m.leaves f x → P x y)
+  read_turns journal f d0 d1 bodies history P untouched rest wide =
+      disk_run n d0 d1 _ (moments.weaker n d0 d1 (n.leaves d0) (λ y. (x : Files) → m.leaves f x → P x y) (untouched.run rest.open_on.rest.tells) (λ y left' x left. wide x y (opens_here m n journal f d0 bodies history x y rest left left')))
+
+  -- where there was a change to take back
+  module _ (store : Store) (f0 : F) (d0 : D) (bodies : List (List ℕ)) (history : History) (on : IsStoreOn m n store f0 d0 bodies history) where
+    pub nothing_left : None ≡ slice_get history.undoable 0 → undone_held (held_by m f0 history) ≡ Err Nothing
+    nothing_left none = of_stack history.undoable (none_of history.undoable none)
+      where
+        of_stack : (stack : List (List FileChange)) → stack ≡ [] → undone_held (record { files = m.seen f0; undoable = stack }) ≡ Err Nothing
+        of_stack [] is = refl
+        of_stack (c ∷ earlier) is = absurd (cc)
+
+    module _ (change : List FileChange) (top : Some change ≡ slice_get history.undoable 0) where
+      abbrev pub earlier : List (List FileChange)
+      earlier = (top_of history.undoable change top).0
+
+      stack_is : history.undoable ≡ change ∷ earlier
+      stack_is = (top_of history.undoable change top).1
+
+      with_stack : (stack : List (List FileChange)) → Held
+      with_stack stack = record { files = m.seen f0; undoable = stack }
+
+      pub edited_is : (file : List ℕ) → first_edited (m.seen f0) change ≡ Some file → undone_held (held_by m f0 history) ≡ Err (EditedFile file)
+      edited_is file is =
+          ap (λ (s : List (List FileChange)). undone_held (record { files = m.seen f0; undoable = s })) stack_is
+          ∙ ap (unless_edited (taken_back (record { files = m.seen f0; undoable = change ∷ earlier }) change earlier)) is
+
+      pub bad_is : (line : List ℕ × ℕ) → first_edited (m.seen f0) change ≡ None → rows_of (replaced (m.seen f0) (exchanged change)) ≡ Err line → undone_held (held_by m f0 history) ≡ Err (Bad line)
+      bad_is line none bad =
+          ap (λ (s : List (List FileChange)). undone_held (record { files = m.seen f0; undoable = s })) stack_is
+          ∙ ap (unless_edited (taken_back (record { files = m.seen f0; undoable = change ∷ earlier }) change earlier)) none
+          ∙ ap (unless_unread (taken_back (record { files = m.seen f0; undoable = change ∷ earlier }) change earlier)) bad
+
+      abbrev pub back : Held
+      back = record { files = replaced (m.seen f0) (exchanged change); undoable = earlier }
+
+      pub back_is : (rows : List Interval) → first_edited (m.seen f0) change ≡ None → rows_of (replaced (m.seen f0) (exchanged change)) ≡ Ok rows → undone_held (held_by m f0 history) ≡ Ok back
+      back_is rows none good =
+          ap (λ (s : List (List FileChange)). undone_held (record { files = m.seen f0; undoable = s })) stack_is
+          ∙ ap (unless_edited (taken_back (record { files = m.seen f0; undoable = change ∷ earlier }) change earlier)) none
+          ∙ ap (unless_unread (taken_back (record { files = m.seen f0; undoable = change ∷ earlier }) change earlier)) good
+
+      pub bodies_are : undo_bodies history.undoable ≡ body_of (Undo (exchanged change)) ∷ []
+      bodies_are = ap undo_bodies stack_is
+
+      abbrev pub after : History
+      after = record { undoable = earlier; last = exchanged change }
+
+      applied_is : applied history (Undo (exchanged change)) ≡ Some after
+      applied_is = ap (undone (exchanged change)) stack_is ∙ ap (λ (b : Bool). cond b (Some after) None) (same_itself (exchanged change))
+
+      pub undo_ready : (d1 : D) (body : List ℕ) (changes : List FileChange) → disk.Untouched n d0 d1 → changes ≡ exchanged change → body ≡ body_of (Undo changes) → AreMonths change → names_rise change ≡ true → first_edited (m.seen f0) change ≡ None
+          → IsReadyFor m n store.journal f0 d1 bodies history after body changes
+      undo_ready d1 body changes untouched are body_is named rise none =
+          let whole : body ≡ body_of (Undo (exchanged change)) = body_is ∙ ap (λ (c : List FileChange). body_of (Undo c)) are in
+          subst (IsReadyFor m n store.journal f0 d1 bodies history after body) (sym are)
+          (record {
+            rest = rest_read store.journal f0 d0 d1 bodies history untouched on.rest;
+            step = λ short.
+                ap (λ (b : List ℕ). stepped history b) whole
+                ∙ ap (λ (o : Option Step). o >>= applied history) (step_again (Undo (exchanged change)) (exchanged_months change named) (exchanged_rise change ∙ rise) (subst (λ (b : List ℕ). length b < 2 ^ 32) whole short))
+                ∙ applied_is;
+            last = refl;
+            old = edited_none (m.seen f0) change none;
+            apart = rise_apart (exchanged change) (exchanged_rise change ∙ rise);
+          })
+
+      pub taken_back_to : (new : Store) (f1 : F) (d1 : D) (body : List ℕ) (changes : List FileChange) → changes ≡ exchanged change → body ≡ body_of (Undo changes) → first_edited (m.seen f0) change ≡ None
+          → HoldMonths (replaced (m.seen f0) changes) new.months → m.seen f1 ≡ replaced (m.seen f0) changes → IsAtRest m n new.journal f1 d1 (bodies ++ body ∷ []) after → IsTakenBack m n new f0 f1 d1 bodies history
+      taken_back_to new f1 d1 body changes are body_is none months seen rest =
+          let whole : body ≡ body_of (Undo (exchanged change)) = body_is ∙ ap (λ (c : List FileChange). body_of (Undo c)) are in
+          let months_back : HoldMonths (replaced (m.seen f0) (exchanged change)) new.months = subst (λ (c : List FileChange). HoldMonths (replaced (m.seen f0) c) new.months) are months in
+          let seen_back : m.seen f1 ≡ replaced (m.seen f0) (exchanged change) = seen ∙ ap (replaced (m.seen f0)) are in
+          record {
+            back = back;
+            is = back_is new.months.rows none months_back.rows_are;
+            moved = record {
+              history = after;
+              on = record {
+                rest = subst (λ (b : List (List ℕ)). IsAtRest m n new.journal f1 d1 (bodies ++ b) after) (ap (λ (b : List ℕ). b ∷ []) whole ∙ sym bodies_are) rest;
+                months = subst (λ (s : Files). HoldMonths s new.months) (sym seen_back) months_back;
+              };
+              holds = ap (λ (s : Files). let h : Held = record { files = s; undoable = earlier } in h) seen_back;
+            };
+          }
+
+      pub either_back : (x : Files) (y : List ℕ) (rows : List Interval) (changes : List FileChange) → changes ≡ exchanged change → first_edited (m.seen f0) change ≡ None → rows_of (replaced (m.seen f0) changes) ≡ Ok rows
+          → OpensToEither (held_by m f0 history) (record { files = replaced (m.seen f0) changes; undoable = earlier }) x y → OpensToEitherOf (held_by m f0 history) (undone_held (held_by m f0 history)) x y
+      either_back x y rows changes are none good opens =
+          subst (λ (r : Result Held NoUndo). OpensToEitherOf (held_by m f0 history) r x y) (sym (back_is rows none (ap (λ (c : List FileChange). rows_of (replaced (m.seen f0) c)) (sym are) ∙ good)))
+          (subst (λ (c : List FileChange). OpensToEither (held_by m f0 history) (record { files = replaced (m.seen f0) c; undoable = earlier }) x y) are opens)
+
+-- the state before is among those that a crash may leave
+pub stays_among : (held : Held) (r : Result Held NoUndo) (x : Files) (y : List ℕ) → OpensTo x y held → OpensToEitherOf held r x y
+stays_among held (Ok back) x y opens = inl opens
+stays_among held (Err why) x y opens = opens
+
+-- ---- what calls returned
+
+pub none_found : {A B : Type 0} (f : A → B) (o : Option A) (s : Option B) → o ≡ None → option_map f o ≡ s → None ≡ s
+none_found f o s is found = ap (option_map f) (sym is) ∙ found
+
+pub some_found : {A B : Type 0} (f : A → B) (o : Option A) (x : A) (s : Option B) → o ≡ Some x → option_map f o ≡ s → Some (f x) ≡ s
+some_found f o x s is found = ap (option_map f) (sym is) ∙ found
+
+pub some_holds : {A : Type 0} (P : A → Type 0) (o : Option A) (x : A) → o ≡ Some x → IfSome o P → P x
+some_holds P o x is holds = subst (λ v. IfSome v P) is holds
+
+pub back_refused : (months : Months) (after : List MonthFile) (change changes : List FileChange) (e : RowsError)
+    → ((files : Files) → HoldMonths files months → (first_edited files change ≡ None) × (files_of after ≡ months_in (replaced files changes))) → changes ≡ exchanged change
+    → RowsRefused e (judged (lines_in (files_of after))) → BackRefused months change (not_read_back e)
+back_refused months after change changes (read.BadLine file line) known are r = λ files hold. (
+  (known files hold).0,
+  ap (λ (c : List FileChange). rows_of (replaced files c)) (sym are) ∙ sym (judged_files (replaced files changes) after (known files hold).1) ∙ r,
+)
+back_refused months after change changes read.Memory known are r = tt
+
+module _ {F D : Type 0} (m : FolderModel F) (n : DiskModel D) where
+  -- an undo that only reads
+  pub undo_reads : CountsNow (crash_of n) → (store : Store) (f0 : F) (d0 d1 : D) (bodies : List (List ℕ)) (history : History) → IsStoreOn m n store f0 d0 bodies history → disk.Untouched n d0 d1
+      → InTurns m (crash_of n) (OpensToEitherOf (held_by m f0 history) (undone_held (held_by m f0 history))) f0 d0 f0 d1
+  undo_reads counts_now store f0 d0 d1 bodies history on untouched =
+      let P = OpensToEitherOf (held_by m f0 history) (undone_held (held_by m f0 history)) in
+      ends_second m (crash_of n) counts_now P f0 d0 d1 (read_turns m n store.journal f0 d0 d1 bodies history P untouched on.rest (λ x y opens. stays_among (held_by m f0 history) (undone_held (held_by m f0 history)) x y opens))
+
+  -- one that writes
+  pub undo_writes : (store : Store) (f0 f1 : F) (d0 d1 d2 : D) (bodies : List (List ℕ)) (history : History) (on : IsStoreOn m n store f0 d0 bodies history) (change : List FileChange) (top : Some change ≡ slice_get history.undoable 0)
+      (rows : List Interval) (changes : List FileChange) → changes ≡ exchanged change → first_edited (m.seen f0) change ≡ None → rows_of (replaced (m.seen f0) changes) ≡ Ok rows → disk.Untouched n d0 d1
+      → InTurns m (crash_of n) (OpensToEither (held_by m f0 history) (record { files = replaced (m.seen f0) changes; undoable = (top_of history.undoable change top).0 })) f0 d1 f1 d2
+      → InTurns m (crash_of n) (OpensToEitherOf (held_by m f0 history) (undone_held (held_by m f0 history))) f0 d0 f1 d2
+  undo_writes store f0 f1 d0 d1 d2 bodies history on change top rows changes are none good untouched run =
+      let P = OpensToEitherOf (held_by m f0 history) (undone_held (held_by m f0 history)) in
+      second f0 d0 d1 f1 d2 (read_turns m n store.journal f0 d0 d1 bodies history P untouched on.rest (λ x y opens. stays_among (held_by m f0 history) (undone_held (held_by m f0 history)) x y opens))
+      (turns_weaker m (crash_of n) (OpensToEither (held_by m f0 history) (record { files = replaced (m.seen f0) changes; undoable = (top_of history.undoable change top).0 })) P
+      (λ x y has. either_back m n store f0 d0 bodies history on change top x y rows changes are none good has) f0 d1 f1 d2 run)
+
+  pub walk_undo_refused : (old new : Store) (f0 : F) (d0 d1 : D) (e : JournalError) → WalkRefused n d0 d1 old.journal e → UndoJournalRefused m n old new f0 d0 d1 e
+  walk_undo_refused old new f0 d0 d1 cause.Disk r = r
+  walk_undo_refused old new f0 d0 d1 cause.Memory r = tt
+  walk_undo_refused old new f0 d0 d1 (cause.Damaged offset) r = r
+  walk_undo_refused old new f0 d0 d1 (cause.TooLong bytes) r = absurd r
+  walk_undo_refused old new f0 d0 d1 cause.Closed r = r
+
+  append_undo_refused : (old new : Store) (f0 : F) (d0 d1 d2 : D) (body : List ℕ) (e : JournalError) → disk.Untouched n d0 d1 → IsUndoBody m n old f0 d0 body → AppendRefused n old.journal new.journal d1 d2 (length body + 5) e → UndoJournalRefused m n old new f0 d0 d2 e
+  append_undo_refused old new f0 d0 d1 d2 body cause.Disk untouched is r = omega (arith, untouched.kept.faults, r.0)
+  append_undo_refused old new f0 d0 d1 d2 body cause.Memory untouched is r = tt
+  append_undo_refused old new f0 d0 d1 d2 body (cause.Damaged offset) untouched is r = absurd r
+  append_undo_refused old new f0 d0 d1 d2 body (cause.TooLong bytes) untouched is r = (omega (arith, r.0, r.1), (body, is, r.0))
+  append_undo_refused old new f0 d0 d1 d2 body cause.Closed untouched is r = r.0
+
+  pub write_undo_refused : (old new : Store) (f0 f1 : F) (d0 d1 d2 : D) (body : List ℕ) (e : StoreError) → disk.Untouched n d0 d1 → IsUndoBody m n old f0 d0 body → new.months ≡ old.months → WriteRefused m n old.journal new.journal f0 f1 d1 d2 body e
+      → UndoRefused m n old new f0 f1 d0 d2 (not_written e)
+  write_undo_refused old new f0 f1 d0 d1 d2 body write.Folder untouched is same r = (r.0, (body, is, λ bodies on. r.1 bodies (still_open n magic old.journal d0 d1 bodies untouched on)))
+  write_undo_refused old new f0 f1 d0 d1 d2 body (write.Journal e) untouched is same r = (r.1, same, append_undo_refused old new f0 d0 d1 d2 body e untouched is r.0)
+  write_undo_refused old new f0 f1 d0 d1 d2 body write.Memory untouched is same r = absurd r
+
+  -- why the old bytes are not put back
+  pub back_undo_refused : (old : Store) (f0 : F) (d0 d1 : D) (change : List FileChange) (e : UndoError) → disk.Untouched n d0 d1
+      → ((bodies : List (List ℕ)) (history : History) → IsStoreOn m n old f0 d0 bodies history → Some change ≡ slice_get history.undoable 0)
+      → BackRefused old.months change e → UndoRefused m n old old f0 f0 d0 d1 e
+  back_undo_refused old f0 d0 d1 change undo.Folder untouched top r = absurd r
+  back_undo_refused old f0 d0 d1 change (undo.Journal e) untouched top r = absurd r
+  back_undo_refused old f0 d0 d1 change (undo.BadLine file line) untouched top r =
+      ((refl, refl, untouched), λ bodies history on. let why = r (m.seen f0) on.months in bad_is m n old f0 d0 bodies history on change (top bodies history on) (file, line) why.0 why.1)
+  back_undo_refused old f0 d0 d1 change (undo.Edited file) untouched top r =
+      ((refl, refl, untouched), λ bodies history on. edited_is m n old f0 d0 bodies history on change (top bodies history on) file (r (m.seen f0) on.months))
+  back_undo_refused old f0 d0 d1 change undo.NothingToUndo untouched top r = absurd r
+  back_undo_refused old f0 d0 d1 change undo.Memory untouched top r = (refl, refl, untouched)

@@ -1,0 +1,52 @@
+use Rattle.std.proofs.Common.{◌≡◌, ℕ, length, rules, refl, sym, subst, arith}
+use Rattle.timew_store.specs.Held.{replaced}
+use Rattle.timew_store.specs.Store.{HoldMonths}
+use Rattle.timew_store.specs.Writing.{changes_of}
+use Rattle.timew_store.specs.declared.store.Store.{Store}
+use Rattle.timew_store.proofs.Prepares.{stays_here, change_ready, moved_nowhere, moved_on, either_on, none_changed, some_changed}
+use Rattle.timew_store.proofs.store.Store.change.Goals as goal
+
+pub returns-in_err-prepared-clause-any_moment : goal.returns-in_err-prepared-clause-any_moment
+returns-in_err-prepared-clause-any_moment g c = λ bodies history on. stays_here g.F.Folder.model g.D.Disk.model c.args.self.now.journal c.args.folder.now c.args.disk.now bodies history _ on.rest
+
+pub returns-then-len-eq0-clause-changed : goal.returns-then-len-eq0-clause-changed
+returns-then-len-eq0-clause-changed g c = λ bodies history on.
+    let new : Store = record { journal = c.args.self.now.journal; months = c.in_ok-prepared.prepared.months } in
+    let none : length c.in_ok-prepared.prepared.changes.items ≡ 0 = search rules in
+    moved_nowhere g.F.Folder.model g.D.Disk.model c.args.self.now c.args.folder.now c.args.disk.now bodies history on c.args.next (changes_of c.in_ok-prepared.prepared.changes.items) (c.in_ok-prepared.ensures.changes (g.F.Folder.model.seen c.args.folder.now) on.months)
+    new (none_changed c.in_ok-prepared.prepared.changes.items none) refl (c.in_ok-prepared.ensures.months (g.F.Folder.model.seen c.args.folder.now) on.months)
+
+pub returns-then-len-eq0-clause-any_moment : goal.returns-then-len-eq0-clause-any_moment
+returns-then-len-eq0-clause-any_moment g c = λ bodies history on. stays_here g.F.Folder.model g.D.Disk.model c.args.self.now.journal c.args.folder.now c.args.disk.now bodies history _ on.rest
+
+pub returns-in_err-write-clause-any_moment : goal.returns-in_err-write-clause-any_moment
+returns-in_err-write-clause-any_moment g c = λ bodies history on.
+    let m = g.F.Folder.model in
+    let n = g.D.Disk.model in
+    let changes = changes_of c.in_ok-prepared.prepared.changes.items in
+    let are = c.in_ok-prepared.ensures.changes (m.seen c.args.folder.now) on.months in
+    let some : length c.in_ok-prepared.prepared.changes.items ≡ 0 → ⊥ = search rules in
+    either_on m n c.args.self.now c.args.folder.now c.args.disk.now bodies history on c.args.next changes are c.write.new.folder c.write.new.disk (some_changed c.in_ok-prepared.prepared.changes.items some)
+    (c.write.ensures.any_moment bodies history _ (change_ready m n c.args.self.now c.args.folder.now c.args.disk.now bodies history on c.args.next changes are c.in_ok-prepared.prepared.body.items c.in_ok-prepared.ensures.body c.in_ok-prepared.ensures.named))
+
+pub returns-clause-changed : goal.returns-clause-changed
+returns-clause-changed g c = λ bodies history on.
+    let m = g.F.Folder.model in
+    let n = g.D.Disk.model in
+    let changes = changes_of c.in_ok-prepared.prepared.changes.items in
+    let are = c.in_ok-prepared.ensures.changes (m.seen c.args.folder.now) on.months in
+    let some : length c.in_ok-prepared.prepared.changes.items ≡ 0 → ⊥ = search rules in
+    moved_on m n c.args.self.now c.args.folder.now c.args.disk.now bodies history on c.args.next changes are c.write.new.self c.write.new.folder c.write.new.disk c.in_ok-prepared.prepared.body.items (some_changed c.in_ok-prepared.prepared.changes.items some) c.in_ok-prepared.ensures.body
+    (subst (HoldMonths (replaced (m.seen c.args.folder.now) changes)) (sym c.in_ok-write.ensures.months) (c.in_ok-prepared.ensures.months (m.seen c.args.folder.now) on.months))
+    (c.in_ok-write.ensures.replaced on.rest.tells)
+    (c.in_ok-write.ensures.done bodies history _ (change_ready m n c.args.self.now c.args.folder.now c.args.disk.now bodies history on c.args.next changes are c.in_ok-prepared.prepared.body.items c.in_ok-prepared.ensures.body c.in_ok-prepared.ensures.named))
+
+pub returns-clause-any_moment : goal.returns-clause-any_moment
+returns-clause-any_moment g c = λ bodies history on.
+    let m = g.F.Folder.model in
+    let n = g.D.Disk.model in
+    let changes = changes_of c.in_ok-prepared.prepared.changes.items in
+    let are = c.in_ok-prepared.ensures.changes (m.seen c.args.folder.now) on.months in
+    let some : length c.in_ok-prepared.prepared.changes.items ≡ 0 → ⊥ = search rules in
+    either_on m n c.args.self.now c.args.folder.now c.args.disk.now bodies history on c.args.next changes are c.write.new.folder c.write.new.disk (some_changed c.in_ok-prepared.prepared.changes.items some)
+    (c.write.ensures.any_moment bodies history _ (change_ready m n c.args.self.now c.args.folder.now c.args.disk.now bodies history on c.args.next changes are c.in_ok-prepared.prepared.body.items c.in_ok-prepared.ensures.body c.in_ok-prepared.ensures.named))

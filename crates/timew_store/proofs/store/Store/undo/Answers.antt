@@ -1,0 +1,97 @@
+use Rattle.std.proofs.Common.{◌≡◌, List, ℕ, [], ◌∷◌, Some, Option, ap, sym, subst, ◌∙◌, refl}
+use Rattle.std.specs.Global.{Vec}
+use Rattle.tw_world.specs.Folder.{Files}
+use Rattle.timew_store.specs.Body.{FileChange, AreMonths, body_of, names_rise}
+use Rattle.timew_store.specs.Body.Step.{Undo}
+use Rattle.timew_store.specs.Held.{replaced}
+use Rattle.timew_store.specs.Store.{HoldMonths}
+use Rattle.timew_store.specs.Writing.{changes_of}
+use Rattle.timew_store.proofs.Loads.{passed_on}
+use Rattle.timew_store.proofs.Undoes.{none_found, some_found, some_holds, exchanged_months, nothing_left, bodies_are, undo_ready, taken_back_to, undo_reads, undo_writes, walk_undo_refused, write_undo_refused, back_undo_refused}
+use Rattle.timew_store.proofs.store.Store.undo.Goals as goal
+
+pub returns-in_err-change-clause-any_moment : goal.returns-in_err-change-clause-any_moment
+returns-in_err-change-clause-any_moment g c = λ bodies history on.
+    undo_reads g.F.Folder.model g.D.Disk.model g.met.D.Disk.counts_now c.args.self.now c.args.folder.now c.args.disk.now c.last_change.new.disk bodies history on c.last_change.ensures.untouched
+
+pub returns-in_err-change-clause-refused : goal.returns-in_err-change-clause-refused
+returns-in_err-change-clause-refused g c =
+    passed_on c.from_residual.result _ _ c.from_residual.ensures.1
+    (refl, refl, walk_undo_refused g.F.Folder.model g.D.Disk.model c.args.self.now c.args.self.now c.args.folder.now c.args.disk.now c.last_change.new.disk c.in_err-change.field-0.0 c.in_err-change.ensures.refused)
+
+pub returns-in_default-clause-any_moment : goal.returns-in_default-clause-any_moment
+returns-in_default-clause-any_moment g c = λ bodies history on.
+    undo_reads g.F.Folder.model g.D.Disk.model g.met.D.Disk.counts_now c.args.self.now c.args.folder.now c.args.disk.now c.last_change.new.disk bodies history on c.last_change.ensures.untouched
+
+pub returns-in_default-clause-refused : goal.returns-in_default-clause-refused
+returns-in_default-clause-refused g c = (
+  (refl, refl, c.last_change.ensures.untouched),
+  λ bodies history on. nothing_left g.F.Folder.model g.D.Disk.model c.args.self.now c.args.folder.now c.args.disk.now bodies history on (none_found _ c.in_ok-change.field-0 _ c.in_default.is (c.in_ok-change.ensures.found bodies history on.rest.open_on on.rest.stands)),
+)
+
+pub returns-in_err-prepared-clause-any_moment : goal.returns-in_err-prepared-clause-any_moment
+returns-in_err-prepared-clause-any_moment g c = λ bodies history on.
+    undo_reads g.F.Folder.model g.D.Disk.model g.met.D.Disk.counts_now c.args.self.now c.args.folder.now c.args.disk.now c.last_change.new.disk bodies history on c.last_change.ensures.untouched
+
+pub returns-in_err-prepared-clause-refused : goal.returns-in_err-prepared-clause-refused
+returns-in_err-prepared-clause-refused g c =
+    passed_on c.from_residual-in_err-prepared.result _ _ c.from_residual-in_err-prepared.ensures.1
+    (back_undo_refused g.F.Folder.model g.D.Disk.model c.args.self.now c.args.folder.now c.args.disk.now c.last_change.new.disk (changes_of c.in-Some.change.items) c.in_err-prepared.field-0.0 c.last_change.ensures.untouched
+    (λ bodies history on. some_found _ c.in_ok-change.field-0 c.in-Some.change _ c.in-Some.is (c.in_ok-change.ensures.found bodies history on.rest.open_on on.rest.stands))
+    c.in_err-prepared.ensures.refused)
+
+pub write-requires-clause-named : goal.write-requires-clause-named
+write-requires-clause-named g c =
+    subst AreMonths (sym c.in_ok-prepared.ensures.changes) (exchanged_months (changes_of c.in-Some.change.items) (some_holds _ c.in_ok-change.field-0 c.in-Some.change c.in-Some.is c.in_ok-change.ensures.months))
+
+pub returns-in_err-write-clause-any_moment : goal.returns-in_err-write-clause-any_moment
+returns-in_err-write-clause-any_moment g c = λ bodies history on.
+    let m = g.F.Folder.model in
+    let n = g.D.Disk.model in
+    let change = changes_of c.in-Some.change.items in
+    let top : Some change ≡ _ = some_found _ c.in_ok-change.field-0 c.in-Some.change _ c.in-Some.is (c.in_ok-change.ensures.found bodies history on.rest.open_on on.rest.stands) in
+    let none = c.in_ok-prepared.ensures.unedited (m.seen c.args.folder.now) on.months in
+    let months = c.in_ok-prepared.ensures.months (m.seen c.args.folder.now) on.months in
+    let ready = undo_ready m n c.args.self.now c.args.folder.now c.args.disk.now bodies history on change top c.last_change.new.disk c.in_ok-prepared.prepared.body.items (changes_of c.in_ok-prepared.prepared.changes.items) c.last_change.ensures.untouched c.in_ok-prepared.ensures.changes c.in_ok-prepared.ensures.body
+    (some_holds _ c.in_ok-change.field-0 c.in-Some.change c.in-Some.is c.in_ok-change.ensures.months) (some_holds _ c.in_ok-change.field-0 c.in-Some.change c.in-Some.is c.in_ok-change.ensures.rise) none in
+    undo_writes m n c.args.self.now c.args.folder.now c.write.new.folder c.args.disk.now c.last_change.new.disk c.write.new.disk bodies history on change top c.in_ok-prepared.prepared.months.rows (changes_of c.in_ok-prepared.prepared.changes.items)
+    c.in_ok-prepared.ensures.changes none months.rows_are c.last_change.ensures.untouched (c.write.ensures.any_moment bodies history _ ready)
+
+pub returns-in_err-write-clause-refused : goal.returns-in_err-write-clause-refused
+returns-in_err-write-clause-refused g c =
+    let m = g.F.Folder.model in
+    let n = g.D.Disk.model in
+    let change = changes_of c.in-Some.change.items in
+    passed_on c.from_residual-in_err-write.result _ _ c.from_residual-in_err-write.ensures.1
+    (write_undo_refused m n c.args.self.now c.write.new.self c.args.folder.now c.write.new.folder c.args.disk.now c.last_change.new.disk c.write.new.disk c.in_ok-prepared.prepared.body.items c.in_err-write.field-0.0 c.last_change.ensures.untouched
+    (λ bodies history on.
+    bodies_are m n c.args.self.now c.args.folder.now c.args.disk.now bodies history on change (some_found _ c.in_ok-change.field-0 c.in-Some.change _ c.in-Some.is (c.in_ok-change.ensures.found bodies history on.rest.open_on on.rest.stands))
+    ∙ ap (λ (b : List ℕ). b ∷ []) (sym (c.in_ok-prepared.ensures.body ∙ ap (λ (l : List FileChange). body_of (Undo l)) c.in_ok-prepared.ensures.changes)))
+    c.in_err-write.ensures.kept c.in_err-write.ensures.refused)
+
+pub returns-clause-undone : goal.returns-clause-undone
+returns-clause-undone g c = λ bodies history on.
+    let m = g.F.Folder.model in
+    let n = g.D.Disk.model in
+    let change = changes_of c.in-Some.change.items in
+    let top : Some change ≡ _ = some_found _ c.in_ok-change.field-0 c.in-Some.change _ c.in-Some.is (c.in_ok-change.ensures.found bodies history on.rest.open_on on.rest.stands) in
+    let none = c.in_ok-prepared.ensures.unedited (m.seen c.args.folder.now) on.months in
+    let ready = undo_ready m n c.args.self.now c.args.folder.now c.args.disk.now bodies history on change top c.last_change.new.disk c.in_ok-prepared.prepared.body.items (changes_of c.in_ok-prepared.prepared.changes.items) c.last_change.ensures.untouched c.in_ok-prepared.ensures.changes c.in_ok-prepared.ensures.body
+    (some_holds _ c.in_ok-change.field-0 c.in-Some.change c.in-Some.is c.in_ok-change.ensures.months) (some_holds _ c.in_ok-change.field-0 c.in-Some.change c.in-Some.is c.in_ok-change.ensures.rise) none in
+    taken_back_to m n c.args.self.now c.args.folder.now c.args.disk.now bodies history on change top c.write.new.self c.write.new.folder c.write.new.disk c.in_ok-prepared.prepared.body.items (changes_of c.in_ok-prepared.prepared.changes.items)
+    c.in_ok-prepared.ensures.changes c.in_ok-prepared.ensures.body none
+    (subst (HoldMonths (replaced (m.seen c.args.folder.now) (changes_of c.in_ok-prepared.prepared.changes.items))) (sym c.in_ok-write.ensures.months) (c.in_ok-prepared.ensures.months (m.seen c.args.folder.now) on.months))
+    (c.in_ok-write.ensures.replaced on.rest.tells) (c.in_ok-write.ensures.done bodies history _ ready)
+
+pub returns-clause-any_moment : goal.returns-clause-any_moment
+returns-clause-any_moment g c = λ bodies history on.
+    let m = g.F.Folder.model in
+    let n = g.D.Disk.model in
+    let change = changes_of c.in-Some.change.items in
+    let top : Some change ≡ _ = some_found _ c.in_ok-change.field-0 c.in-Some.change _ c.in-Some.is (c.in_ok-change.ensures.found bodies history on.rest.open_on on.rest.stands) in
+    let none = c.in_ok-prepared.ensures.unedited (m.seen c.args.folder.now) on.months in
+    let months = c.in_ok-prepared.ensures.months (m.seen c.args.folder.now) on.months in
+    let ready = undo_ready m n c.args.self.now c.args.folder.now c.args.disk.now bodies history on change top c.last_change.new.disk c.in_ok-prepared.prepared.body.items (changes_of c.in_ok-prepared.prepared.changes.items) c.last_change.ensures.untouched c.in_ok-prepared.ensures.changes c.in_ok-prepared.ensures.body
+    (some_holds _ c.in_ok-change.field-0 c.in-Some.change c.in-Some.is c.in_ok-change.ensures.months) (some_holds _ c.in_ok-change.field-0 c.in-Some.change c.in-Some.is c.in_ok-change.ensures.rise) none in
+    undo_writes m n c.args.self.now c.args.folder.now c.write.new.folder c.args.disk.now c.last_change.new.disk c.write.new.disk bodies history on change top c.in_ok-prepared.prepared.months.rows (changes_of c.in_ok-prepared.prepared.changes.items)
+    c.in_ok-prepared.ensures.changes none months.rows_are c.last_change.ensures.untouched (c.write.ensures.any_moment bodies history _ ready)

@@ -1,0 +1,59 @@
+// What month files are after a change.
+ghost use Rattle.std.specs.Prelude.{◌≡◌, IfOk};
+ghost use Rattle.timew_store.specs.Gathered.{files_of};
+ghost use Rattle.timew_store.specs.Kept.{bytes_after, names_after, files_after};
+ghost use Rattle.timew_store.specs.Writing.{changes_of};
+
+use crate::changes::{bytes_in, names_of};
+use crate::files::MonthFile;
+use crate::tail::add_tag;
+use crate::write::NewFile;
+use std::alloc::Global;
+use tw_world::{Memory, Text};
+
+// The bytes under a name after a change, where there were these before.
+fn bytes_after<'a>(changes: &'a Vec<NewFile>, name: &Text, before: &'a [u8]) -> &'a [u8]
+    ensures { result.now ≡ bytes_after (changes_of changes.now.items) name.now before.now }
+{
+    let mut bytes = before;
+    for change in changes {
+        if name.as_str() == change.name.as_str() {
+            bytes = &change.new;
+        }
+    }
+    bytes
+}
+
+// The names of the files that are there after a change, in byte order.
+fn names_after(
+    alloc: Global,
+    kept: &Vec<MonthFile>,
+    changes: &Vec<NewFile>,
+) -> Result<Vec<Text>, Memory>
+    ensures { IfOk result (λ names. names.items ≡ names_after (files_of kept.now.items) (changes_of changes.now.items)) }
+{
+    let mut names = names_of(alloc, kept)?;
+    for change in changes {
+        add_tag(alloc, &mut names, change.name.as_str())?;
+    }
+    Ok(names)
+}
+
+/// The month files after a change, in byte order of their names.
+pub(crate) fn files_after(
+    alloc: Global,
+    kept: &Vec<MonthFile>,
+    changes: &Vec<NewFile>,
+) -> Result<Vec<MonthFile>, Memory>
+    ensures { IfOk result (λ files. files_of files.items ≡ files_after (files_of kept.now.items) (changes_of changes.now.items)) }
+{
+    let names = names_after(alloc, kept, changes)?;
+    let mut files = Vec::with_capacity(alloc, names.len())?;
+    for name in &names {
+        let before = bytes_in(kept, name);
+        let bytes = bytes_after(changes, name, before).to_vec(alloc)?;
+        let name = name.copy(alloc)?;
+        files.push(MonthFile { name, bytes })?;
+    }
+    Ok(files)
+}

@@ -1,0 +1,123 @@
+// Taking the last change back.
+ghost use Rattle.std.specs.Prelude.{◌≡◌, true, false, not, List, ℕ, option_map, slice_get, None, IfOk, IfErr, IfSome, OnOk};
+ghost use Rattle.tw_world.specs.Disk.{Untouched};
+ghost use Rattle.tw_world.specs.Folder.{Files, same_bytes};
+ghost use Rattle.tw_journal.specs.Journal.{IsOpenOn, is_closed, journal_end};
+ghost use Rattle.timew_store.specs.Body.{AreMonths, body_of, names_rise};
+ghost use Rattle.timew_store.specs.Body.Step.{Undo};
+ghost use Rattle.timew_store.specs.Gathered.{files_of};
+ghost use Rattle.timew_store.specs.Held.{magic, replaced};
+ghost use Rattle.timew_store.specs.History.{History, Stands, exchanged};
+ghost use Rattle.timew_store.specs.Kept.{bytes_in, first_edited_in};
+ghost use Rattle.timew_store.specs.Store.{HoldMonths};
+ghost use Rattle.timew_store.specs.Undoing.{first_edited};
+ghost use Rattle.timew_store.specs.Undo.{WalkRefused, BackRefused};
+ghost use Rattle.timew_store.specs.Writing.{changes_of};
+
+use crate::after::files_after;
+use crate::body::Record;
+use crate::changes::bytes_in;
+use crate::error::UndoError;
+use crate::files::MonthFile;
+use crate::kept::Months;
+use crate::load::read_step;
+use crate::prepared::Prepared;
+use crate::record::undo_body;
+use crate::rows::read_rows;
+use crate::write::NewFile;
+use std::alloc::Global;
+use tw_journal::{Journal, JournalError};
+use tw_world::{Disk, Memory, Text};
+
+/// The last change that is not undone, found from the last record back: an undo takes back one change more.
+pub(crate) fn last_change<D: Disk>(
+    alloc: Global,
+    journal: &Journal,
+    disk: &mut D,
+) -> Result<Option<Vec<NewFile>>, JournalError>
+    requires length { is_closed journal.now ≡ false → D.model.len disk.old ≡ journal_end journal.now }
+    ensures found { IfOk result (λ found. (bodies : List (List ℕ)) (history : History) → IsOpenOn D.model magic journal.now disk.old bodies → Stands bodies history → option_map (λ files. changes_of files.items) found ≡ slice_get history.undoable 0) }
+    ensures months { IfOk result (λ found. IfSome found (λ files. AreMonths (changes_of files.items))) }
+    ensures rise { IfOk result (λ found. IfSome found (λ files. names_rise (changes_of files.items) ≡ true)) }
+    ensures untouched { Untouched D.model disk.old disk.new }
+    ensures refused { IfErr result (λ e. WalkRefused D.model disk.old disk.new journal.now e) }
+{
+    let mut depth: u64 = 0;
+    let mut n = journal.count();
+    while n > 0 {
+        n -= 1;
+        match read_step(alloc, journal, disk, n)? {
+            Record::Undo(_) => depth += 1,
+            Record::Change(files) => {
+                if depth == 0 {
+                    return Ok(Some(files));
+                }
+                depth -= 1;
+            }
+        }
+    }
+    Ok(None)
+}
+
+fn is_edited(kept: &Vec<MonthFile>, file: &NewFile) -> bool
+    ensures { result ≡ not (same_bytes (bytes_in (files_of kept.now.items) file.now.name) file.now.new.items) }
+{
+    bytes_in(kept, &file.name) != file.new.as_slice()
+}
+
+// The first file of a change that does not have the bytes that the change left.
+fn first_edited<'a>(kept: &Vec<MonthFile>, change: &'a Vec<NewFile>) -> Option<&'a Text>
+    ensures { option_map (λ name. name.now) result ≡ first_edited_in (files_of kept.now.items) (changes_of change.now.items) }
+{
+    for file in change {
+        if is_edited(kept, file) {
+            return Some(&file.name);
+        }
+    }
+    None
+}
+
+// A change with old and new exchanged.
+fn exchanged(alloc: Global, change: Vec<NewFile>) -> Result<Vec<NewFile>, Memory>
+    ensures { IfOk result (λ files. changes_of files.items ≡ exchanged (changes_of change.items)) }
+{
+    let mut files = Vec::with_capacity(alloc, change.len())?;
+    for file in change {
+        files.push(NewFile {
+            name: file.name,
+            old: file.new,
+            new: file.old,
+        })?;
+    }
+    Ok(files)
+}
+
+/// Prepares that the old bytes of a change are put back.
+pub(crate) fn prepared_undo(
+    alloc: Global,
+    months: &Months,
+    change: Vec<NewFile>,
+) -> Result<Prepared, UndoError>
+    requires named { AreMonths (changes_of change.items) }
+    ensures body { IfOk result (λ p. p.body.items ≡ body_of (Undo (changes_of p.changes.items))) }
+    ensures changes { IfOk result (λ p. changes_of p.changes.items ≡ exchanged (changes_of change.items)) }
+    ensures unedited { OnOk result ((files : Files) → HoldMonths files months.now → first_edited files (changes_of change.items) ≡ None) }
+    ensures months { IfOk result (λ p. (files : Files) → HoldMonths files months.now → HoldMonths (replaced files (changes_of p.changes.items)) p.months) }
+    ensures refused { IfErr result (λ e. BackRefused months.now (changes_of change.items) e) }
+{
+    if let Some(file) = first_edited(&months.files, &change) {
+        return Err(UndoError::Edited {
+            file: file.copy(alloc)?,
+        });
+    }
+    let changes = exchanged(alloc, change)?;
+    let body = undo_body(alloc, &changes)?;
+    let files = files_after(alloc, &months.files, &changes)?;
+    let rows = read_rows(alloc, &files)?;
+    let months = Months { files, rows };
+    Ok(Prepared {
+        changes,
+        body,
+        months,
+    })
+}
