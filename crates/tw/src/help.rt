@@ -47,9 +47,9 @@ due.before:eow, and words of the description, with and, or, xor, ! and brackets
 between them. Words behind -- are text.
 
 attributes that a change may set:
-  description project priority due wait scheduled until entry
+  description project priority due wait scheduled until entry depends
 attributes that a filter may ask for, too:
-  modified start end status depends recur parent uuid
+  modified start end status recur parent uuid
 modifiers, as in due.before:eow:
   none any is equals isnt not before below after above has contains hasnt
   startswith left endswith right word noword
