@@ -190,6 +190,7 @@ module _ {F D : Type 0} (m : FolderModel F) (n : DiskModel D) (f0 : F) (d0 : D) 
     loaded f1 tells_now settled_now seen = record {
       bodies = bodies;
       records = records;
+      open_on = on;
       rest = λ history stands. record {
         tells = tells_now;
         settled = settled_now;

@@ -17,7 +17,7 @@ use Rattle.tw_journal.proofs.Places.{still_open}
 use Rattle.tw_journal.proofs.Unique.{one_records}
 use Rattle.timew_store.specs.Body.{FileChange, step_of}
 use Rattle.timew_store.specs.History.{History, Stands}
-use Rattle.timew_store.specs.Held.{magic, Held, OpensTo, IsAtRest, finished}
+use Rattle.timew_store.specs.Held.{magic, Held, OpensTo, IsAtRest, held_by, finished}
 use Rattle.timew_store.specs.Loading.{IsLoaded, EndsInNoStep, IsNoStep, StepRefused, LastRefused, FinishRefused, IsStoreFault, files_or, last_of}
 use Rattle.timew_store.specs.Gathered.{RowsRefused, files_of, months_in, lines_in}
 use Rattle.timew_store.specs.Rows.{judged, rows_of}
@@ -126,18 +126,18 @@ module _ {F D : Type 0} (m : FolderModel F) (n : DiskModel D) where
   finish_refused f0 f1 d0 d1 (store.Journal e) r = r
   finish_refused f0 f1 d0 d1 store.Memory r = tt
 
-  -- the files are those that the folder and the journal open to
-  loaded_files : (f0 f1 : F) (d0 d1 : D) (journal : Journal) (held : Held) → IsLoaded m n f0 f1 d0 d1 journal → OpensTo (m.seen f0) (n.seen d0) held → m.seen f1 ≡ held.files
-  loaded_files f0 f1 d0 d1 journal held loaded opens =
-      let same = one_records magic (n.seen d0) opens.bodies loaded.bodies opens.records loaded.records in
-      loaded.finished_now opens.history (subst (λ (b : List (List ℕ)). Stands b opens.history) same opens.stands) ∙ opens.files_are
+  -- what was loaded is what the folder and the journal open to
+  module _ (f0 f1 : F) (d0 d1 : D) (journal : Journal) (loaded : IsLoaded m n f0 f1 d0 d1 journal) (held : Held) (opens : OpensTo (m.seen f0) (n.seen d0) held) where
+    stands : Stands loaded.bodies opens.history
+    stands = subst (λ (b : List (List ℕ)). Stands b opens.history) (one_records magic (n.seen d0) opens.bodies loaded.bodies opens.records loaded.records) opens.stands
 
-  pub months_refused : (f0 f1 f2 : F) (d0 d1 : D) (journal : Journal) (e : LoadError) → Kept m f0 f1 → (Tells m f0 → Settled m f0 → disk.Tells n d0 → IsLoaded m n f0 f1 d0 d1 journal) → MonthsRefused m f1 f2 e → LoadRefused m n f0 f2 d0 d1 e
-  months_refused f0 f1 f2 d0 d1 journal Folder kept loaded r = omega (arith, kept.faults, r)
-  months_refused f0 f1 f2 d0 d1 journal (OfJournal e) kept loaded r = absurd r
-  months_refused f0 f1 f2 d0 d1 journal (BadLine file line) kept loaded r = λ told settled tells held opens.
-      ap rows_of (sym (loaded_files f0 f1 d0 d1 journal held (loaded told settled tells) opens)) ∙ r (kept.tells ∙ told)
-  months_refused f0 f1 f2 d0 d1 journal Memory kept loaded r = tt
+    loaded_files : m.seen f1 ≡ held.files
+    loaded_files = loaded.finished_now opens.history stands ∙ opens.files_are
+
+    loaded_held : held_by m f1 opens.history ≡ held
+    loaded_held =
+        ap (λ (s : Files). let h : Held = record { files = s; undoable = opens.history.undoable } in h) loaded_files
+        ∙ ap (λ (u : List (List FileChange)). let h : Held = record { files = held.files; undoable = u } in h) opens.undoable_are
 
   -- a read leaves at rest what rests
   rest_kept : (journal : Journal) (f1 f2 : F) (d : D) (bodies : List (List ℕ)) (history : History) → Reads m f1 f2 → IsAtRest m n journal f1 d bodies history → IsAtRest m n journal f2 d bodies history
@@ -149,12 +149,31 @@ module _ {F D : Type 0} (m : FolderModel F) (n : DiskModel D) where
     whole = ap (λ (s : Files). finished s history.last) (reads.seen rest.tells) ∙ rest.whole ∙ sym (reads.seen rest.tells);
   }
 
+  pub months_refused : (f0 f1 f2 : F) (d0 d1 : D) (journal : Journal) (e : LoadError) → Kept m f0 f1 → Reads m f1 f2 → (Tells m f0 → Settled m f0 → disk.Tells n d0 → IsLoaded m n f0 f1 d0 d1 journal) → MonthsRefused m f1 f2 e → LoadRefused m n f0 f2 d0 d1 e
+  months_refused f0 f1 f2 d0 d1 journal Folder kept reads loaded r = omega (arith, kept.faults, r)
+  months_refused f0 f1 f2 d0 d1 journal (OfJournal e) kept reads loaded r = absurd r
+  months_refused f0 f1 f2 d0 d1 journal (BadLine file line) kept reads loaded r = λ told settled tells held opens.
+      let is = loaded told settled tells in
+      let now = kept.tells ∙ told in (
+        ap rows_of (sym (loaded_files f0 f1 d0 d1 journal is held opens)) ∙ r now,
+        record {
+          bodies = is.bodies;
+          had = is.records;
+          journal = journal;
+          history = opens.history;
+          rest = rest_kept journal f1 f2 d1 is.bodies opens.history reads (is.rest opens.history (stands f0 f1 d0 d1 journal is held opens));
+          holds = ap (λ (s : Files). let h : Held = record { files = s; undoable = opens.history.undoable } in h) (reads.seen now) ∙ loaded_held f0 f1 d0 d1 journal is held opens;
+        },
+      )
+  months_refused f0 f1 f2 d0 d1 journal Memory kept reads loaded r = tt
+
   pub store_loaded : (f0 f1 f2 : F) (d0 d1 : D) (store : Store) → Tells m f1 → Reads m f1 f2 → IsLoaded m n f0 f1 d0 d1 store.journal → HoldMonths (m.seen f1) store.months → IsLoadedStore m n f0 f2 d0 d1 store
   store_loaded f0 f1 f2 d0 d1 store told reads loaded months =
       let months_now : HoldMonths (m.seen f2) store.months = subst (λ (s : Files). HoldMonths s store.months) (sym (reads.seen told)) months in
       record {
         bodies = loaded.bodies;
         records = loaded.records;
+        open_on = loaded.open_on;
         on = λ history stands. record { rest = rest_kept store.journal f1 f2 d1 loaded.bodies history reads (loaded.rest history stands); months = months_now };
         finished_now = λ history stands. reads.seen told ∙ loaded.finished_now history stands;
         months = months_now;

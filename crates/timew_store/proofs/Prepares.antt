@@ -24,8 +24,10 @@ use Rattle.timew_store.specs.History.{History, applied, stepped, with_change}
 use Rattle.timew_store.specs.Held.{Held, OpensTo, OpensToEither, IsAtRest, held_by, bytes_of, replaced, finished, HasOld, AreApart}
 use Rattle.timew_store.specs.Kept.{bytes_in, text_in, one_change}
 use Rattle.timew_store.specs.Months.{month_text, month_change, changes_to, all_names}
-use Rattle.timew_store.specs.Writing.{change_of, changes_of, AreFileNames, IsReadyFor}
-use Rattle.timew_store.specs.Store.{HoldMonths, IsStoreOn, IsMovedTo, with_any, changed, change_bodies}
+use Rattle.timew_store.specs.Writing.{change_of, changes_of, AreFileNames, IsReadyFor, WriteRefused}
+use Rattle.timew_store.specs.Store.{HoldMonths, IsStoreOn, IsMovedTo, IsChangeBody, ChangeRefused, with_any, changed, change_bodies}
+use Rattle.timew_store.specs.declared.error.StoreError.{StoreError}
+use Rattle.timew_store.specs.declared.error.StoreError.TheVariants as write
 use Rattle.timew_store.proofs.Again.{rise_apart}
 use Rattle.timew_store.proofs.Changing.{AreMonthNames}
 use Rattle.timew_store.proofs.MonthForm.{month_file}
@@ -140,3 +142,17 @@ module _ {F D : Type 0} (m : FolderModel F) (n : DiskModel D) where
             → InTurns m (crash_of n) (OpensToEither (held_by m f0 history) (then c)) f0 d0 f1 d1
         by_case [] some run = absurd (some refl)
         by_case (f ∷ files) some run = run
+
+    -- the body is that of the one record
+    pub one_body : (body : List ℕ) → (length changes ≡ 0 → ⊥) → body ≡ body_of (Change changes) → change_bodies (changes_to (m.seen f0) next) ≡ body ∷ []
+    one_body body some is = subst (λ (c : List FileChange). change_bodies c ≡ body ∷ []) are (by_case changes some is)
+      where
+        by_case : (c : List FileChange) → (length c ≡ 0 → ⊥) → body ≡ body_of (Change c) → change_bodies c ≡ body ∷ []
+        by_case [] some is = absurd (some refl)
+        by_case (f ∷ files) some is = ap (λ (b : List ℕ). b ∷ []) (sym is)
+
+  pub change_refused : (old new : Store) (f0 f1 : F) (d0 d1 : D) (next : List Interval) (body : List ℕ) (e : StoreError) → IsChangeBody m n old f0 d0 next body → new.months ≡ old.months → WriteRefused m n old.journal new.journal f0 f1 d0 d1 body e
+      → ChangeRefused m n old new f0 f1 d0 d1 next e
+  change_refused old new f0 f1 d0 d1 next body write.Folder is same r = (r.0, (body, is, r.1))
+  change_refused old new f0 f1 d0 d1 next body (write.Journal e) is same r = (r.1, (body, is, record { refused = r.0; months = same }))
+  change_refused old new f0 f1 d0 d1 next body write.Memory is same r = absurd r

@@ -373,18 +373,30 @@ module _ {F D : Type 0} (m : FolderModel F) (n : DiskModel D) where
   walk_undo_refused old new f0 d0 d1 (cause.TooLong bytes) r = absurd r
   walk_undo_refused old new f0 d0 d1 cause.Closed r = r
 
-  append_undo_refused : (old new : Store) (f0 : F) (d0 d1 d2 : D) (body : List ℕ) (e : JournalError) → disk.Untouched n d0 d1 → IsUndoBody m n old f0 d0 body → AppendRefused n old.journal new.journal d1 d2 (length body + 5) e → UndoJournalRefused m n old new f0 d0 d2 e
-  append_undo_refused old new f0 d0 d1 d2 body cause.Disk untouched is r = omega (arith, untouched.kept.faults, r.0)
-  append_undo_refused old new f0 d0 d1 d2 body cause.Memory untouched is r = tt
-  append_undo_refused old new f0 d0 d1 d2 body (cause.Damaged offset) untouched is r = absurd r
-  append_undo_refused old new f0 d0 d1 d2 body (cause.TooLong bytes) untouched is r = (omega (arith, r.0, r.1), (body, is, r.0))
-  append_undo_refused old new f0 d0 d1 d2 body cause.Closed untouched is r = r.0
+  same_store : (old new : Store) → new.journal ≡ old.journal → new.months ≡ old.months → new ≡ old
+  same_store old new journals months = ap (λ (j : Journal). let s : Store = record { journal = j; months = new.months } in s) journals ∙ ap (λ (k : Months). let s : Store = record { journal = old.journal; months = k } in s) months
 
-  pub write_undo_refused : (old new : Store) (f0 f1 : F) (d0 d1 d2 : D) (body : List ℕ) (e : StoreError) → disk.Untouched n d0 d1 → IsUndoBody m n old f0 d0 body → new.months ≡ old.months → WriteRefused m n old.journal new.journal f0 f1 d1 d2 body e
-      → UndoRefused m n old new f0 f1 d0 d2 (not_written e)
-  write_undo_refused old new f0 f1 d0 d1 d2 body write.Folder untouched is same r = (r.0, (body, is, λ bodies on. r.1 bodies (still_open n magic old.journal d0 d1 bodies untouched on)))
-  write_undo_refused old new f0 f1 d0 d1 d2 body (write.Journal e) untouched is same r = (r.1, same, append_undo_refused old new f0 d0 d1 d2 body e untouched is r.0)
-  write_undo_refused old new f0 f1 d0 d1 d2 body write.Memory untouched is same r = absurd r
+  -- the undo leads back
+  abbrev pub Leads : Store → F → D → Type 0
+  Leads old f0 d0 = (bodies : List (List ℕ)) (history : History) → IsStoreOn m n old f0 d0 bodies history → (back : Held) × (undone_held (held_by m f0 history) ≡ Ok back)
+
+  append_undo_refused : (old new : Store) (f0 : F) (d0 d1 d2 : D) (body : List ℕ) (e : JournalError) → disk.Untouched n d0 d1 → IsUndoBody m n old f0 d0 body → Leads old f0 d0 → new.months ≡ old.months
+      → AppendRefused n old.journal new.journal d1 d2 (length body + 5) e → UndoJournalRefused m n old new f0 d0 d2 e
+  append_undo_refused old new f0 d0 d1 d2 body cause.Disk untouched is leads same r = omega (arith, untouched.kept.faults, r.0)
+  append_undo_refused old new f0 d0 d1 d2 body cause.Memory untouched is leads same r = tt
+  append_undo_refused old new f0 d0 d1 d2 body (cause.Damaged offset) untouched is leads same r = absurd r
+  append_undo_refused old new f0 d0 d1 d2 body (cause.TooLong bytes) untouched is leads same r = (
+    omega (arith, r.0, r.1),
+    (same_store old new r.3 same, subst (λ (d : D). disk.Untouched n d0 d) (sym r.4) untouched),
+    λ bodies history on. let to = leads bodies history on in record { back = to.0; is = to.1; body = body; one = is bodies history on; size = r.0 },
+  )
+  append_undo_refused old new f0 d0 d1 d2 body cause.Closed untouched is leads same r = r.0
+
+  pub write_undo_refused : (old new : Store) (f0 f1 : F) (d0 d1 d2 : D) (body : List ℕ) (e : StoreError) → disk.Untouched n d0 d1 → IsUndoBody m n old f0 d0 body → Leads old f0 d0 → new.months ≡ old.months
+      → WriteRefused m n old.journal new.journal f0 f1 d1 d2 body e → UndoRefused m n old new f0 f1 d0 d2 (not_written e)
+  write_undo_refused old new f0 f1 d0 d1 d2 body write.Folder untouched is leads same r = (r.0, (body, is, λ bodies on. r.1 bodies (still_open n magic old.journal d0 d1 bodies untouched on)))
+  write_undo_refused old new f0 f1 d0 d1 d2 body (write.Journal e) untouched is leads same r = (r.1, same, append_undo_refused old new f0 d0 d1 d2 body e untouched is leads same r.0)
+  write_undo_refused old new f0 f1 d0 d1 d2 body write.Memory untouched is leads same r = absurd r
 
   -- why the old bytes are not put back
   pub back_undo_refused : (old : Store) (f0 : F) (d0 d1 : D) (change : List FileChange) (e : UndoError) → disk.Untouched n d0 d1

@@ -54,6 +54,7 @@ last_of (body ∷ next ∷ bodies) = last_of (next ∷ bodies)
 pub record IsLoaded {F D : Type 0} (m : FolderModel F) (n : DiskModel D) (f0 f1 : F) (d0 d1 : D) (journal : Journal) : Type 0 where
   pub bodies : List (List ℕ)
   pub records : Records magic (n.seen d0) bodies
+  pub open_on : IsOpenOn n magic journal d1 bodies
   pub rest : (history : History) → Stands bodies history → IsAtRest m n journal f1 d1 bodies history
   pub finished_now : (history : History) → Stands bodies history → m.seen f1 ≡ finished (m.seen f0) history.last
 

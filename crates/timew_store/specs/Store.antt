@@ -6,6 +6,7 @@ use Rattle.tw_world.specs.Crash.{Settled, Tells}
 use Rattle.tw_world.specs.Folder.{Files, FolderModel}
 use Rattle.tw_journal.specs.Open.{Records, IsFault}
 use Rattle.tw_journal.specs.Journal.{is_closed, journal_end, IsOpenOn, AppendRefused}
+use Rattle.tw_journal.specs.declared.journal.Journal.{Journal}
 use Rattle.tw_journal.specs.declared.journal.JournalError.{JournalError}
 use Rattle.timew_store.specs.Body.{FileChange, body_of}
 use Rattle.timew_store.specs.Body.Step.{Change}
@@ -56,6 +57,7 @@ pub record IsLoadedStore {F D : Type 0} (m : FolderModel F) (n : DiskModel D) (f
   pub on : (history : History) → Stands bodies history → IsStoreOn m n store f1 d1 bodies history
   pub finished_now : (history : History) → Stands bodies history → m.seen f1 ≡ finished (m.seen f0) history.last
   -- whatever the records stand for
+  pub open_on : IsOpenOn n magic store.journal d1 bodies
   pub months : HoldMonths (m.seen f1) store.months
 
 abbrev pub not_loaded : StoreError → LoadError
@@ -74,15 +76,24 @@ MonthsRefused m old new (OfJournal e) = ⊥
 MonthsRefused m old new (BadLine file line) = Tells m old → rows_of (m.seen old) ≡ Err (file, line)
 MonthsRefused m old new Memory = Unit {0}
 
--- this is the first bad line of the files that the folder and the journal open to
-abbrev pub IsBadLine : Files → List ℕ → List ℕ × ℕ → Type 0
-IsBadLine files journal line = (held : Held) → OpensTo files journal held → rows_of held.files ≡ Err line
+-- folder and journal rest, on the records of before, and hold this
+pub record RestHolding {F D : Type 0} (m : FolderModel F) (n : DiskModel D) (before : List ℕ) (folder : F) (disk : D) (held : Held) : Type 0 where
+  pub bodies : List (List ℕ)
+  pub had : Records magic before bodies
+  pub journal : Journal
+  pub history : History
+  pub rest : IsAtRest m n journal folder disk bodies history
+  pub holds : held_by m folder history ≡ held
+
+-- this is the first bad line of the files that a folder and a journal open to, and these rest now
+abbrev pub IsBadLine : {F D : Type 0} → FolderModel F → DiskModel D → (f0 f1 : F) (d0 d1 : D) → List ℕ × ℕ → Type 0
+IsBadLine m n f0 f1 d0 d1 line = (held : Held) → OpensTo (m.seen f0) (n.seen d0) held → (rows_of held.files ≡ Err line) × RestHolding m n (n.seen d0) f1 d1 held
 
 -- why a store is not loaded
 abbrev pub LoadRefused : {F D : Type 0} → FolderModel F → DiskModel D → (f0 f1 : F) (d0 d1 : D) → LoadError → Type 0
 LoadRefused m n f0 f1 d0 d1 Folder = Rose (m.faults f0) (m.faults f1)
 LoadRefused m n f0 f1 d0 d1 (OfJournal e) = OpeningRefused n d0 d1 e
-LoadRefused m n f0 f1 d0 d1 (BadLine file line) = Tells m f0 → Settled m f0 → disk.Tells n d0 → IsBadLine (m.seen f0) (n.seen d0) (file, line)
+LoadRefused m n f0 f1 d0 d1 (BadLine file line) = Tells m f0 → Settled m f0 → disk.Tells n d0 → IsBadLine m n f0 f1 d0 d1 (file, line)
 LoadRefused m n f0 f1 d0 d1 Memory = Unit {0}
 
 -- a refusal that has nothing to do with the bytes of the journal
@@ -123,9 +134,9 @@ pub record IsRefusedBody {D : Type 0} (n : DiskModel D) (old new : Store) (d0 d1
 abbrev pub StandsMore : {D : Type 0} → DiskModel D → (old new : Store) (d0 d1 : D) (body : List ℕ) → Type 0
 StandsMore n old new d0 d1 body = (bodies : List (List ℕ)) → IsOpenOn n magic old.journal d0 bodies → IsOpenOn n magic new.journal d1 (bodies ++ body ∷ [])
 
--- the body of a change to these intervals, of a store that is open
+-- a change of an open store to these intervals writes this body
 abbrev pub IsChangeBody : {F D : Type 0} → FolderModel F → DiskModel D → Store → F → D → List Interval → List ℕ → Type 0
-IsChangeBody m n store folder disk rows body = (bodies : List (List ℕ)) (history : History) → IsStoreOn m n store folder disk bodies history → body ≡ body_of (Change (changes_to (m.seen folder) rows))
+IsChangeBody m n store folder disk rows body = (bodies : List (List ℕ)) (history : History) → IsStoreOn m n store folder disk bodies history → change_bodies (changes_to (m.seen folder) rows) ≡ body ∷ []
 
 -- Why a change is not made. Where the journal refuses, the folder is not used; where the folder fails, the record stands.
 abbrev pub ChangeRefused : {F D : Type 0} → FolderModel F → DiskModel D → (old new : Store) (f0 f1 : F) (d0 d1 : D) → List Interval → StoreError → Type 0

@@ -82,12 +82,24 @@ NothingWritten n old new f0 f1 d0 d1 = (new ≡ old) × (f1 ≡ f0) × Untouched
 abbrev pub IsUndoBody : {F D : Type 0} → FolderModel F → DiskModel D → Store → F → D → List ℕ → Type 0
 IsUndoBody m n store folder disk body = (bodies : List (List ℕ)) (history : History) → IsStoreOn m n store folder disk bodies history → undo_bodies history.undoable ≡ body ∷ []
 
+-- an undo leads back, and writes a record of so many bytes
+pub record WritesBytes {F : Type 0} (m : FolderModel F) (folder : F) (history : History) (bytes : ℕ) : Type 0 where
+  pub back : Held
+  pub is : undone_held (held_by m folder history) ≡ Ok back
+  pub body : List ℕ
+  pub one : undo_bodies history.undoable ≡ body ∷ []
+  pub size : bytes ≡ length body + 5
+
+-- the journal was only read
+abbrev pub JournalRead : {D : Type 0} → DiskModel D → (old new : Store) (d0 d1 : D) → Type 0
+JournalRead n old new d0 d1 = (new ≡ old) × Untouched n d0 d1
+
 -- why the journal is not read, or refuses the body of an undo
 abbrev pub UndoJournalRefused : {F D : Type 0} → FolderModel F → DiskModel D → (old new : Store) (f0 : F) (d0 d1 : D) → JournalError → Type 0
 UndoJournalRefused m n old new f0 d0 d1 cause.Disk = Rose (n.faults d0) (n.faults d1)
 UndoJournalRefused m n old new f0 d0 d1 cause.Memory = Unit {0}
 UndoJournalRefused m n old new f0 d0 d1 (cause.Damaged offset) = disk.Tells n d0 → (bodies : List (List ℕ)) → IsOpenOn n magic old.journal d0 bodies → (k : ℕ) × (k < length bodies) × IsNoStep bodies k offset
-UndoJournalRefused m n old new f0 d0 d1 (cause.TooLong bytes) = (2 ^ 30 < bytes) × ((body : List ℕ) × IsUndoBody m n old f0 d0 body × (bytes ≡ length body + 5))
+UndoJournalRefused m n old new f0 d0 d1 (cause.TooLong bytes) = (2 ^ 30 < bytes) × JournalRead n old new d0 d1 × ((bodies : List (List ℕ)) (history : History) → IsStoreOn m n old f0 d0 bodies history → WritesBytes m f0 history bytes)
 UndoJournalRefused m n old new f0 d0 d1 cause.Closed = old.journal.closed ≡ true
 
 -- Why a change is not taken back. Where the journal refuses, the folder is not used; where the folder fails, the record stands.

@@ -23,7 +23,7 @@ returns-in_err-months-clause-any_moment g c = λ told settled tells.
 pub returns-in_err-months-clause-refused : goal.returns-in_err-months-clause-refused
 returns-in_err-months-clause-refused g c =
     passed_on c.from_residual-in_err-months.result _ _ c.from_residual-in_err-months.ensures.1
-    (months_refused g.F.Folder.model g.D.Disk.model c.args.folder.now c.open_and_finish.new.folder c.read_months.new.folder c.args.disk.now c.open_and_finish.new.disk c.in_ok-journal.journal c.in_err-months.field-0.0 c.open_and_finish.ensures.folder c.in_ok-journal.ensures.loaded c.in_err-months.ensures.refused)
+    (months_refused g.F.Folder.model g.D.Disk.model c.args.folder.now c.open_and_finish.new.folder c.read_months.new.folder c.args.disk.now c.open_and_finish.new.disk c.in_ok-journal.journal c.in_err-months.field-0.0 c.open_and_finish.ensures.folder c.read_months.ensures.reads c.in_ok-journal.ensures.loaded c.in_err-months.ensures.refused)
 
 pub returns-in_err-months-clause-sound : goal.returns-in_err-months-clause-sound
 returns-in_err-months-clause-sound g c = λ held tells opens.

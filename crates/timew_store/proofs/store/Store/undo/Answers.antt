@@ -7,7 +7,7 @@ use Rattle.timew_store.specs.Held.{replaced}
 use Rattle.timew_store.specs.Store.{HoldMonths}
 use Rattle.timew_store.specs.Writing.{changes_of}
 use Rattle.timew_store.proofs.Loads.{passed_on}
-use Rattle.timew_store.proofs.Undoes.{none_found, some_found, some_holds, exchanged_months, nothing_left, bodies_are, undo_ready, taken_back_to, undo_reads, undo_writes, walk_undo_refused, write_undo_refused, back_undo_refused}
+use Rattle.timew_store.proofs.Undoes.{none_found, some_found, some_holds, exchanged_months, nothing_left, bodies_are, back_is, undo_ready, taken_back_to, undo_reads, undo_writes, walk_undo_refused, write_undo_refused, back_undo_refused}
 use Rattle.timew_store.proofs.store.Store.undo.Goals as goal
 
 pub returns-in_err-change-clause-any_moment : goal.returns-in_err-change-clause-any_moment
@@ -67,6 +67,12 @@ returns-in_err-write-clause-refused g c =
     (λ bodies history on.
     bodies_are m n c.args.self.now c.args.folder.now c.args.disk.now bodies history on change (some_found _ c.in_ok-change.field-0 c.in-Some.change _ c.in-Some.is (c.in_ok-change.ensures.found bodies history on.rest.open_on on.rest.stands))
     ∙ ap (λ (b : List ℕ). b ∷ []) (sym (c.in_ok-prepared.ensures.body ∙ ap (λ (l : List FileChange). body_of (Undo l)) c.in_ok-prepared.ensures.changes)))
+    (λ bodies history on.
+    let top : Some change ≡ _ = some_found _ c.in_ok-change.field-0 c.in-Some.change _ c.in-Some.is (c.in_ok-change.ensures.found bodies history on.rest.open_on on.rest.stands) in
+    let months = subst (λ (l : List FileChange). HoldMonths (replaced (m.seen c.args.folder.now) l) c.in_ok-prepared.prepared.months) c.in_ok-prepared.ensures.changes (c.in_ok-prepared.ensures.months (m.seen c.args.folder.now) on.months) in (
+      _,
+      back_is m n c.args.self.now c.args.folder.now c.args.disk.now bodies history on change top c.in_ok-prepared.prepared.months.rows (c.in_ok-prepared.ensures.unedited (m.seen c.args.folder.now) on.months) months.rows_are,
+    ))
     c.in_err-write.ensures.kept c.in_err-write.ensures.refused)
 
 pub returns-clause-undone : goal.returns-clause-undone
