@@ -74,7 +74,7 @@ place_rows adjust new ids rows next is are planned = of_adjust adjust planned
 
 -- ---- the open row
 
-open_is : (rows : List Interval) (o : List Interval × Interval) → open_of rows ≡ Some o → rows ≡ o.0 ++ o.1 ∷ []
+pub open_is : (rows : List Interval) (o : List Interval × Interval) → open_of rows ≡ Some o → rows ≡ o.0 ++ o.1 ∷ []
 open_is [] o is = absurd (cc)
 open_is (r ∷ []) o is = of_end r.end is
   where
@@ -106,7 +106,7 @@ front_rows : (front : List Interval) (x : Interval) → AreRows (front ++ x ∷ 
 front_rows [] x are = tt
 front_rows (r ∷ front) x are = (are.0, front_before r.end front x are.1, front_rows front x are.2)
 
-last_row : (front : List Interval) (x : Interval) → AreRows (front ++ x ∷ []) → IsRow x
+pub last_row : (front : List Interval) (x : Interval) → AreRows (front ++ x ∷ []) → IsRow x
 last_row [] x are = are.0
 last_row (r ∷ front) x are = last_row front x are.2
 

@@ -1,4 +1,5 @@
 // What the words of a command ask for.
+use crate::ids::Ids;
 use timew_store::Texts;
 use tw_time::Length;
 use tw_world::Text;
@@ -49,12 +50,12 @@ pub enum Command {
     },
     /// Adds tags to these intervals, or without an id to the open one.
     Tag {
-        ids: Vec<u64>,
+        ids: Ids,
         tags: Texts,
     },
     /// Takes tags from these intervals, or without an id from the open one.
     Untag {
-        ids: Vec<u64>,
+        ids: Ids,
         tags: Texts,
     },
     /// Sets the annotation of an interval, or without an id of the open one. An empty text takes it away.
@@ -64,11 +65,11 @@ pub enum Command {
     },
     /// Drops these intervals.
     Delete {
-        ids: Vec<u64>,
+        ids: Ids,
     },
     /// Cuts these intervals in the middle. An open one is measured to now, and its second part stays open.
     Split {
-        ids: Vec<u64>,
+        ids: Ids,
     },
     /// Makes one interval of two, from the earlier start to the later end.
     Join {

@@ -4,19 +4,35 @@
 #![tactic(auto)]
 
 mod command;
+mod command_parts;
 mod cut;
 mod error;
+mod export;
+mod ids;
 mod kept;
 mod label;
 pub mod laws;
+mod name;
+mod parts;
 mod planning;
+mod range;
+mod reading;
 mod rows;
 mod span;
+mod stretch;
+mod summary;
+mod texts;
 mod track;
+mod word;
 
 pub use command::{Command, Range};
-pub use error::{BadWord, TimewError, WordKind};
+pub use error::{BadWord, TimewError, WordKind, WordsError};
+pub use export::export_text;
+pub use ids::Ids;
 pub use planning::plan;
+pub use reading::read_words;
+pub use summary::summary_text;
+pub use texts::{stored_text, tracking_text};
 
 #[cfg(test)]
 mod tests;

@@ -1,5 +1,5 @@
 // Joining, moving, lengthening and shortening.
-ghost use Rattle.std.specs.Prelude.{◌≡◌, ◌<◌, ◌+◌, length, IfOk, IfSome, ◌^◌};
+ghost use Rattle.std.specs.Prelude.{◌≡◌, ◌<◌, ◌+◌, ◌*◌, length, min, Err, IfOk, IfErr, IfSome};
 ghost use Rattle.timew_store.specs.Interval.{AreRows};
 ghost use Rattle.timew_cmd.specs.Planned.{Answers, joined, later_end, first_text, moved_end, is_in_range, seconds_of, closed_end, shorter, joined_both, replaced, moved_to, lengthened, shortened};
 
@@ -114,15 +114,19 @@ pub fn move_to(
     replace(alloc, word, id, adjust, new, rows)
 }
 
+// The seconds of a length without months, or the greatest number where there are more.
 fn seconds_of(word: u64, length: &Length) -> Result<u64, TimewError>
-    requires { length.now.seconds < 4_000_000_000 }
-    ensures value { Answers (λ n. n) result (seconds_of word length.now) }
-    ensures bound { IfOk result (λ n. n < 2 ^ 50) }
+    ensures ok { IfOk result (λ n. (length.now.months ≡ 0) × (n ≡ min (length.now.seconds + length.now.days * 86400) u64.MAX)) }
+    ensures err { IfErr result (λ e. seconds_of word length.now ≡ Err e) }
 {
     if length.months != 0 {
         return Err(TimewError::Range { word });
     }
-    Ok(length.seconds + u64::from(length.days) * 86_400)
+    Ok(
+        length
+            .seconds
+            .saturating_add(u64::from(length.days) * 86_400),
+    )
 }
 
 fn closed_end(word: u64, end: Option<u64>) -> Result<u64, TimewError>
@@ -142,31 +146,20 @@ pub fn lengthen(
     adjust: bool,
     rows: &[Interval],
 ) -> Result<Vec<Interval>, TimewError>
-    requires length { length.now.seconds < 4_000_000_000 }
-    requires rows { AreRows rows.now }
     ensures { Answers (λ v. v.items) result (lengthened id word length.now adjust rows.now) }
 {
     let row = row_at(id, rows)?;
     let end = closed_end(word, row.end)?;
     let seconds = seconds_of(word, length)?;
-    let new = spanning(alloc, row.start, Some(sum(end, seconds)), row)?;
+    let new = spanning(alloc, row.start, Some(end.saturating_add(seconds)), row)?;
     replace(alloc, word, id, adjust, new, rows)
 }
 
-fn sum(end: u64, seconds: u64) -> u64
-    requires end { end < 253_370_764_800 }
-    requires seconds { seconds < 2 ^ 50 }
-    ensures { result ≡ end + seconds }
-{
-    end + seconds
-}
-
 fn shorter(word: u64, start: u64, end: u64, seconds: u64) -> Result<Option<u64>, TimewError>
-    requires start { start < 253_370_764_800 }
-    requires seconds { seconds < 2 ^ 50 }
+    requires { end < 253_370_764_800 }
     ensures { Answers (λ e. e) result (shorter word start end seconds) }
 {
-    if start + seconds <= end {
+    if start.saturating_add(seconds) <= end {
         Ok(Some(end - seconds))
     } else {
         Err(TimewError::Range { word })
@@ -181,8 +174,7 @@ pub fn shorten(
     adjust: bool,
     rows: &[Interval],
 ) -> Result<Vec<Interval>, TimewError>
-    requires length { length.now.seconds < 4_000_000_000 }
-    requires rows { AreRows rows.now }
+    requires { AreRows rows.now }
     ensures { Answers (λ v. v.items) result (shortened id word length.now adjust rows.now) }
 {
     let row = row_at(id, rows)?;

@@ -1,5 +1,16 @@
-use Rattle.timew_cmd.proofs.RowAt.{row_of_id}
+use Rattle.std.proofs.Common.{ap, sym, subst, ◌∙◌}
+use Rattle.timew_cmd.specs.Planned.{Answers, replaced, shorter}
+use Rattle.timew_cmd.proofs.RowAt.{row_of_id, closed_in_range}
+use Rattle.timew_cmd.proofs.Capped.{shortened_is}
 use Rattle.timew_cmd.proofs.span.shorten.Goals as goal
 
-pub shorter-requires-clause-start : goal.shorter-requires-clause-start
-shorter-requires-clause-start c = (row_of_id c.args.id c.args.rows.now c.in_ok-row.row.now c.requires.rows c.in_ok-row.ensures).start
+pub shorter-requires : goal.shorter-requires
+shorter-requires c = closed_in_range c.args.word c.in_ok-row.row.now.start c.in_ok-row.row.now.end c.in_ok-end.end (row_of_id c.args.id c.args.rows.now c.in_ok-row.row.now c.requires c.in_ok-row.ensures).end c.in_ok-end.ensures
+
+pub returns : goal.returns
+returns c =
+    let small = closed_in_range c.args.word c.in_ok-row.row.now.start c.in_ok-row.row.now.end c.in_ok-end.end (row_of_id c.args.id c.args.rows.now c.in_ok-row.row.now c.requires c.in_ok-row.ensures).end c.in_ok-end.ensures in
+    subst (Answers (λ v. v.items) c.replace.result)
+    (ap (λ n. replaced c.args.word c.args.id c.args.adjust n c.args.rows.now) c.in_ok-new.ensures
+    ∙ sym (shortened_is c.args.id c.args.word c.args.length.now c.args.adjust c.args.rows.now c.in_ok-row.row.now c.in_ok-end.end _ c.in_ok-row.ensures c.in_ok-end.ensures c.in_ok-seconds.ensures.ok.0 small (ap (λ n. shorter c.args.word c.in_ok-row.row.now.start c.in_ok-end.end n) (sym c.in_ok-seconds.ensures.ok.1) ∙ c.in_ok-end-2.ensures)))
+    c.replace.ensures

@@ -1,0 +1,131 @@
+// The JSON of intervals.
+ghost use Rattle.std.specs.Prelude.{◌≡◌, ◌<◌, ◌++◌, ◌∷◌, [], cond, codes, IfSome, IfOk, OnOk, map};
+ghost use Rattle.json.specs.Token.{string};
+ghost use Rattle.tw_time.specs.Basic.{basic};
+ghost use Rattle.timew_store.specs.Interval.{limit, IsRow};
+ghost use Rattle.timew_cmd.specs.Exported.{annotation_tokens, end_tokens, tags_tokens, row_text, export};
+
+use crate::range::is_within;
+use json::Writer;
+use std::alloc::Global;
+use std::str;
+use timew_store::{Interval, Intervals, Texts};
+use tw_time::print_basic;
+use tw_world::Memory;
+
+/// The intervals that share a second with a range, whole, as JSON, as timew-export(1) has it: a list of one object a line, in the
+/// order of their starts. The range is from a second up to another, and an open interval is measured to now. Moments are in the
+/// basic format and in UTC.
+pub fn export_text(
+    alloc: Global,
+    rows: &Intervals,
+    from: u64,
+    to: u64,
+    now: u64,
+) -> Result<Vec<u8>, Memory>
+    ensures { IfOk result (λ text. text.items ≡ export rows.now from to now) }
+{
+    let rows = rows.as_slice();
+    let mut text = Vec::new(alloc);
+    text.extend_from_slice(b"[\n")?;
+    let mut is_first = true;
+    for (k, row) in rows.iter().enumerate() {
+        if is_within(from, to, now, row) {
+            text = with_row(text, is_first, (rows.len() - k) as u64, row)?;
+            is_first = false;
+        }
+    }
+    if !is_first {
+        text.push(b'\n')?;
+    }
+    text.extend_from_slice(b"]\n")?;
+    Ok(text)
+}
+
+// The text with an interval after it, parted from the one before.
+fn with_row(text: Vec<u8>, is_first: bool, id: u64, row: &Interval) -> Result<Vec<u8>, Memory>
+    requires { IsRow row.now }
+    ensures { IfOk result (λ longer. longer.items ≡ text.items ++ (cond is_first [] (codes ",\n") ++ row_text (id, row.now))) }
+{
+    let mut text = text;
+    if !is_first {
+        text.extend_from_slice(b",\n")?;
+    }
+    put_row(text, id, row)
+}
+
+// The text with an interval's object after it.
+#[tactic(auto, unfolding(crate::specs::Exported::row_text))]
+fn put_row(text: Vec<u8>, id: u64, row: &Interval) -> Result<Vec<u8>, Memory>
+    requires { IsRow row.now }
+    ensures { IfOk result (λ longer. longer.items ≡ text.items ++ row_text (id, row.now)) }
+{
+    let mut writer = Writer::new(text);
+    writer.begin_object()?;
+    put_annotation(&mut writer, row.annotation.as_str())?;
+    put_end(&mut writer, row.end)?;
+    writer.key("id")?;
+    writer.u64(id)?;
+    writer.key("start")?;
+    put_moment(&mut writer, row.start)?;
+    put_tags(&mut writer, &row.tags)?;
+    writer.end_object()?;
+    Ok(writer.into_inner())
+}
+
+fn put_annotation(writer: &mut Writer, text: &str) -> Result<(), Memory>
+    ensures written { OnOk result (writer.new.tokens ≡ writer.old.tokens ++ annotation_tokens text.now) }
+    ensures before { writer.new.before ≡ writer.old.before }
+{
+    if !text.is_empty() {
+        writer.key("annotation")?;
+        writer.string(text)?;
+    }
+    Ok(())
+}
+
+fn put_moment(writer: &mut Writer, at: u64) -> Result<(), Memory>
+    requires { at < limit }
+    ensures written { OnOk result (writer.new.tokens ≡ writer.old.tokens ++ string (basic at) ∷ []) }
+    ensures before { writer.new.before ≡ writer.old.before }
+{
+    let text = print_basic(at);
+    writer.string(str::from_utf8(&text).unwrap())?;
+    Ok(())
+}
+
+fn put_end(writer: &mut Writer, end: Option<u64>) -> Result<(), Memory>
+    requires { IfSome end (λ at. at < limit) }
+    ensures written { OnOk result (writer.new.tokens ≡ writer.old.tokens ++ end_tokens end) }
+    ensures before { writer.new.before ≡ writer.old.before }
+{
+    if let Some(at) = end {
+        writer.key("end")?;
+        put_moment(writer, at)?;
+    }
+    Ok(())
+}
+
+fn put_each_tag(writer: &mut Writer, tags: &Texts) -> Result<(), Memory>
+    ensures written { OnOk result (writer.new.tokens ≡ writer.old.tokens ++ map string tags.now) }
+    ensures before { writer.new.before ≡ writer.old.before }
+{
+    for n in 0..tags.len() {
+        writer.string(tags.at(n))?;
+    }
+    Ok(())
+}
+
+fn put_tags(writer: &mut Writer, tags: &Texts) -> Result<(), Memory>
+    ensures written { OnOk result (writer.new.tokens ≡ writer.old.tokens ++ tags_tokens tags.now) }
+    ensures before { writer.new.before ≡ writer.old.before }
+{
+    if tags.len() == 0 {
+        return Ok(());
+    }
+    writer.key("tags")?;
+    writer.begin_array()?;
+    put_each_tag(writer, tags)?;
+    writer.end_array()?;
+    Ok(())
+}

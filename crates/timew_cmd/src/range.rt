@@ -1,0 +1,84 @@
+// Ranges of time, and which intervals are in them.
+ghost use Rattle.std.specs.Prelude.{◌≡◌, ◌<◌, ◌≤◌, max};
+ghost use Rattle.tw_time.specs.Moments.{moment};
+ghost use Rattle.timew_store.specs.Interval.{limit, AreRows};
+ghost use Rattle.timew_cmd.specs.Ranges.{or_else, bounds, measured, is_within, seconds_within, total};
+
+use crate::command::Range;
+use timew_store::Interval;
+use tw_time::{Zone, read_moment};
+use tw_world::MOMENT_LIMIT;
+
+// The moment of a word, or where it is out of range another.
+fn word_or(word: &str, other: u64, now: u64, zone: &Zone) -> u64
+    requires { now < limit }
+    ensures { result ≡ or_else other (moment word.now now zone.now) }
+{
+    match read_moment(word, now, zone) {
+        Ok(at) => at,
+        Err(_) => other,
+    }
+}
+
+impl Range {
+    /// The second from which on the range is, and the one up to which, both since 1970: a day and a week begin at midnight by the
+    /// zone's clock, a week on Monday. What lies out of the range of moments is cut off.
+    pub fn bounds(self, now: u64, zone: &Zone) -> (u64, u64)
+        requires { now < limit }
+        ensures { result ≡ bounds self now zone.now }
+    {
+        match self {
+            Range::Day => (
+                word_or("today", 0, now, zone),
+                word_or("tomorrow", MOMENT_LIMIT, now, zone),
+            ),
+            Range::Week => (
+                word_or("sow", 0, now, zone),
+                word_or("monday", MOMENT_LIMIT, now, zone),
+            ),
+            Range::All => (0, MOMENT_LIMIT),
+            Range::Between(start, end) => (start, end),
+        }
+    }
+}
+
+/// Where an interval ends; an open one is measured to now, or to its start where now is earlier.
+pub fn measured(now: u64, row: &Interval) -> u64
+    ensures { result ≡ measured now row.now }
+{
+    row.end.unwrap_or(now.max(row.start))
+}
+
+/// Whether an interval shares a second with a range, or starts in it without a second.
+pub fn is_within(from: u64, to: u64, now: u64, row: &Interval) -> bool
+    ensures { result ≡ is_within from to now row.now }
+{
+    let end = measured(now, row);
+    if row.start < end {
+        row.start.max(from) < end.min(to)
+    } else {
+        from <= row.start && row.start <= to
+    }
+}
+
+/// The seconds of an interval that are in a range.
+pub fn seconds_within(from: u64, to: u64, now: u64, row: &Interval) -> u64
+    ensures { result ≡ seconds_within from to now row.now }
+{
+    measured(now, row)
+        .min(to)
+        .saturating_sub(row.start.max(from))
+}
+
+/// The seconds of all of them.
+pub fn total(from: u64, to: u64, now: u64, rows: &[Interval]) -> u64
+    requires rows { AreRows rows.now }
+    requires now { now < limit }
+    ensures { result ≡ total from to now rows.now }
+{
+    let mut seconds = 0;
+    for row in rows {
+        seconds += seconds_within(from, to, now, row);
+    }
+    seconds
+}

@@ -1,0 +1,104 @@
+// Parts of more than one word.
+ghost use Rattle.std.specs.Prelude.{◌≡◌, ◌<◌, IfOk};
+ghost use Rattle.std.specs.Result.{result_map_both};
+ghost use Rattle.tw_time.specs.Civil.{limit};
+ghost use Rattle.tw_time.specs.Tables.{look_up};
+ghost use Rattle.timew_cmd.specs.Parts.{words_of};
+ghost use Rattle.timew_cmd.specs.Reading.{span_in, range_in, resize_in, range_names, span_of};
+
+use crate::command::Range;
+use crate::error::{BadWord, WordKind};
+use crate::parts::{MISSING, ended, id_in, length_in, moment_in};
+use crate::word::Word;
+use tw_time::{Length, Zone, look_up};
+
+/// From a moment to another, with the number of the later one's word, and the words behind it.
+#[derive(Clone, Copy)]
+pub struct Stretch<'a> {
+    pub start: u64,
+    pub end: u64,
+    pub word: u64,
+    pub rest: &'a [Word<'a>],
+}
+
+/// An id and a length, with the number of the length's word.
+#[derive(Clone, Copy)]
+pub struct Resize {
+    pub id: u64,
+    pub word: u64,
+    pub length: Length,
+}
+
+const RANGES: [(&str, Range); 3] = [
+    (":day", Range::Day),
+    (":week", Range::Week),
+    (":all", Range::All),
+];
+
+/// `S - E`.
+pub fn span_in<'a>(words: &'a [Word<'a>], now: u64, zone: &Zone) -> Result<Stretch<'a>, BadWord>
+    requires { now < limit }
+    ensures value { result_map_both (λ s. span_of s) (λ e. e) result ≡ span_in now zone.now (words_of words.now) }
+    ensures in_range { IfOk result (λ s. s.end < limit) }
+{
+    let [word, words @ ..] = words else {
+        return Err(MISSING);
+    };
+    let start = moment_in(word, now, zone)?;
+    let [dash, words @ ..] = words else {
+        return Err(MISSING);
+    };
+    if dash.text != "-" {
+        return Err(BadWord {
+            word: dash.number,
+            kind: WordKind::Extra,
+        });
+    }
+    let [word, rest @ ..] = words else {
+        return Err(MISSING);
+    };
+    let end = moment_in(word, now, zone)?;
+    Ok(Stretch {
+        start,
+        end,
+        word: word.number,
+        rest,
+    })
+}
+
+/// A range, or else the usual one.
+pub fn range_in(usual: Range, words: &[Word], now: u64, zone: &Zone) -> Result<Range, BadWord>
+    requires { now < limit }
+    ensures { result ≡ range_in usual now zone.now (words_of words.now) }
+{
+    let [word, rest @ ..] = words else {
+        return Ok(usual);
+    };
+    if let Some(range) = look_up(word.text.as_bytes(), &RANGES) {
+        return ended(range, rest);
+    }
+    let stretch = span_in(words, now, zone)?;
+    ended(Range::Between(stretch.start, stretch.end), stretch.rest)
+}
+
+/// An id and a length, and nothing behind them.
+pub fn resize_in(words: &[Word]) -> Result<Resize, BadWord>
+    ensures { result ≡ resize_in (words_of words.now) }
+{
+    let [word, words @ ..] = words else {
+        return Err(MISSING);
+    };
+    let id = id_in(word)?;
+    let [word, words @ ..] = words else {
+        return Err(MISSING);
+    };
+    let length = length_in(word)?;
+    ended(
+        Resize {
+            id,
+            word: word.number,
+            length,
+        },
+        words,
+    )
+}

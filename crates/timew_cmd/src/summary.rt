@@ -1,0 +1,122 @@
+// The table of intervals.
+ghost use Rattle.std.specs.Prelude.{◌≡◌, ◌<◌, ◌++◌, true, map, filter, codes, IfOk};
+ghost use Rattle.tw_table.specs.Table.{row_texts, table};
+ghost use Rattle.timew_store.specs.Interval.{limit, AreRows, IsRow};
+ghost use Rattle.timew_cmd.specs.Planned.{numbered};
+ghost use Rattle.timew_cmd.specs.Ranges.{is_within};
+ghost use Rattle.timew_cmd.specs.Texts.{cells, columns, length_text, summary};
+
+use crate::range::{is_within, measured, seconds_within, total};
+use crate::texts::{length_text, shown_text, tags_text};
+use std::alloc::Global;
+use timew_store::{Interval, Intervals};
+use tw_table::{Column, table_text};
+use tw_time::Zone;
+use tw_world::Memory;
+
+const COLUMNS: [Column; 5] = [
+    Column {
+        heading: "ID",
+        is_right: true,
+    },
+    Column {
+        heading: "Start",
+        is_right: false,
+    },
+    Column {
+        heading: "End",
+        is_right: false,
+    },
+    Column {
+        heading: "Time",
+        is_right: false,
+    },
+    Column {
+        heading: "Tags",
+        is_right: false,
+    },
+];
+
+/// The intervals that share a second with a range, cut to it, as a table, and below a blank line their length together, as
+/// timew-summary(1) has it. The range is from a second up to another, moments are shown by the zone's clock, an open interval is
+/// measured to now, and lengths are `H:MM:SS`.
+pub fn summary_text(
+    alloc: Global,
+    rows: &Intervals,
+    from: u64,
+    to: u64,
+    now: u64,
+    zone: &Zone,
+) -> Result<Vec<u8>, Memory>
+    requires { now < limit }
+    ensures { IfOk result (λ text. text.items ≡ summary rows.now from to now zone.now) }
+{
+    let rows = rows.as_slice();
+    let cells = cells_within(alloc, rows, from, to, now, zone)?;
+    let table = table_of(alloc, &cells)?;
+    with_total(alloc, table, total(from, to, now, rows))
+}
+
+fn table_of(alloc: Global, cells: &Vec<Vec<String>>) -> Result<Vec<u8>, Memory>
+    ensures { IfOk result (λ text. text.items ≡ table columns (map row_texts cells.now.items)) }
+{
+    table_text(alloc, &COLUMNS, cells)
+}
+
+// A text, and below a blank line a length.
+fn with_total(alloc: Global, text: Vec<u8>, seconds: u64) -> Result<Vec<u8>, Memory>
+    ensures { IfOk result (λ longer. longer.items ≡ text.items ++ codes "\nTotal " ++ length_text seconds ++ codes "\n") }
+{
+    let sum = length_text(alloc, seconds)?;
+    let mut text = text;
+    text.extend_from_slice(b"\nTotal ")?;
+    text.extend_from_slice(sum.as_str().as_bytes())?;
+    text.push(b'\n')?;
+    Ok(text)
+}
+
+fn cells_within(
+    alloc: Global,
+    rows: &[Interval],
+    from: u64,
+    to: u64,
+    now: u64,
+    zone: &Zone,
+) -> Result<Vec<Vec<String>>, Memory>
+    requires rows { AreRows rows.now }
+    requires now { now < limit }
+    ensures { IfOk result (λ lines. map row_texts lines.items ≡ map (cells from to now zone.now) (filter (λ r. is_within from to now r.1) (numbered rows.now))) }
+{
+    let mut lines = Vec::new(alloc);
+    for (k, row) in rows.iter().enumerate() {
+        if is_within(from, to, now, row) {
+            let id = (rows.len() - k) as u64;
+            lines.push(cells(alloc, id, row, from, to, now, zone)?)?;
+        }
+    }
+    Ok(lines)
+}
+
+// A row of the table: an interval with its number, cut to a range.
+fn cells(
+    alloc: Global,
+    id: u64,
+    row: &Interval,
+    from: u64,
+    to: u64,
+    now: u64,
+    zone: &Zone,
+) -> Result<Vec<String>, Memory>
+    requires row { IsRow row.now }
+    requires now { now < limit }
+    requires within { is_within from to now row.now ≡ true }
+    ensures { IfOk result (λ line. row_texts line ≡ cells from to now zone.now (id, row.now)) }
+{
+    let mut line = Vec::with_capacity(alloc, 5)?;
+    line.push(format!(in alloc; "{id}")?)?;
+    line.push(shown_text(alloc, row.start.max(from), zone)?)?;
+    line.push(shown_text(alloc, measured(now, row).min(to), zone)?)?;
+    line.push(length_text(alloc, seconds_within(from, to, now, row))?)?;
+    line.push(tags_text(alloc, &row.tags)?)?;
+    Ok(line)
+}
