@@ -8,7 +8,8 @@ in the format that docs/FORMATS.md gives, with `--per-record` tasks in each reco
 `pending.data`, `undo.data` and `backlog.data`. With `--synced` the tasks came from a server, and there
 is nothing to undo: a journal of one sync, and Taskwarrior's `pending.data` alone.
 The runs of the two programs alternate, and each changes something that is not changed yet: `modify` sets
-another project, `annotate` adds another note, `done` ends another task, and `modify-all` changes every task.
+another project, `annotate` adds another note, `done` ends another task, `modify-all` changes every task, and `import` reads as many
+tasks from a file into an empty store.
 Each line gives the median of the wall time in milliseconds, the peak of resident memory of one more run in
 megabytes, and how many times less `tw` takes of each.
 Memory is measured by GNU time (Debian's package time), and left out where that is not there.
@@ -39,6 +40,7 @@ COMMANDS = {
     "count-text": ["description.has:7", "count"],
     "count-blocking": ["+BLOCKING", "count"],
     "export": ["export"],
+    "import": ["import", "-"],
 }
 GNU_TIME = "/usr/bin/time"
 
@@ -150,26 +152,35 @@ def write_data(folder, number, with_history):
     write_lines(folder, "backlog.data", (exported(*task) for task in kept))
 
 
-class Program:
-    """A program over a store of its own."""
+def write_import(path, number):
+    """The tasks as an export has them."""
+    with open(path, "w", encoding="utf-8") as file:
+        file.write("[\n" + ",\n".join(exported(*task) for task in tasks(number)) + "\n]\n")
 
-    def __init__(self, argv, environment):
+
+class Program:
+    """A program over a store of its own, and an input."""
+
+    def __init__(self, argv, environment, imported):
         self.argv = argv
         self.environment = environment
+        self.imported = imported
         self.turn = 0
 
-    def run(self, words, wrapper=()):
-        """The wall time in milliseconds."""
-        begin = time.perf_counter()
-        ended = subprocess.run(
-            [*wrapper, *self.argv, *words],
-            env=self.environment,
-            stdin=subprocess.DEVNULL,
-            stdout=subprocess.DEVNULL,
-            stderr=subprocess.PIPE,
-            check=False,
-        )
-        end = time.perf_counter()
+    def run(self, words, wrapper=(), store=None):
+        """The wall time in milliseconds, over the program's store or another one."""
+        environment = dict(self.environment, TASKDATA=store) if store else self.environment
+        with open(self.imported if store else os.devnull, "rb") as data:
+            begin = time.perf_counter()
+            ended = subprocess.run(
+                [*wrapper, *self.argv, *words],
+                env=environment,
+                stdin=data,
+                stdout=subprocess.DEVNULL,
+                stderr=subprocess.PIPE,
+                check=False,
+            )
+            end = time.perf_counter()
         if ended.returncode != 0:
             told = ended.stderr.decode(errors="replace")
             sys.exit(f"{' '.join(self.argv + words)} ended with {ended.returncode}: {told}")
@@ -181,6 +192,9 @@ class Program:
             self.run(["add", "to", "be", "undone"])
         self.turn += 1
         words = [word.format(turn=self.turn, next=self.turn + 1) for word in COMMANDS[command]]
+        if command == "import":
+            with tempfile.TemporaryDirectory(prefix="tw-bench-") as store:
+                return self.run(words, wrapper, store)
         return self.run(words, wrapper)
 
     def peak(self, command, folder):
@@ -200,14 +214,16 @@ def programs(arguments, folder, number):
         write_synced(tw_store, number)
     else:
         write_journal(tw_store, number, arguments.per_record)
-    found = [Program([arguments.tw, "task"], dict(base, TASKDATA=tw_store))]
+    imported = os.path.join(folder, "import.json")
+    write_import(imported, number)
+    found = [Program([arguments.tw, "task"], dict(base, TASKDATA=tw_store), imported)]
     if arguments.task:
         task_store = os.path.join(folder, "task")
         write_data(task_store, number, not arguments.synced)
         settings = os.path.join(folder, "taskrc")
         with open(settings, "w", encoding="utf-8") as file:
             file.write("confirmation=no\nbulk=0\nrecurrence.confirmation=no\n")
-        found.append(Program([arguments.task], dict(base, TASKDATA=task_store, TASKRC=settings)))
+        found.append(Program([arguments.task], dict(base, TASKDATA=task_store, TASKRC=settings), imported))
     return found
 
 

@@ -17,6 +17,8 @@ commands that add tasks:
   log WORDS             add a task that is done
   FILTER duplicate [WORDS]
                         add copies of tasks, with changes
+  import                read tasks as JSON, as export prints them, from the
+                        standard input; one with a uuid becomes just that
 
 commands that change tasks:
   FILTER modify WORDS   change them
@@ -84,6 +86,7 @@ status:
   1 nothing to do               5 the server or the port failed
   2 a word or setting is wrong  6 the output failed
   3 the journal failed          7 the journal is damaged
+                                8 the input failed, or is none that fits
 ";
 
 /// The program's name and version.

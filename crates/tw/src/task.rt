@@ -9,9 +9,9 @@ use crate::zone::zone;
 use std::alloc::Global;
 use std::io::ErrorKind;
 use tw_cli::{link_address, task_run};
-use tw_files::{Busy, Stream, open_disk};
+use tw_files::{Busy, Stream, StreamSource, open_disk};
 use tw_time::Zone;
-use tw_world::{Disk, FailingDisk, IdWords, MemorySink, Moment};
+use tw_world::{Disk, FailingDisk, IdWords, MemorySink, MemorySource, Moment};
 
 /// Does what the words behind `task` ask for, and gives the program's status. Nothing is opened or made for bad words or
 /// settings; the zone is judged before both. Where the journal's file can't be opened, it works on a disk whose every call fails.
@@ -54,7 +54,8 @@ pub fn run_task(rt: &HostRuntime, alloc: Global, words: &Vec<String>) -> Result<
 }
 
 // Whether words or settings are refused. They are judged before the disk is asked for anything, so a run over a disk whose
-// every call fails refuses them as a run over any other does, with status 2, and ends otherwise where they are good.
+// every call fails refuses them as a run over any other does, with status 2, and ends otherwise where they are good. It has an input
+// of its own, so that the next run finds the whole of the program's.
 fn are_refused(
     alloc: Global,
     words: &Vec<String>,
@@ -63,6 +64,7 @@ fn are_refused(
     zone: &Zone,
     seed: [u8; 32],
 ) -> Result<bool, StartError> {
+    let mut none = MemorySource::new(alloc, Vec::new(alloc), Vec::new(alloc))?;
     let mut out = MemorySink::new(alloc, Vec::new(alloc), Vec::new(alloc))?;
     let mut err = MemorySink::new(alloc, Vec::new(alloc), Vec::new(alloc))?;
     let outcome = task_run(
@@ -74,6 +76,7 @@ fn are_refused(
         &mut IdWords::from_seed(seed),
         &mut FailingDisk::new(),
         &mut FailingLink::new(),
+        &mut none,
         &mut out,
         &mut err,
     );
@@ -91,19 +94,20 @@ fn run_over<D: Disk>(
     ids: &mut IdWords,
     disk: &mut D,
 ) -> Result<u8, StartError> {
+    let mut input = StreamSource::new(rt.stdin());
     let mut out = Stream::new(rt.stdout());
     let mut err = Stream::new(rt.stderr());
     let outcome = match link_address(alloc, words, settings) {
         Ok(Some(address)) => {
             let mut link = TcpLink::new(rt, address);
             task_run(
-                alloc, words, settings, now, zone, ids, disk, &mut link, &mut out, &mut err,
+                alloc, words, settings, now, zone, ids, disk, &mut link, &mut input, &mut out, &mut err,
             )
         }
         Ok(None) => {
             let mut link = FailingLink::new();
             task_run(
-                alloc, words, settings, now, zone, ids, disk, &mut link, &mut out, &mut err,
+                alloc, words, settings, now, zone, ids, disk, &mut link, &mut input, &mut out, &mut err,
             )
         }
         Err(_) => return Err(StartError::Memory),

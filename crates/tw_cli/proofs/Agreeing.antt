@@ -2,6 +2,7 @@
 use Rattle.std.proofs.Common.{◌≡◌, ◌⊎◌, inl, inr, ⊎_elim, sym, subst, refl, List, ℕ, ◌++◌, IsTrue, Option, Some, None, Result, Ok, Err}
 use Rattle.tw_world.specs.Disk.{DiskModel, Tells, LeavesOnly}
 use Rattle.tw_world.specs.Sink.{SinkModel}
+use Rattle.tw_world.specs.Source.{SourceModel}
 use Rattle.tw_world.proofs.Moments.{CountsNow, weaker}
 use Rattle.tw_journal.specs.Open.{Records, IsImageThen}
 use Rattle.tw_journal.proofs.Unique.{one_records}
@@ -28,8 +29,9 @@ use Rattle.tw_commands.specs.declared.request.Request.{Request}
 use Rattle.tw_commands.specs.declared.refusal.Refusal.{Refusal}
 use Rattle.tw_commands.proofs.Applied.{by_plan}
 use Rattle.tw_cli.specs.Opening.{HasMore}
+use Rattle.tw_cli.specs.Input.{WithInput, with_input}
 use Rattle.tw_cli.specs.Run.{CarriedOut}
-use Rattle.tw_cli.specs.Crash.{LeavesRecords, IsStepOf, LeavesBy, LeavesOneEnd, new_of, next_of}
+use Rattle.tw_cli.specs.Crash.{LeavesRecords, IsStepOf, LeavesBy, LeavesCommand, LeavesOneEnd, new_of, next_of}
 use Rattle.tw_cli.specs.Syncing.{Synced}
 use Rattle.tw_cli.specs.Whole.{went, RunGives, RunLeaves, IsHonestFor, IsRun}
 use Rattle.tw_cli.specs.Agreement.{OpensAgreeing, AllAgree, AgreementStays}
@@ -111,13 +113,17 @@ module _ {D L : Type 0} (m : DiskModel D) (links : LinkModel L) (d0 d1 : D) (l0 
         weaker m d0 d1 (λ file. IsImageThen m d0 magic file ⊎ IsStepOf (m.seen d0) next file) (λ file. m.leaves d0 file ⊎ OpensAgreeing (links.chain l1) file) (leaves_either m next d0 d1 cause run tells)
         (λ file left. ⊎_elim (image_agrees file) (λ step. inr (step_agrees next leads file step)) left)
 
-    unsettled : {O : Type 0} → ((link : L) → IsChainOf links link) → IsLinkKept links l0 l1 → (s : SinkModel O) (o0 o1 : O) (asked : Result Job LineError) (ids : IdWords) (cause : Cause) → RunLeaves m s links asked ids (went d0 d1 o0 o1 l0 l1) cause → Tells m d0 → IsHonestFor links asked l0
+    by_command : {S : Type 0} (sources : SourceModel S) (i0 i1 : S) (request : Request) (ids : IdWords) (cause : Cause) → LeavesCommand m sources request ids d0 d1 i0 i1 cause → Tells m d0 → LeavesOnly m d0 d1 (λ file. m.leaves d0 file ⊎ OpensAgreeing (links.chain l1) file)
+    by_command sources i0 i1 request ids cause (inl records) tells = records_agree records tells
+    by_command sources i0 i1 request ids cause (inr with) tells = by_cause (next_of (with_input request with.0) ids) (command_agrees (with_input request with.0) ids here.0 (links.chain l1) still) cause with.2 tells
+
+    unsettled : {S O : Type 0} → ((link : L) → IsChainOf links link) → IsLinkKept links l0 l1 → (sources : SourceModel S) (i0 i1 : S) (s : SinkModel O) (o0 o1 : O) (asked : Result Job LineError) (ids : IdWords) (cause : Cause) → RunLeaves m sources s links asked ids (went d0 d1 i0 i1 o0 o1 l0 l1) cause → Tells m d0 → IsHonestFor links asked l0
         → LeavesOnly m d0 d1 (λ file. m.leaves d0 file ⊎ OpensAgreeing (links.chain l1) file)
-    unsettled tells_chain kept s o0 o1 (Ok (Here request)) ids cause run tells honest = by_cause (next_of request ids) (command_agrees request ids here.0 (links.chain l1) still) cause run tells
-    unsettled tells_chain kept s o0 o1 (Ok (Sync server)) ids cause run tells honest =
+    unsettled tells_chain kept sources i0 i1 s o0 o1 (Ok (Here request)) ids cause run tells honest = by_command sources i0 i1 request ids cause run tells
+    unsettled tells_chain kept sources i0 i1 s o0 o1 (Ok (Sync server)) ids cause run tells honest =
         let r : LeavesOneEnd m links server d0 d1 l0 l1 cause = run tells in
         by_cause (λ state. r.next) (end_agrees server here.0 r.next (whole_chain server.client tells_chain kept honest) here.2 (r.end honest here.0 here.1)) cause r.leaves tells
-    unsettled tells_chain kept s o0 o1 (Err error) ids cause run tells honest = records_agree run tells
+    unsettled tells_chain kept sources i0 i1 s o0 o1 (Err error) ids cause run tells honest = records_agree run tells
 
   -- the records that a run has left stand for a state that agrees with the chain
   more_agrees : (more : List (List ℕ)) (state old new : State) → OpensTo (m.seen d0) state → Agrees state (links.chain l0) → HasMore (m.seen d0) (m.seen d1) more old new → (Agrees old (links.chain l0) → Agrees new (links.chain l1)) → OpensAgreeing (links.chain l1) (m.seen d1)
@@ -137,37 +143,37 @@ module _ {D L : Type 0} (m : DiskModel D) (links : LinkModel L) (d0 d1 : D) (l0 
       more_agrees has.bodies here.0 run.old run.new here.1 here.2 has.more
       (λ a. sync_end_agrees run.old run.new (told links l0) (told links l1) report (whole_chain server.client tells_chain kept honest).whole a (run.ended honest))
 
-  done_agrees : {O : Type 0} (s : SinkModel O) (o0 o1 : O) → ((link : L) → IsChainOf links link) → IsLinkKept links l0 l1 → (asked : Result Job LineError) (ids : IdWords) (cause : Cause) → RunGives m s links asked ids (went d0 d1 o0 o1 l0 l1) cause → Tells m d0 → IsHonestFor links asked l0
+  done_agrees : {S O : Type 0} (sources : SourceModel S) (i0 i1 : S) (s : SinkModel O) (o0 o1 : O) → ((link : L) → IsChainOf links link) → IsLinkKept links l0 l1 → (asked : Result Job LineError) (ids : IdWords) (cause : Cause) → RunGives m sources s links asked ids (went d0 d1 i0 i1 o0 o1 l0 l1) cause → Tells m d0 → IsHonestFor links asked l0
       → (cause ≡ Done) ⊎ (cause ≡ OutFault) → OpensAgreeing (links.chain l0) (m.seen d0) → OpensAgreeing (links.chain l1) (m.seen d1)
-  done_agrees s o0 o1 tells_chain kept asked ids cause gives tells honest which here = ⊎_elim (λ done. at_done asked (subst (RunGives m s links asked ids (went d0 d1 o0 o1 l0 l1)) done gives) honest) (λ fault. at_fault asked (subst (RunGives m s links asked ids (went d0 d1 o0 o1 l0 l1)) fault gives) honest) which
+  done_agrees sources i0 i1 s o0 o1 tells_chain kept asked ids cause gives tells honest which here = ⊎_elim (λ done. at_done asked (subst (RunGives m sources s links asked ids (went d0 d1 i0 i1 o0 o1 l0 l1)) done gives) honest) (λ fault. at_fault asked (subst (RunGives m sources s links asked ids (went d0 d1 i0 i1 o0 o1 l0 l1)) fault gives) honest) which
     where
       nothing : d1 ≡ d0 → l1 ≡ l0 → OpensAgreeing (links.chain l1) (m.seen d1)
       nothing disk link = subst (λ l. OpensAgreeing (links.chain l) (m.seen d1)) (sym link) (subst (λ d. OpensAgreeing (links.chain l0) (m.seen d)) (sym disk) here)
 
-      at_done : (asked : Result Job LineError) → RunGives m s links asked ids (went d0 d1 o0 o1 l0 l1) Done → IsHonestFor links asked l0 → OpensAgreeing (links.chain l1) (m.seen d1)
-      at_done (Ok (Here request)) run h = carried_out_agrees request ids run.0.0 run.1 tells here
+      at_done : (asked : Result Job LineError) → RunGives m sources s links asked ids (went d0 d1 i0 i1 o0 o1 l0 l1) Done → IsHonestFor links asked l0 → OpensAgreeing (links.chain l1) (m.seen d1)
+      at_done (Ok (Here request)) run h = carried_out_agrees (with_input request run.0.0) ids run.0.2.0 run.1 tells here
       at_done (Ok (Sync server)) run h = synced_agrees tells_chain kept server run.0 run.1 tells h here
-      at_done (Err error) run h = nothing run.1 run.3
+      at_done (Err error) run h = nothing run.1 run.4
 
-      at_fault : (asked : Result Job LineError) → RunGives m s links asked ids (went d0 d1 o0 o1 l0 l1) OutFault → IsHonestFor links asked l0 → OpensAgreeing (links.chain l1) (m.seen d1)
-      at_fault (Ok (Here request)) run h = carried_out_agrees request ids run.0.0.0 run.1 tells here
+      at_fault : (asked : Result Job LineError) → RunGives m sources s links asked ids (went d0 d1 i0 i1 o0 o1 l0 l1) OutFault → IsHonestFor links asked l0 → OpensAgreeing (links.chain l1) (m.seen d1)
+      at_fault (Ok (Here request)) run h = carried_out_agrees (with_input request run.0.0.0) ids run.0.0.2.0 run.1 tells here
       at_fault (Ok (Sync server)) run h = synced_agrees tells_chain kept server run.0.0 run.0.1 tells h here
-      at_fault (Err error) run h = nothing run.1 run.3
+      at_fault (Err error) run h = nothing run.1 run.4
 
-  pub agreement_stays : {O : Type 0} (s : SinkModel O) (o0 o1 : O) → ((disk : D) → Tells m disk → m.leaves disk (m.seen disk)) → CountsNow m → ((link : L) → IsChainOf links link) → (asked : Result Job LineError) (old new : IdWords) (cause : Cause)
-      → IsRun m s links asked old new (went d0 d1 o0 o1 l0 l1) cause → Tells m d0 → IsHonestFor links asked l0 → AgreementStays m links (went d0 d1 o0 o1 l0 l1) cause
-  agreement_stays s o0 o1 seen_may_stay counts_now tells_chain asked old new cause run tells honest = record {
+  pub agreement_stays : {S O : Type 0} (sources : SourceModel S) (i0 i1 : S) (s : SinkModel O) (o0 o1 : O) → ((disk : D) → Tells m disk → m.leaves disk (m.seen disk)) → CountsNow m → ((link : L) → IsChainOf links link) → (asked : Result Job LineError) (old new : IdWords) (cause : Cause)
+      → IsRun m sources s links asked old new (went d0 d1 i0 i1 o0 o1 l0 l1) cause → Tells m d0 → IsHonestFor links asked l0 → AgreementStays m links (went d0 d1 i0 i1 o0 o1 l0 l1) cause
+  agreement_stays sources i0 i1 s o0 o1 seen_may_stay counts_now tells_chain asked old new cause run tells honest = record {
     any_moment = always;
     after = λ all file left. (always all).each file (counts_now d1 (m.moment d0) file (always all).later left);
     unsettled = from_bytes;
-    done = done_agrees s o0 o1 tells_chain run.link_kept asked old cause run.gives tells honest;
+    done = done_agrees sources i0 i1 s o0 o1 tells_chain run.link_kept asked old cause run.gives tells honest;
   }
     where
       grows : Grows (links.chain l0) (links.chain l1)
       grows = run.grows honest
 
       from_bytes : OpensAgreeing (links.chain l0) (m.seen d0) → LeavesOnly m d0 d1 (λ file. m.leaves d0 file ⊎ OpensAgreeing (links.chain l1) file)
-      from_bytes here = unsettled here grows tells_chain run.link_kept s o0 o1 asked old cause run.any_moment tells honest
+      from_bytes here = unsettled here grows tells_chain run.link_kept sources i0 i1 s o0 o1 asked old cause run.any_moment tells honest
 
       always : AllAgree m (links.chain l0) d0 → LeavesOnly m d0 d1 (OpensAgreeing (links.chain l1))
       always all = weaker m d0 d1 (λ file. m.leaves d0 file ⊎ OpensAgreeing (links.chain l1) file) (OpensAgreeing (links.chain l1)) (from_bytes (all (m.seen d0) (seen_may_stay d0 tells)))

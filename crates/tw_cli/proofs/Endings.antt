@@ -2,6 +2,7 @@
 use Rattle.std.proofs.Common.{◌≡◌, inl, inr, sym, subst, refl, List, ℕ}
 use Rattle.tw_world.specs.Disk.{DiskModel, Rose}
 use Rattle.tw_world.specs.Sink.{SinkModel, Got, GotPart}
+use Rattle.tw_world.specs.Source.{SourceModel}
 use Rattle.tw_world.specs.declared.ids.IdWords.{IdWords}
 use Rattle.tw_http.specs.Link.{LinkModel}
 use Rattle.tw_journal.specs.declared.journal.JournalError.{JournalError}
@@ -11,13 +12,15 @@ use Rattle.tw_sync.specs.declared.error.SyncError.TheVariants as syncs
 use Rattle.tw_commands.specs.declared.request.Request.{Request}
 use Rattle.tw_commands.specs.declared.refusal.Refusal.{Refusal}
 use Rattle.tw_commands.specs.declared.refusal.Refusal.TheVariants as refusal
-use Rattle.tw_cli.specs.Cause.{end_of, open_cause, refusal_cause, carry_cause, journal_cause, sync_cause, failure_cause}
+use Rattle.tw_cli.specs.Cause.{end_of, open_cause, input_cause, refusal_cause, carry_cause, journal_cause, sync_cause, failure_cause}
 use Rattle.tw_cli.specs.Cause.End.{Failed}
 use Rattle.tw_cli.specs.Run.{NotCarried, GivesBy, Gives, EndsPrinting, IsDoneOrWant}
 use Rattle.tw_cli.specs.Syncing.{NotSynced, SyncGivesBy, SyncGives}
 use Rattle.tw_words.specs.declared.server.Server.{Server}
 use Rattle.tw_cli.specs.declared.opening.OpenError.{OpenError}
 use Rattle.tw_cli.specs.declared.opening.OpenError.TheVariants as opening
+use Rattle.tw_cli.specs.declared.input.InputError.{InputError}
+use Rattle.tw_cli.specs.declared.input.InputError.TheVariants as input
 use Rattle.tw_cli.specs.declared.carry.CarryError.{CarryError}
 use Rattle.tw_cli.specs.declared.carry.CarryError.TheVariants as carry
 use Rattle.tw_cli.specs.declared.syncing.SyncFailure.{SyncFailure}
@@ -38,9 +41,16 @@ refusal_fails refusal.NothingToUndo = refl
 refusal_fails (refusal.BadWords word kind) = refl
 refusal_fails (refusal.IdTaken uuid) = refl
 refusal_fails (refusal.Cycle uuid) = refl
+refusal_fails (refusal.BadInput index name) = refl
+
+input_fails : (e : InputError) → end_of (input_cause e) ≡ Failed
+input_fails input.Fault = refl
+input_fails input.TooLong = refl
+input_fails input.Memory = refl
 
 pub carry_fails : (e : CarryError) → end_of (carry_cause e) ≡ Failed
 carry_fails (carry.Open e) = open_fails e
+carry_fails (carry.Input e) = input_fails e
 carry_fails (carry.Refused r) = refusal_fails r
 carry_fails (carry.TooLong bytes) = refl
 carry_fails carry.Disk = refl
@@ -69,9 +79,10 @@ failure_fails : (e : SyncFailure) → end_of (failure_cause e) ≡ Failed
 failure_fails (failure.Open e) = open_fails e
 failure_fails (failure.Sync e) = sync_fails e
 
-pub failed_gives : {D O : Type 0} (m : DiskModel D) (request : Request) (ids : IdWords) (d0 d1 : D) (s : SinkModel O) (o : O) (e : CarryError) (cause : Cause) → cause ≡ carry_cause e → NotCarried m request ids d0 d1 e → Gives m request ids d0 d1 s o o cause
-failed_gives m request ids d0 d1 s o e cause is why =
-    subst (Gives m request ids d0 d1 s o o) (sym is) (subst (GivesBy m request ids d0 d1 s o o (carry_cause e)) (sym (carry_fails e)) (e, refl, why, refl))
+pub failed_gives : {D S O : Type 0} (m : DiskModel D) (sources : SourceModel S) (request : Request) (ids : IdWords) (d0 d1 : D) (i0 i1 : S) (s : SinkModel O) (o : O) (e : CarryError) (cause : Cause) → cause ≡ carry_cause e → NotCarried m sources request ids d0 d1 i0 i1 e
+    → Gives m sources request ids d0 d1 i0 i1 s o o cause
+failed_gives m sources request ids d0 d1 i0 i1 s o e cause is why =
+    subst (Gives m sources request ids d0 d1 i0 i1 s o o) (sym is) (subst (GivesBy m sources request ids d0 d1 i0 i1 s o o (carry_cause e)) (sym (carry_fails e)) (e, refl, why, refl))
 
 pub failed_sync_gives : {D O L : Type 0} (m : DiskModel D) (s : SinkModel O) (links : LinkModel L) (server : Server) (d0 d1 : D) (o : O) (l0 l1 : L) (e : SyncFailure) (cause : Cause) → cause ≡ failure_cause e → NotSynced m links server d0 d1 l0 l1 e → SyncGives m s links server d0 d1 o o l0 l1 cause
 failed_sync_gives m s links server d0 d1 o l0 l1 e cause is why =

@@ -2,6 +2,7 @@
 use Rattle.std.proofs.Common.{◌≡◌, ◌∙◌, ap, ◌⊎◌, inl, inr, refl, sym, subst, None, Result, Ok, Err, arith}
 use Rattle.tw_world.specs.Disk.{DiskModel, Kept, Rose}
 use Rattle.tw_world.specs.Sink.{SinkModel}
+use Rattle.tw_world.specs.Source.{SourceModel}
 use Rattle.tw_world.specs.declared.ids.IdWords.{IdWords}
 use Rattle.tw_world.proofs.Moments.{OnlyNow}
 use Rattle.tw_http.specs.Link.{LinkModel}
@@ -12,9 +13,10 @@ use Rattle.tw_sync.specs.Answers.{IsLinkKept}
 use Rattle.tw_http.specs.Link.{IsHonest}
 use Rattle.tw_words.specs.declared.word_error.WordError.TheVariants as wrong
 use Rattle.tw_commands.specs.declared.request.Request.{Request}
+use Rattle.tw_cli.specs.Input.{IsInputKept}
 use Rattle.tw_cli.specs.Run.{Gives, CanEnd, Draws, IsDoneOrWant}
 use Rattle.tw_cli.specs.Syncing.{SyncGives, CanBeSynced}
-use Rattle.tw_cli.specs.Crash.{LeavesBy, LeavesSync, next_of}
+use Rattle.tw_cli.specs.Crash.{LeavesCommand, LeavesSync}
 use Rattle.tw_words.specs.declared.server.Server.{Server}
 use Rattle.tw_cli.specs.Asked.{IsAsked}
 use Rattle.tw_cli.specs.Cause.{line_cause}
@@ -29,11 +31,12 @@ use Rattle.tw_cli.specs.declared.asked.LineError.TheVariants.{Words}
 use Rattle.tw_cli.specs.declared.cause.Cause.{Cause}
 use Rattle.tw_cli.specs.declared.cause.Cause.TheVariants.{Memory, BadReply}
 use Rattle.tw_cli.proofs.Openings.{leaves_as_it_was}
+use Rattle.tw_cli.proofs.Taking.{input_same}
 
 same_error : (found : Result Job LineError) (a b : LineError) → found ≡ Err a → found ≡ Err b → a ≡ b
 same_error found a b is also = cc
 
-module _ {D O L : Type 0} (m : DiskModel D) (s : SinkModel O) (links : LinkModel L) where
+module _ {D S O L : Type 0} (m : DiskModel D) (sources : SourceModel S) (s : SinkModel O) (links : LinkModel L) where
   disk_same : (d : D) → Kept m d d
   disk_same d = record { faults = omega arith; tells = refl }
 
@@ -41,76 +44,83 @@ module _ {D O L : Type 0} (m : DiskModel D) (s : SinkModel O) (links : LinkModel
   link_same l = record { faults = omega arith; tells_list = refl; tells_chain = refl; client = refl; honest = refl }
 
   -- memory runs out before anything is asked for
-  pub want_is_run : OnlyNow m → (asked : Result Job LineError) (ids : IdWords) (d : D) (o : O) (l : L) → IsRun m s links asked ids ids (went d d o o l l) Memory
-  want_is_run only_now (Ok (Here request)) ids d o l = record {
+  pub want_is_run : OnlyNow m → (asked : Result Job LineError) (ids : IdWords) (d : D) (i : S) (o : O) (l : L) → IsRun m sources s links asked ids ids (went d d i i o o l l) Memory
+  want_is_run only_now (Ok (Here request)) ids d i o l = record {
     gives = ((carry.Memory, refl, tt, refl), refl);
     complete = λ can. inr refl;
-    any_moment = leaves_as_it_was m only_now d;
+    any_moment = inl (leaves_as_it_was m only_now d);
     grows = λ honest. grows_same (links.chain l);
     ids = inr (refl, inr (inl refl));
+    input_kept = input_same sources request.line.command i;
     kept = disk_same d;
     link_kept = link_same l;
   }
-  want_is_run only_now (Ok (Sync server)) ids d o l = record {
+  want_is_run only_now (Ok (Sync server)) ids d i o l = record {
     gives = (failure.Open opening.Memory, refl, (tt, refl), refl);
     complete = λ can well. inl (inr refl);
     any_moment = λ tells. record { next = None; end = λ honest state opens. tt; leaves = leaves_as_it_was m only_now d };
     grows = λ honest. grows_same (links.chain l);
     ids = refl;
+    input_kept = refl;
     kept = disk_same d;
     link_kept = link_same l;
   }
-  want_is_run only_now (Err error) ids d o l = record {
-    gives = (inr refl, refl, refl, refl);
+  want_is_run only_now (Err error) ids d i o l = record {
+    gives = (inr refl, refl, refl, refl, refl);
     complete = tt;
     any_moment = leaves_as_it_was m only_now d;
     grows = λ honest. grows_same (links.chain l);
     ids = refl;
+    input_kept = refl;
     kept = disk_same d;
     link_kept = link_same l;
   }
 
   -- nothing is done
-  pub error_is_run : OnlyNow m → (asked : Result Job LineError) (error : LineError) (ids : IdWords) (d : D) (o : O) (l : L) (cause : Cause) → cause ≡ line_cause error → IsAsked asked (Err error)
-      → IsRun m s links asked ids ids (went d d o o l l) cause
-  error_is_run only_now asked error ids d o l cause is (inl refused) = subst (λ (a : Result Job LineError). IsRun m s links a ids ids (went d d o o l l) cause) refused (record {
-    gives = (inl is, refl, refl, refl);
+  pub error_is_run : OnlyNow m → (asked : Result Job LineError) (error : LineError) (ids : IdWords) (d : D) (i : S) (o : O) (l : L) (cause : Cause) → cause ≡ line_cause error → IsAsked asked (Err error)
+      → IsRun m sources s links asked ids ids (went d d i i o o l l) cause
+  error_is_run only_now asked error ids d i o l cause is (inl refused) = subst (λ (a : Result Job LineError). IsRun m sources s links a ids ids (went d d i i o o l l) cause) refused (record {
+    gives = (inl is, refl, refl, refl, refl);
     complete = tt;
     any_moment = leaves_as_it_was m only_now d;
     grows = λ honest. grows_same (links.chain l);
     ids = refl;
+    input_kept = refl;
     kept = disk_same d;
     link_kept = link_same l;
   })
-  error_is_run only_now asked error ids d o l cause is (inr want) =
+  error_is_run only_now asked error ids d i o l cause is (inr want) =
       let same : error ≡ Words wrong.Memory = same_error (Err error) error (Words wrong.Memory) refl want in
-      subst (IsRun m s links asked ids ids (went d d o o l l)) (sym (is ∙ ap line_cause same)) (want_is_run only_now asked ids d o l)
+      subst (IsRun m sources s links asked ids ids (went d d i i o o l l)) (sym (is ∙ ap line_cause same)) (want_is_run only_now asked ids d i o l)
 
   -- a command is asked for
-  pub command_is_run : (asked : Result Job LineError) (request : Request) (old new : IdWords) (d0 d1 : D) (o0 o1 : O) (l : L) (cause : Cause) → asked ≡ Ok (Here request)
-      → Gives m request old d0 d1 s o0 o1 cause → (CanEnd m request old d0 d1 s o0 o1 → IsDoneOrWant cause) → LeavesBy m (next_of request old) d0 d1 cause → Draws m request d0 old new cause → Kept m d0 d1
-      → IsRun m s links asked old new (went d0 d1 o0 o1 l l) cause
-  command_is_run asked request old new d0 d1 o0 o1 l cause here gives complete leaves draws kept = subst (λ (a : Result Job LineError). IsRun m s links a old new (went d0 d1 o0 o1 l l) cause) (sym here) (record {
+  pub command_is_run : (asked : Result Job LineError) (request : Request) (old new : IdWords) (d0 d1 : D) (i0 i1 : S) (o0 o1 : O) (l : L) (cause : Cause) → asked ≡ Ok (Here request)
+      → Gives m sources request old d0 d1 i0 i1 s o0 o1 cause → (CanEnd m sources request old d0 d1 i0 i1 s o0 o1 → IsDoneOrWant cause) → LeavesCommand m sources request old d0 d1 i0 i1 cause
+      → Draws m sources request d0 i0 i1 old new cause → Kept m d0 d1 → IsInputKept sources request.line.command i0 i1
+      → IsRun m sources s links asked old new (went d0 d1 i0 i1 o0 o1 l l) cause
+  command_is_run asked request old new d0 d1 i0 i1 o0 o1 l cause here gives complete leaves draws kept input_kept = subst (λ (a : Result Job LineError). IsRun m sources s links a old new (went d0 d1 i0 i1 o0 o1 l l) cause) (sym here) (record {
     gives = (gives, refl);
     complete = complete;
     any_moment = leaves;
     grows = λ honest. grows_same (links.chain l);
     ids = draws;
+    input_kept = input_kept;
     kept = kept;
     link_kept = link_same l;
   })
 
   -- a sync is asked for
-  pub sync_is_run : (asked : Result Job LineError) (server : Server) (ids : IdWords) (d0 d1 : D) (o0 o1 : O) (l0 l1 : L) (cause : Cause) → asked ≡ Ok (Sync server)
+  pub sync_is_run : (asked : Result Job LineError) (server : Server) (ids : IdWords) (d0 d1 : D) (i : S) (o0 o1 : O) (l0 l1 : L) (cause : Cause) → asked ≡ Ok (Sync server)
       → SyncGives m s links server d0 d1 o0 o1 l0 l1 cause → (CanBeSynced m links server d0 d1 l0 l1 → (Rose (s.faults o0) (s.faults o1) → ⊥) → IsDoneOrWant cause ⊎ (cause ≡ BadReply (Status 500)))
       → LeavesSync m links server d0 d1 l0 l1 cause → (IsHonest links l0 server.client → Grows (links.chain l0) (links.chain l1)) → Kept m d0 d1 → IsLinkKept links l0 l1
-      → IsRun m s links asked ids ids (went d0 d1 o0 o1 l0 l1) cause
-  sync_is_run asked server ids d0 d1 o0 o1 l0 l1 cause there gives complete leaves grows kept link_kept = subst (λ (a : Result Job LineError). IsRun m s links a ids ids (went d0 d1 o0 o1 l0 l1) cause) (sym there) (record {
+      → IsRun m sources s links asked ids ids (went d0 d1 i i o0 o1 l0 l1) cause
+  sync_is_run asked server ids d0 d1 i o0 o1 l0 l1 cause there gives complete leaves grows kept link_kept = subst (λ (a : Result Job LineError). IsRun m sources s links a ids ids (went d0 d1 i i o0 o1 l0 l1) cause) (sym there) (record {
     gives = gives;
     complete = complete;
     any_moment = leaves;
     grows = grows;
     ids = refl;
+    input_kept = refl;
     kept = kept;
     link_kept = link_kept;
   })

@@ -1,5 +1,5 @@
 -- What a command line asks for, in the order of the checks: the settings, the words that need no task, then the server.
-use Rattle.std.specs.Prelude.{◌≡◌, ◌⊎◌, ℕ, List, map, string_bytes, String, Option, Some, None, Result, Ok, Err}
+use Rattle.std.specs.Prelude.{◌≡◌, ◌⊎◌, ℕ, List, [], map, string_bytes, String, Option, Some, None, Result, Ok, Err}
 use Rattle.std.specs.Global.{Vec, Global}
 use Rattle.std.specs.Borrow.{Bor}
 use Rattle.tw_world.specs.declared.Moment.{Moment}
@@ -31,11 +31,11 @@ abbrev pub job_by : Command → Request → Result Job LineError
 job_by command.Sync request = syncing (server_set request.settings)
 job_by _ request = Ok (Here request)
 
--- what a line asks for, once its words are judged
+-- what a line asks for, once its words are judged. No input is read yet
 abbrev pub job_judged : Parts → List Pair → Moment → Bor Zone → Result (List Token) WordError → Result Job LineError
 job_judged line settings now zone (Err error) = Err (Words error)
 job_judged line settings now zone (Ok filter) =
-    job_by line.command (record { line = line; filter = filter; settings = settings; at = now; zone = zone })
+    job_by line.command (record { line = line; filter = filter; settings = settings; at = now; zone = zone; input = [] })
 
 -- what a line asks for, once its settings are read
 abbrev pub job_set : Parts → Moment → Bor Zone → Result (List Pair) WordError → Result Job LineError

@@ -11,12 +11,14 @@ use Rattle.tw_cli.specs.declared.asked.LineError.{LineError}
 use Rattle.tw_cli.specs.declared.asked.LineError.TheVariants as line
 use Rattle.tw_cli.specs.declared.opening.OpenError.{OpenError}
 use Rattle.tw_cli.specs.declared.opening.OpenError.TheVariants as opening
+use Rattle.tw_cli.specs.declared.input.InputError.{InputError}
+use Rattle.tw_cli.specs.declared.input.InputError.TheVariants as input
 use Rattle.tw_cli.specs.declared.carry.CarryError.{CarryError}
 use Rattle.tw_cli.specs.declared.carry.CarryError.TheVariants as carry
 use Rattle.tw_cli.specs.declared.syncing.SyncFailure.{SyncFailure}
 use Rattle.tw_cli.specs.declared.syncing.SyncFailure.TheVariants as failure
 use Rattle.tw_cli.specs.declared.cause.Cause.{Cause}
-use Rattle.tw_cli.specs.declared.cause.Cause.TheVariants.{Done, NoMatch, NothingToUndo, BadWords, BadSetting, NoServer, IdTaken, Cycle, DiskFault, RecordTooLong, Memory, LinkFault, BadReply, Gone, Busy, OutOfSync, BadSegment, SegmentTooLong, PullTooLong, OutFault, Damaged}
+use Rattle.tw_cli.specs.declared.cause.Cause.TheVariants.{Done, NoMatch, NothingToUndo, BadWords, BadSetting, NoServer, IdTaken, Cycle, DiskFault, RecordTooLong, Memory, LinkFault, BadReply, Gone, Busy, OutOfSync, BadSegment, SegmentTooLong, PullTooLong, OutFault, Damaged, InFault, InputTooLong, BadInput}
 
 -- how a run ends
 pub data End : Type 0 where
@@ -52,6 +54,12 @@ open_cause opening.Disk = DiskFault
 open_cause (opening.Damaged offset) = Damaged offset
 open_cause opening.Memory = Memory
 
+-- of an input that is not read
+abbrev pub input_cause : InputError → Cause
+input_cause input.Fault = InFault
+input_cause input.TooLong = InputTooLong
+input_cause input.Memory = Memory
+
 -- of a command that does nothing
 abbrev pub refusal_cause : Refusal → Cause
 refusal_cause refusal.NoMatch = NoMatch
@@ -59,10 +67,12 @@ refusal_cause refusal.NothingToUndo = NothingToUndo
 refusal_cause (refusal.BadWords word kind) = BadWords word kind
 refusal_cause (refusal.IdTaken uuid) = IdTaken uuid
 refusal_cause (refusal.Cycle uuid) = Cycle uuid
+refusal_cause (refusal.BadInput index name) = BadInput index name
 
 -- of a command that is not carried out
 abbrev pub carry_cause : CarryError → Cause
 carry_cause (carry.Open e) = open_cause e
+carry_cause (carry.Input e) = input_cause e
 carry_cause (carry.Refused refusal) = refusal_cause refusal
 carry_cause (carry.TooLong bytes) = RecordTooLong bytes
 carry_cause carry.Disk = DiskFault

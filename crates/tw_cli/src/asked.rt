@@ -2,7 +2,7 @@
 ghost use Rattle.tw_cli.specs.Asked.{job_by, asked_by, IsAsked};
 
 use std::alloc::Global;
-use tw_commands::Request;
+use tw_commands::{Input, Request};
 use tw_time::Zone;
 use tw_words::{Command, Server, WordError, cut_words, judge_line, read_settings};
 use tw_world::{Memory, Moment};
@@ -81,6 +81,7 @@ pub(crate) fn asked<'a>(
         settings,
         at: now,
         zone,
+        input: Input::none(alloc),
     };
     job_by(alloc, request)
 }

@@ -2,22 +2,26 @@
 ghost use Rattle.std.specs.Prelude.{◌≡◌, IfOk, IfErr};
 ghost use Rattle.tw_world.specs.Disk.{Kept};
 ghost use Rattle.tw_cli.specs.Cause.{carry_cause, ended};
-ghost use Rattle.tw_cli.specs.Run.{NotCarried, Shows, CanBeCarriedOut, Gives, CanEnd, Draws, IsDoneOrWant};
-ghost use Rattle.tw_cli.specs.Crash.{LeavesBy, next_of};
+ghost use Rattle.tw_cli.specs.Input.{IsInputKept};
+ghost use Rattle.tw_cli.specs.Run.{NotCarried, Shows, CanCarryOut, Gives, CanEnd, Draws, IsDoneOrWant};
+ghost use Rattle.tw_cli.specs.Crash.{LeavesCommand};
 
 use crate::cause::Cause;
+use crate::input::{InputError, command_of, take_input, with_input};
 use crate::opening::{OpenError, open};
 use crate::printing::print;
 use std::alloc::Global;
 use tw_commands::{Ready, Refusal, Request, decide};
 use tw_journal::JournalError;
-use tw_world::{Disk, IdWords, Sink};
+use tw_world::{Disk, IdWords, Sink, Source};
 
 /// Why a command is not carried out.
 #[derive(Drop)]
 pub(crate) enum CarryError {
     /// The replica was not opened.
     Open(OpenError),
+    /// The input was not taken.
+    Input(InputError),
     /// The command does nothing.
     Refused(Refusal),
     /// The record would have so many bytes, which are too many.
@@ -28,27 +32,36 @@ pub(crate) enum CarryError {
     Memory,
 }
 
-// Carries a command out over the replica that a disk holds, and gives what to print. It writes at most
+// Carries a command out over the replica that a disk holds, with the input that it takes, and gives what to print. It writes at most
 // one record, for which all memory has been taken before.
-fn carry_out<D: Disk>(
+fn carry_out<D: Disk, S: Source>(
     alloc: Global,
-    request: &Request<'_>,
+    request: Request<'_>,
     ids: &mut IdWords,
     disk: &mut D,
+    input: &mut S,
 ) -> Result<Vec<u8>, CarryError>
-    ensures shows { IfOk result (λ text. Shows D.model request.now ids.old disk.old disk.new text.items) }
-    ensures refused { IfErr result (NotCarried D.model request.now ids.old disk.old disk.new) }
-    ensures complete { IfErr result (λ e. CanBeCarriedOut D.model request.now ids.old disk.old disk.new
+    ensures shows { IfOk result (λ text. Shows D.model S.model request.entry ids.old disk.old disk.new input.old input.new text.items) }
+    ensures refused { IfErr result (NotCarried D.model S.model request.entry ids.old disk.old disk.new input.old input.new) }
+    ensures complete { IfErr result (λ e. CanCarryOut D.model S.model request.entry ids.old disk.old disk.new input.old input.new
         → carry_cause e ≡ Cause.Memory) }
-    ensures any_moment { LeavesBy D.model (next_of request.now ids.old) disk.old disk.new (ended carry_cause result) }
-    ensures ids { Draws D.model request.now disk.old ids.old ids.new (ended carry_cause result) }
+    ensures any_moment { LeavesCommand D.model S.model request.entry ids.old disk.old disk.new input.old input.new
+        (ended carry_cause result) }
+    ensures ids { Draws D.model S.model request.entry disk.old input.old input.new ids.old ids.new (ended carry_cause result) }
     ensures kept { Kept D.model disk.old disk.new }
+    ensures input_kept { IsInputKept S.model request.entry.line.command input.old input.new }
 {
     let replica = match open(alloc, disk) {
         Ok(replica) => replica,
         Err(error) => return Err(CarryError::Open(error)),
     };
-    let Ready { prepared, text } = match decide(alloc, request, ids, replica) {
+    let command = command_of(&request);
+    let taken = match take_input(alloc, command, input) {
+        Ok(taken) => taken,
+        Err(error) => return Err(CarryError::Input(error)),
+    };
+    let request = with_input(request, taken);
+    let Ready { prepared, text } = match decide(alloc, &request, ids, replica) {
         Ok(Ok(ready)) => ready,
         Ok(Err(refusal)) => return Err(CarryError::Refused(refusal)),
         Err(_) => return Err(CarryError::Memory),
@@ -63,20 +76,24 @@ fn carry_out<D: Disk>(
 }
 
 /// Carries a command out, and prints its text.
-pub(crate) fn run_command<D: Disk, O: Sink>(
+pub(crate) fn run_command<D: Disk, S: Source, O: Sink>(
     alloc: Global,
-    request: &Request<'_>,
+    request: Request<'_>,
     ids: &mut IdWords,
     disk: &mut D,
+    input: &mut S,
     out: &mut O,
 ) -> Cause
-    ensures gives { Gives D.model request.now ids.old disk.old disk.new O.model out.old out.new result }
-    ensures complete { CanEnd D.model request.now ids.old disk.old disk.new O.model out.old out.new → IsDoneOrWant result }
-    ensures any_moment { LeavesBy D.model (next_of request.now ids.old) disk.old disk.new result }
-    ensures ids { Draws D.model request.now disk.old ids.old ids.new result }
+    ensures gives { Gives D.model S.model request.entry ids.old disk.old disk.new input.old input.new
+        O.model out.old out.new result }
+    ensures complete { CanEnd D.model S.model request.entry ids.old disk.old disk.new input.old input.new
+        O.model out.old out.new → IsDoneOrWant result }
+    ensures any_moment { LeavesCommand D.model S.model request.entry ids.old disk.old disk.new input.old input.new result }
+    ensures ids { Draws D.model S.model request.entry disk.old input.old input.new ids.old ids.new result }
     ensures kept { Kept D.model disk.old disk.new }
+    ensures input_kept { IsInputKept S.model request.entry.line.command input.old input.new }
 {
-    match carry_out(alloc, request, ids, disk) {
+    match carry_out(alloc, request, ids, disk, input) {
         Ok(text) => print(out, text.as_slice()),
         Err(error) => Cause::from(error),
     }

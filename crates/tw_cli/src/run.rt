@@ -4,7 +4,7 @@ ghost use Rattle.tw_world.specs.Disk.{Kept, Tells};
 ghost use Rattle.tw_sync.specs.Answers.{IsLinkKept};
 ghost use Rattle.tw_cli.specs.Fault.{Told, status_of};
 ghost use Rattle.tw_cli.specs.Asked.{asked_by};
-ghost use Rattle.tw_cli.specs.Whole.{went, RunGives, EndsWell, RunLeaves, IsHonestFor, ChainGrows, RunDraws, IsRun};
+ghost use Rattle.tw_cli.specs.Whole.{went, RunGives, EndsWell, RunLeaves, IsHonestFor, ChainGrows, RunDraws, RunKeepsInput, IsRun};
 ghost use Rattle.tw_cli.specs.Agreement.{AgreementStays};
 
 use crate::asked::{Job, asked};
@@ -15,10 +15,10 @@ use crate::syncing::run_sync;
 use std::alloc::Global;
 use tw_http::Link;
 use tw_time::Zone;
-use tw_world::{Disk, IdWords, Moment, Sink};
+use tw_world::{Disk, IdWords, Moment, Sink, Source};
 
 // Runs a command line, and tells of nothing.
-fn run_words<D: Disk, L: Link, O: Sink>(
+fn run_words<D: Disk, L: Link, S: Source, O: Sink>(
     alloc: Global,
     words: &Vec<String>,
     settings: &Vec<u8>,
@@ -27,13 +27,14 @@ fn run_words<D: Disk, L: Link, O: Sink>(
     ids: &mut IdWords,
     disk: &mut D,
     link: &mut L,
+    input: &mut S,
     out: &mut O,
 ) -> Cause
-    ensures { IsRun D.model O.model L.model (asked_by words.now settings.now now zone.entry) ids.old ids.new
-        (went disk.old disk.new out.old out.new link.old link.new) result }
+    ensures { IsRun D.model S.model O.model L.model (asked_by words.now settings.now now zone.entry) ids.old ids.new
+        (went disk.old disk.new input.old input.new out.old out.new link.old link.new) result }
 {
     match asked(alloc, words, settings, now, zone) {
-        Ok(Job::Here(request)) => run_command(alloc, &request, ids, disk, out),
+        Ok(Job::Here(request)) => run_command(alloc, request, ids, disk, input, out),
         Ok(Job::Sync(server)) => run_sync(alloc, &server, disk, link, out),
         Err(error) => Cause::from(error),
     }
@@ -41,8 +42,9 @@ fn run_words<D: Disk, L: Link, O: Sink>(
 
 /// Does what `tw task` does with these words and settings, at this moment in this zone: reads the settings, with the overrides
 /// among the words, and judges the words, opens the replica that the disk holds, writes at most one record, prints to `out`, and
-/// tells of any other end than `Done` on `err`. The record is written before anything is printed. Only `sync` uses the link.
-pub fn task_run<D: Disk, L: Link, O: Sink, E: Sink>(
+/// tells of any other end than `Done` on `err`. The record is written before anything is printed. Only `sync` uses the link, and only
+/// `import` the input, of which it reads at most 67,108,864 bytes and one more.
+pub fn task_run<D: Disk, L: Link, S: Source, O: Sink, E: Sink>(
     alloc: Global,
     words: &Vec<String>,
     settings: &Vec<u8>,
@@ -51,29 +53,34 @@ pub fn task_run<D: Disk, L: Link, O: Sink, E: Sink>(
     ids: &mut IdWords,
     disk: &mut D,
     link: &mut L,
+    input: &mut S,
     out: &mut O,
     err: &mut E,
 ) -> Outcome
-    ensures gives { RunGives D.model O.model L.model (asked_by words.now settings.now now zone.entry) ids.old
-        (went disk.old disk.new out.old out.new link.old link.new) result.cause }
-    ensures complete { EndsWell D.model O.model L.model (asked_by words.now settings.now now zone.entry) ids.old
-        (went disk.old disk.new out.old out.new link.old link.new) result.cause }
-    ensures any_moment { RunLeaves D.model O.model L.model (asked_by words.now settings.now now zone.entry) ids.old
-        (went disk.old disk.new out.old out.new link.old link.new) result.cause }
+    ensures gives { RunGives D.model S.model O.model L.model (asked_by words.now settings.now now zone.entry) ids.old
+        (went disk.old disk.new input.old input.new out.old out.new link.old link.new) result.cause }
+    ensures complete { EndsWell D.model S.model O.model L.model (asked_by words.now settings.now now zone.entry) ids.old
+        (went disk.old disk.new input.old input.new out.old out.new link.old link.new) result.cause }
+    ensures any_moment { RunLeaves D.model S.model O.model L.model (asked_by words.now settings.now now zone.entry) ids.old
+        (went disk.old disk.new input.old input.new out.old out.new link.old link.new) result.cause }
 
     // A replica that agrees with the server's chain agrees with it after each run.
     ensures agrees { Tells D.model disk.old → IsHonestFor L.model (asked_by words.now settings.now now zone.entry) link.old
-        → AgreementStays D.model L.model (went disk.old disk.new out.old out.new link.old link.new) result.cause }
-    ensures grows { ChainGrows D.model O.model L.model (asked_by words.now settings.now now zone.entry)
-        (went disk.old disk.new out.old out.new link.old link.new) }
+        → AgreementStays D.model L.model (went disk.old disk.new input.old input.new out.old out.new link.old link.new) result.cause }
+    ensures grows { ChainGrows D.model S.model O.model L.model (asked_by words.now settings.now now zone.entry)
+        (went disk.old disk.new input.old input.new out.old out.new link.old link.new) }
 
-    ensures ids { RunDraws D.model (asked_by words.now settings.now now zone.entry) disk.old ids.old ids.new result.cause }
+    ensures ids { RunDraws D.model S.model (asked_by words.now settings.now now zone.entry) disk.old input.old input.new
+        ids.old ids.new result.cause }
     ensures told { Told E.model err.old err.new result.cause }
     ensures status { result.status ≡ status_of result.cause }
     ensures kept { Kept D.model disk.old disk.new }
     ensures link_kept { IsLinkKept L.model link.old link.new }
+    ensures input_kept { RunKeepsInput S.model (asked_by words.now settings.now now zone.entry) input.old input.new }
 {
-    let cause = run_words(alloc, words, settings, now, zone, ids, disk, link, out);
+    let cause = run_words(
+        alloc, words, settings, now, zone, ids, disk, link, input, out,
+    );
     tell(err, &cause);
     Outcome {
         status: status_of(&cause),

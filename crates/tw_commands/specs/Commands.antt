@@ -26,6 +26,7 @@ use Rattle.tw_commands.specs.Effects.Purge.{purge}
 use Rattle.tw_commands.specs.Effects.Start.{start, stop}
 use Rattle.tw_commands.specs.Makes.Add.{adding, logging}
 use Rattle.tw_commands.specs.Makes.Duplicate.{copies_in, copying}
+use Rattle.tw_commands.specs.Makes.Import.{imports_in, importing}
 use Rattle.tw_commands.specs.Looks.Count.{counting}
 use Rattle.tw_commands.specs.Looks.Names.{numbering, naming}
 use Rattle.tw_commands.specs.Looks.Export.{exporting}
@@ -82,6 +83,7 @@ plan_by command.Purge request ids state = editing deed.Purged request state
 plan_by command.Start request ids state = editing deed.Started request state
 plan_by command.Stop request ids state = editing deed.Stopped request state
 plan_by command.Duplicate request ids state = copying request ids state
+plan_by command.Import request ids state = importing request ids state
 plan_by command.Undo request ids state = Ok undoing
 plan_by command.Count request ids state = Ok (counting request state)
 plan_by command.Ids request ids state = Ok (numbering request state)
@@ -103,6 +105,7 @@ abbrev pub ids_by : Command → Request → IdWords → State → IdWords
 ids_by command.Add request ids state = after_draw ids
 ids_by command.Log request ids state = after_draw ids
 ids_by command.Duplicate request ids state = (copies_in request ids state).ids
+ids_by command.Import request ids state = (imports_in request ids state).ids
 ids_by _ request ids state = ids
 
 abbrev pub ids_unless : Option BadWord → (old left : IdWords) → IdWords

@@ -10,6 +10,7 @@ use Rattle.tw_commands.specs.declared.refusal.Refusal.{Refusal}
 use Rattle.tw_commands.specs.declared.refusal.Refusal.TheVariants.{IdTaken}
 pub mod Add
 pub mod Duplicate
+pub mod Import
 
 -- a task with a status, made at this moment
 abbrev pub made_task : Moment → (status : List ℕ) → TaskValue → TaskValue

@@ -7,7 +7,7 @@ use Rattle.tw_replica.specs.State.{State}
 use Rattle.tw_commands.specs.Plan.{Show}
 use Rattle.tw_commands.specs.Plan.Show.{Counted, Created, Logged, TakenBack, Text}
 use Rattle.tw_commands.specs.declared.plan.Deed.{Deed}
-use Rattle.tw_commands.specs.declared.plan.Deed.TheVariants.{Modified, Annotated, Denotated, Completed, Deleted, Purged, Started, Stopped, Duplicated}
+use Rattle.tw_commands.specs.declared.plan.Deed.TheVariants.{Modified, Annotated, Denotated, Completed, Deleted, Purged, Started, Stopped, Duplicated, Imported}
 use Rattle.tw_commands.specs.declared.refusal.Refusal.{Refusal}
 
 -- a number between two texts
@@ -34,6 +34,7 @@ deed_word Purged = codes "Purged "
 deed_word Started = codes "Started "
 deed_word Stopped = codes "Stopped "
 deed_word Duplicated = codes "Duplicated "
+deed_word Imported = codes "Imported "
 
 -- of tasks on which a command acted
 abbrev pub counted_text : Deed → ℕ → List ℕ

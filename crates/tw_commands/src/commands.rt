@@ -15,6 +15,7 @@ mod done;
 mod duplicate;
 mod editing;
 mod export;
+mod import;
 mod modify;
 mod names;
 mod purge;
@@ -48,6 +49,7 @@ fn plan_by(
         Command::Add => return add::adding(alloc, request, ids, replica),
         Command::Log => return add::logging(alloc, request, ids, replica),
         Command::Duplicate => return duplicate::copying(alloc, request, ids, replica),
+        Command::Import => return import::importing(alloc, request, ids, replica),
         Command::Undo => return Ok(Ok(undo::undoing())),
         Command::Count => return Ok(Ok(count::counting(alloc, request, replica)?)),
         Command::Ids => return Ok(Ok(names::numbering(alloc, request, replica)?)),

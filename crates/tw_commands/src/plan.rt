@@ -14,6 +14,7 @@ pub(crate) enum Deed {
     Started,
     Stopped,
     Duplicated,
+    Imported,
 }
 
 /// The step of a command.

@@ -1,5 +1,6 @@
 // Why a command does nothing.
 use tw_filter::WordKind;
+use tw_world::Text;
 use uuid::Uuid;
 
 /// Why a command does nothing, in a replica that is open.
@@ -15,4 +16,7 @@ pub enum Refusal {
     IdTaken { uuid: Uuid },
     /// A task gains a dependency on this one, and paths of dependencies lead from this one back to it.
     Cycle { uuid: Uuid },
+    /// The element of the input with this number, from 0, is no task, and this is its first bad key. Where the input is no JSON array, the
+    /// number is 0 and the name empty.
+    BadInput { index: u64, name: Text },
 }

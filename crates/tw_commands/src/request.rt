@@ -4,6 +4,7 @@ ghost use Rattle.tw_replica.specs.Replica.{held_state};
 ghost use Rattle.tw_filter.specs.Holds.{scene_of};
 ghost use Rattle.tw_commands.specs.Request.{scene_in, selected_in, drawn, after_draw};
 
+use crate::input::Input;
 use std::alloc::Global;
 use tw_filter::{Filter, Looks, View, select};
 use tw_replica::Replica;
@@ -12,8 +13,8 @@ use tw_words::{Line, Settings};
 use tw_world::{IdWords, Memory, Moment};
 use uuid::Uuid;
 
-/// What is asked for: the line, the filter of its words, the settings with the line's overrides, and the moment and the zone at which all
-/// is read.
+/// What is asked for: the line, the filter of its words, the settings with the line's overrides, the moment and the zone at which all
+/// is read, and the input that `import` reads.
 #[derive(Drop)]
 pub struct Request<'a> {
     pub line: Line,
@@ -21,6 +22,7 @@ pub struct Request<'a> {
     pub settings: Settings,
     pub at: Moment,
     pub zone: &'a Zone,
+    pub input: Input,
 }
 
 /// What a request looks at.

@@ -1,8 +1,9 @@
 // What commands come to in a replica in memory.
 mod circles;
+mod imports;
 mod statuses;
 
-use crate::{Ready, Refusal, Request, decide};
+use crate::{Input, Ready, Refusal, Request, decide};
 use std::alloc::Global;
 use std::test::Fail;
 use tw_model::{Change, TaskMap};
@@ -55,6 +56,18 @@ fn decided(
     ids: &mut IdWords,
     disk: &mut MemoryDisk,
 ) -> Result<Result<Vec<u8>, Refusal>, Fail> {
+    decided_with(alloc, line, "", second, ids, disk)
+}
+
+// The same with an input.
+fn decided_with(
+    alloc: Global,
+    line: &str,
+    input: &str,
+    second: u64,
+    ids: &mut IdWords,
+    disk: &mut MemoryDisk,
+) -> Result<Result<Vec<u8>, Refusal>, Fail> {
     let words = words_of(alloc, line)?;
     let zone = Zone::utc();
     let at = moment(second)?;
@@ -74,6 +87,7 @@ fn decided(
         settings,
         at,
         zone: &zone,
+        input: Input::new(input.as_bytes().to_vec(alloc)?),
     };
     match decide(alloc, &request, ids, replica)? {
         Ok(Ready { prepared, text }) => match prepared.write(disk) {

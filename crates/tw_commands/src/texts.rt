@@ -39,6 +39,7 @@ fn deed_word(deed: Deed) -> &'static str
         Deed::Started => "Started ",
         Deed::Stopped => "Stopped ",
         Deed::Duplicated => "Duplicated ",
+        Deed::Imported => "Imported ",
     }
 }
 

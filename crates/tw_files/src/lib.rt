@@ -1,4 +1,4 @@
-//! The program's edge: the system's files, folders, streams and connections as disks, sinks and peers.
+//! The program's edge: the system's files, folders, streams and connections as disks, sources, sinks and peers.
 //! Each call says what it asks of the system, with which bytes, places, addresses and times, and each fault is counted.
 //! It stands on `tw_world`, whose traits it implements.
 #![tactic(auto)]
@@ -11,6 +11,7 @@ mod folders;
 mod opening;
 mod peer;
 mod placed_file;
+mod source;
 mod stream;
 mod timed_stream;
 
@@ -22,5 +23,6 @@ pub use folders::Folders;
 pub use opening::open_disk;
 pub use peer::StreamPeer;
 pub use placed_file::{Busy, PlacedFile};
+pub use source::StreamSource;
 pub use stream::Stream;
 pub use timed_stream::{TimedStream, Timer};

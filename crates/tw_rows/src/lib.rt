@@ -8,6 +8,8 @@ mod commands;
 #[cfg(test)]
 mod damage;
 #[cfg(test)]
+mod imports;
+#[cfg(test)]
 mod machine;
 #[cfg(test)]
 mod merges;

@@ -7,7 +7,7 @@ use tw_model::TaskMap;
 use tw_replica::Replica;
 use tw_server::{Fate, LinkStep, MemoryLink};
 use tw_time::Zone;
-use tw_world::{IdWords, MemoryDisk, MemorySink, Moment};
+use tw_world::{IdWords, MemoryDisk, MemorySink, MemorySource, Moment};
 use uuid::Uuid;
 
 const SETTINGS: &str = "sync.server.url=http://localhost:8080\n\
@@ -59,16 +59,21 @@ pub struct Given<'a> {
     pub second: u64,
     pub zone: Zone,
     pub settings: &'a str,
+    pub input: &'a str,
+    /// The numbers of the reads of the input that fail.
+    pub input_fails: &'a [u64],
 }
 
 impl<'a> Given<'a> {
-    /// Identifiers from `first` on, this second, UTC, and no settings.
+    /// Identifiers from `first` on, this second, UTC, no settings and no input.
     pub fn new(first: u128, second: u64) -> Given<'a> {
         Given {
             first,
             second,
             zone: Zone::utc(),
             settings: "",
+            input: "",
+            input_fails: &[],
         }
     }
 }
@@ -99,6 +104,8 @@ pub fn run_given(
         start: given.first,
         step: 1,
     };
+    let content = given.input.as_bytes().to_vec(alloc)?;
+    let mut input = MemorySource::new(alloc, content, given.input_fails.to_vec(alloc)?)?;
     let mut out = MemorySink::new(alloc, Vec::new(alloc), out_fails.to_vec(alloc)?)?;
     let mut err = MemorySink::new(alloc, Vec::new(alloc), Vec::new(alloc))?;
     let now = moment(given.second)?;
@@ -111,6 +118,7 @@ pub fn run_given(
         &mut ids,
         disk,
         link,
+        &mut input,
         &mut out,
         &mut err,
     );

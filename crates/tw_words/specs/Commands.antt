@@ -75,7 +75,6 @@ rest_of command = (form_of command).rest
 
 -- whether the program carries a command out
 abbrev pub is_built : Command → Bool
-is_built Import = false
 is_built Information = false
 is_built Projects = false
 is_built Tags = false

@@ -214,8 +214,7 @@ impl Command {
         ensures { result ≡ is_built self }
     {
         match self {
-            Command::Import
-            | Command::Information
+            Command::Information
             | Command::Projects
             | Command::Tags
             | Command::List

@@ -68,7 +68,7 @@ list > 0 Unbuilt
 list|( > 0 Unbuilt
 )|list > 0 Bracket
 x|import|y > 0 Extra
-import|x > 0 Unbuilt
+import|x > 1 Extra
 _generate|0|0 > 0 Unbuilt
 1|--|done > 0 Unbuilt";
 

@@ -1,0 +1,7 @@
+use Rattle.std.proofs.Common.{◌∙◌, ◌++◌, subst, codes, List, ℕ}
+use Rattle.tw_cli.specs.Fault.{GotLine}
+use Rattle.tw_cli.proofs.fault.put_bad_input.Goals as goal
+
+pub returns : goal.returns
+returns g c =
+    subst (λ (front : List ℕ). GotLine g.E.Sink.model c.args.err.now c.put_pieces.new.err (front ++ (c.args.name.now ++ codes "\n"))) (c.as_str.ensures.value ∙ c.numbered-front.ensures) c.put_pieces.ensures

@@ -1,0 +1,4 @@
+pub mod Tasks
+pub mod Changes
+pub mod Summary
+pub mod Generated

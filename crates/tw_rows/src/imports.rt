@@ -1,0 +1,50 @@
+// Imports over a store and an input in memory.
+
+use crate::machine::{Given, link, machine, run_given};
+use std::test::Fail;
+
+const SECOND: u64 = 1_700_000_000;
+
+const CALL: &str =
+    "[{\"description\":\"Call Ann\",\"entry\":\"20231114T221320Z\",\"tags\":[\"phone\"]}]";
+
+const CALL_EXPORTED: &str =
+    "[\n{\"description\":\"Call Ann\",\"entry\":\"20231114T221320Z\",\"modified\":\"20231114T221320Z\",\"status\":\"pending\",\"tags\":[\"phone\"],\"urgency\":0.800,\"uuid\":\"00000000-0000-4000-8000-000000000001\"}\n]\n";
+
+// A line, its input, the number of the read that fails, the status, and what is printed or told.
+const ROWS: [(&str, &str, &[u64], u8, &str); 12] = [
+    ("import", CALL, &[1], 8, "task: input failed\n"),
+    ("count", "", &[], 0, "0\n"),
+    ("import", CALL, &[], 0, "Imported 1 task.\n"),
+    ("export", CALL, &[0], 0, CALL_EXPORTED),
+    ("import", "[{\"entry\":\"20231114T221320Z\"}]", &[], 8, "task: element 0 is no task: description\n"),
+    ("import", "[{\"description\":\"a\"},{\"description\":\"b\",\"due\":\"tomorrow\"}]", &[], 8, "task: element 1 is no task: due\n"),
+    ("import", "{}", &[], 8, "task: element 0 is no task: \n"),
+    ("import|x", CALL, &[], 2, "task: bad word 1\n"),
+    ("import|-", CALL_EXPORTED, &[], 0, "Imported 1 task.\n"),
+    ("export", "", &[], 0, CALL_EXPORTED),
+    ("undo", CALL, &[0], 0, "Undone 5 operations.\n"),
+    ("export", "", &[], 0, "[\n]\n"),
+];
+
+#[test]
+fn an_input_is_imported_and_taken_back(rt: HostRuntime) -> Result<(), Fail> {
+    let alloc = rt.alloc();
+    let mut disk = machine(alloc)?;
+    for (line, input, input_fails, status, text) in ROWS {
+        let mut none = link(alloc, Vec::new(alloc))?;
+        let mut given = Given::new(1, SECOND);
+        given.input = input;
+        given.input_fails = input_fails;
+        let ended = run_given(alloc, &given, line, &mut disk, &mut none, &[])?;
+        assert_eq!(rt; ended.outcome.status, status, "{line}");
+        let (told, other) = if status == 0 {
+            (ended.out.bytes(), ended.err.bytes())
+        } else {
+            (ended.err.bytes(), ended.out.bytes())
+        };
+        assert_eq!(rt; told, text.as_bytes(), "{line}");
+        assert_eq!(rt; other, b"".as_slice(), "{line}");
+    }
+    Ok(())
+}
