@@ -101,13 +101,15 @@ fn run_over<D: Disk>(
         Ok(Some(address)) => {
             let mut link = TcpLink::new(rt, address);
             task_run(
-                alloc, words, settings, now, zone, ids, disk, &mut link, &mut input, &mut out, &mut err,
+                alloc, words, settings, now, zone, ids, disk, &mut link, &mut input, &mut out,
+                &mut err,
             )
         }
         Ok(None) => {
             let mut link = FailingLink::new();
             task_run(
-                alloc, words, settings, now, zone, ids, disk, &mut link, &mut input, &mut out, &mut err,
+                alloc, words, settings, now, zone, ids, disk, &mut link, &mut input, &mut out,
+                &mut err,
             )
         }
         Err(_) => return Err(StartError::Memory),

@@ -69,7 +69,11 @@ impl Machine {
     }
 
     /// Syncs with the server at the other end of a link.
-    pub(crate) fn sync(&mut self, alloc: Global, link: &mut MemoryLink) -> Result<SyncReport, Memory>
+    pub(crate) fn sync(
+        &mut self,
+        alloc: Global,
+        link: &mut MemoryLink,
+    ) -> Result<SyncReport, Memory>
         ensures ended { IfOk result (λ report. IsHonest memory_link_model link.old CLIENT → SyncEnd (held_state self.old.replica) (held_state self.new.replica)
             (told memory_link_model link.old) (told memory_link_model link.new) report) }
         ensures kept { IsLinkKept memory_link_model link.old link.new }

@@ -18,8 +18,7 @@ pub(crate) fn summary(
     ensures { IfOk result (λ text. text.items ≡ summary count bytes report equal) }
 {
     let word = if equal { "equal" } else { "different" };
-    let text = format!(
-        in alloc;
+    let text = format!(in alloc;
         "tasks {}, first segment {} bytes, dropped {}, pushed {}, exports {}\n",
         count, bytes, report.dropped, report.pushed, word
     )?;

@@ -73,12 +73,7 @@ pub(crate) fn task_of(alloc: Global, seed: u64, i: u64) -> Result<TaskMap, Memor
 }
 
 /// The same with another project.
-pub(crate) fn moved_task(
-    alloc: Global,
-    seed: u64,
-    i: u64,
-    project: &str,
-) -> Result<TaskMap, Memory>
+pub(crate) fn moved_task(alloc: Global, seed: u64, i: u64, project: &str) -> Result<TaskMap, Memory>
     requires { i < 10000 }
     ensures { IfOk result (λ task. task ≡ spec.moved_task seed i project.now) }
 {

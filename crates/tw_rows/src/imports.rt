@@ -17,13 +17,25 @@ const ROWS: [(&str, &str, &[u64], u8, &str); 12] = [
     ("count", "", &[], 0, "0\n"),
     ("import", CALL, &[], 0, "Imported 1 task.\n"),
     ("export", CALL, &[0], 0, CALL_EXPORTED),
-    ("import", "[{\"entry\":\"20231114T221320Z\"}]", &[], 8, "task: element 0 is no task: description\n"),
-    ("import", "[{\"description\":\"a\"},{\"description\":\"b\",\"due\":\"tomorrow\"}]", &[], 8, "task: element 1 is no task: due\n"),
+    (
+        "import",
+        "[{\"entry\":\"20231114T221320Z\"}]",
+        &[],
+        8,
+        "task: element 0 is no task: description\n",
+    ),
+    (
+        "import",
+        "[{\"description\":\"a\"},{\"description\":\"b\",\"due\":\"tomorrow\"}]",
+        &[],
+        8,
+        "task: element 1 is no task: due\n",
+    ),
     ("import", "{}", &[], 8, "task: element 0 is no task: \n"),
     ("import|x", CALL, &[], 2, "task: bad word 1\n"),
     ("import|-", CALL_EXPORTED, &[], 0, "Imported 1 task.\n"),
     ("export", "", &[], 0, CALL_EXPORTED),
-    ("undo", CALL, &[0], 0, "Undone 5 operations.\n"),
+    ("undo", CALL, &[0], 0, "Undone 6 operations.\n"),
     ("export", "", &[], 0, "[\n]\n"),
 ];
 
