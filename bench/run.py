@@ -39,6 +39,9 @@ COMMANDS = {
     "count-text": ["description.has:7", "count"],
     "count-blocking": ["+BLOCKING", "count"],
     "export": ["export"],
+    "list": ["list"],
+    "list-one": ["1", "list"],
+    "next": ["next"],
 }
 GNU_TIME = "/usr/bin/time"
 

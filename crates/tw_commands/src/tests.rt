@@ -1,5 +1,6 @@
 // What commands come to in a replica in memory.
 mod circles;
+mod reports;
 mod statuses;
 
 use crate::{Ready, Refusal, Request, decide};

@@ -214,17 +214,7 @@ impl Command {
         ensures { result ≡ is_built self }
     {
         match self {
-            Command::Import
-            | Command::Information
-            | Command::Projects
-            | Command::Tags
-            | Command::List
-            | Command::Next
-            | Command::All
-            | Command::Completed
-            | Command::Waiting
-            | Command::Blocked
-            | Command::Generate => false,
+            Command::Import | Command::Generate => false,
             _ => true,
         }
     }

@@ -77,19 +77,8 @@ fn a_chain_of_dependencies_is_searched_once(rt: HostRuntime) -> Result<(), Fail>
     let mut ids = ids_from(1 << 100);
     let printed = carried(alloc, "2-500 modify depends:1", NOW, &mut ids, &mut disk)?;
     assert_eq!(rt; printed.as_str(), "Modified 499 tasks.\n");
-    match decided(
-        alloc,
-        "1-500 modify depends:500",
-        NOW,
-        &mut ids,
-        &mut disk,
-    )? {
-        Err(refusal) => assert_eq!(rt;
-            refusal,
-            Refusal::Cycle {
-                uuid: uuid_of(500)
-            }
-        ),
+    match decided(alloc, "1-500 modify depends:500", NOW, &mut ids, &mut disk)? {
+        Err(refusal) => assert_eq!(rt; refusal, Refusal::Cycle { uuid: uuid_of(500) }),
         Ok(_) => return Err(Fail::new("no circle")),
     }
     Ok(())
