@@ -41,6 +41,9 @@ COMMANDS = {
     "count-blocking": ["+BLOCKING", "count"],
     "export": ["export"],
     "import": ["import", "-"],
+    "list": ["list"],
+    "list-one": ["1", "list"],
+    "next": ["next"],
 }
 GNU_TIME = "/usr/bin/time"
 

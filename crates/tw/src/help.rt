@@ -5,7 +5,8 @@ pub const HELP: &str = "\
 tw keeps tasks and working hours, for people who use several machines.
 
 usage:
-  tw task [FILTER] COMMAND [WORDS]
+  tw task [FILTER] [COMMAND] [WORDS]
+  tw                    show what to do next, as tw task does without words
   tw server PORT FILE [COUNT]
                         serve syncs on a port of 127.0.0.1, with the history of
                         all clients in a file; end after COUNT connections
@@ -33,7 +34,18 @@ commands that change tasks:
   FILTER purge          take deleted ones out for good
   undo                  take the last command back that changed something
 
+reports, the tasks that they show, and their order:
+  [FILTER] next         pending, the most urgent first; so without a COMMAND
+  [FILTER] list         pending, by the moment when they are due
+  [FILTER] blocked      that wait for other tasks, by due
+  [FILTER] waiting      hidden until a moment, by that
+  [FILTER] completed    done, by their end
+  [FILTER] all          all
+
 commands that show tasks:
+  FILTER information    print all that is stored of them
+  [FILTER] projects     print the projects of pending tasks, with their number
+  [FILTER] tags         print their tags, with their number
   [FILTER] count        print how many there are
   [FILTER] ids          print their numbers
   [FILTER] uuids        print their uuids

@@ -27,7 +27,7 @@ use task::run_task;
 fn run(rt: &HostRuntime, alloc: Global) -> Result<u8, StartError> {
     let mut words = words(rt, alloc)?;
     let Some(first) = take_first(&mut words) else {
-        return Err(StartError::CommandLine);
+        return run_task(rt, alloc, &words);
     };
     match part_of(first.as_str()) {
         Some(Part::Help) => Ok(print(rt, HELP)),

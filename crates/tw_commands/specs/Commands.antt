@@ -7,6 +7,7 @@ use Rattle.tw_replica.specs.State.{State}
 use Rattle.tw_filter.specs.Holds.{Scene}
 use Rattle.tw_filter.specs.declared.bad_word.BadWord.{BadWord}
 use Rattle.tw_filter.specs.declared.bad_word.WordKind.TheVariants.{Unbuilt}
+use Rattle.tw_report.specs.declared.report.Report.TheVariants as report
 use Rattle.tw_words.specs.Lines.{Parts}
 use Rattle.tw_words.specs.Unnamed.{first_unnamed}
 use Rattle.tw_words.specs.declared.command.Command.{Command}
@@ -30,6 +31,8 @@ use Rattle.tw_commands.specs.Makes.Import.{imports_in, importing}
 use Rattle.tw_commands.specs.Looks.Count.{counting}
 use Rattle.tw_commands.specs.Looks.Names.{numbering, naming}
 use Rattle.tw_commands.specs.Looks.Export.{exporting}
+use Rattle.tw_commands.specs.Looks.Information.{informing, projecting, tagging}
+use Rattle.tw_commands.specs.Reports.{reporting}
 use Rattle.tw_commands.specs.declared.effect.Effect.{Effect}
 use Rattle.tw_commands.specs.declared.effect.Effect.TheVariants.{Nothing}
 use Rattle.tw_commands.specs.declared.plan.Deed.{Deed}
@@ -89,6 +92,15 @@ plan_by command.Count request ids state = Ok (counting request state)
 plan_by command.Ids request ids state = Ok (numbering request state)
 plan_by command.Uuids request ids state = Ok (naming request state)
 plan_by command.Export request ids state = Ok (exporting request state)
+plan_by command.Information request ids state = informing request state
+plan_by command.Projects request ids state = Ok (projecting request state)
+plan_by command.Tags request ids state = Ok (tagging request state)
+plan_by command.List request ids state = Ok (reporting report.List request state)
+plan_by command.Next request ids state = Ok (reporting report.Next request state)
+plan_by command.All request ids state = Ok (reporting report.All request state)
+plan_by command.Completed request ids state = Ok (reporting report.Completed request state)
+plan_by command.Waiting request ids state = Ok (reporting report.Waiting request state)
+plan_by command.Blocked request ids state = Ok (reporting report.Blocked request state)
 plan_by _ request ids state = Err (BadWords request.line.place Unbuilt)
 
 abbrev pub unless_unnamed : Option BadWord → Result Plan Refusal → Result Plan Refusal

@@ -13,7 +13,7 @@ use Rattle.tw_commands.specs.declared.request.Request.{Request}
 abbrev pub CarriedIsApplied : Type 0
 CarriedIsApplied = (request : Request) (ids : IdWords) (old : State) (carried : Carried) → carried_out request ids old ≡ Ok carried → applied old carried.step ≡ Some carried.new
 
--- a command that makes changes is carried out, unless they close a circle: their operations fit, whatever they are
+-- a command that makes changes is carried out, unless they close a circle or a report has nothing to show: their operations fit, whatever they are
 abbrev pub ChangesAreCarriedOut : Type 0
 ChangesAreCarriedOut = (request : Request) (ids : IdWords) (old : State) (plan : Plan) (renumber : Bool) (changes : List Change) → plan_of request ids old ≡ Ok plan → plan.work ≡ Changes renumber changes
     → (new : State) × (carried_out request ids old ≡ with_text (step_in request.at old plan.work) new (concluded request plan.show old new))

@@ -6,6 +6,7 @@ pub mod Plan
 pub mod Effects
 pub mod Makes
 pub mod Looks
+pub mod Reports
 pub mod Commands
 pub mod Circles
 pub mod Searches

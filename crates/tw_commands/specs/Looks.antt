@@ -6,6 +6,7 @@ use Rattle.tw_commands.specs.Plan.Show.{Text}
 pub mod Count
 pub mod Names
 pub mod Export
+pub mod Information
 
 -- nothing is changed, and a text is printed
 abbrev pub looking : List ℕ → Plan

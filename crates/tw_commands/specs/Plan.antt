@@ -2,10 +2,12 @@
 use Rattle.std.specs.Prelude.{ℕ, Bool, List, Result, Ok, Err}
 use Rattle.tw_world.specs.declared.Moment.{Moment}
 use Rattle.tw_model.specs.Changes.{ops_of_all, group_of}
+use Rattle.tw_model.specs.Places.{Places}
 use Rattle.tw_model.specs.declared.changes.Change.{Change}
 use Rattle.tw_replica.specs.Body.{Step}
 use Rattle.tw_replica.specs.Body.Step.{Commit, Undo}
 use Rattle.tw_replica.specs.State.{State}
+use Rattle.tw_report.specs.declared.report.Report.{Report as AnyReport}
 use Rattle.tw_commands.specs.declared.plan.Deed.{Deed}
 use Rattle.tw_commands.specs.declared.plan.Plan as code
 use Rattle.tw_commands.specs.declared.plan.Work as code_work
@@ -33,6 +35,8 @@ pub data Show : Type 0 where
   TakenBack : Show
   -- this text
   Text : List ℕ → Show
+  -- a report, whose words name tasks by the numbers from before
+  Report : AnyReport → Places → Show
 
 pub record Plan : Type 0 where
   pub work : Work
@@ -54,6 +58,7 @@ show_view (show.Created uuid) = Created uuid
 show_view show.Logged = Logged
 show_view show.TakenBack = TakenBack
 show_view (show.Text text) = Text text.items
+show_view (show.Report report numbers) = Report report numbers.items
 
 abbrev pub plan_view : code.Plan → Plan
 plan_view plan = record { work = work_view plan.work; show = show_view plan.show }

@@ -5,9 +5,11 @@ use Rattle.std.specs.Fmt.{decimal}
 use Rattle.tw_model.specs.Places.{Places, id_of}
 use Rattle.tw_replica.specs.State.{State}
 use Rattle.tw_commands.specs.Plan.{Show}
-use Rattle.tw_commands.specs.Plan.Show.{Counted, Created, Logged, TakenBack, Text}
+use Rattle.tw_commands.specs.Plan.Show.{Counted, Created, Logged, TakenBack, Text, Report}
 use Rattle.tw_commands.specs.declared.plan.Deed.{Deed}
 use Rattle.tw_commands.specs.declared.plan.Deed.TheVariants.{Modified, Annotated, Denotated, Completed, Deleted, Purged, Started, Stopped, Duplicated, Imported}
+use Rattle.tw_commands.specs.Reports.{reported}
+use Rattle.tw_commands.specs.declared.request.Request.{Request}
 use Rattle.tw_commands.specs.declared.refusal.Refusal.{Refusal}
 
 -- a number between two texts
@@ -52,13 +54,14 @@ undone_text n = numbered (codes "Undone ") n (cond (n == 1) (codes " operation.\
 abbrev pub count_text : ℕ → List ℕ
 count_text n = numbered [] n (codes "\n")
 
--- the text, once the step led from one state to another
-abbrev pub shown : Show → (old new : State) → List ℕ
-shown (Counted deed n) old new = counted_text deed n
-shown (Created u) old new = created_text u new.numbers
-shown Logged old new = codes "Logged task.\n"
-shown TakenBack old new = undone_text (length old.pending - (length new.pending + 1))
-shown (Text text) old new = text
+-- the text, once the step led from one state to another; a report that has nothing to show is refused
+abbrev pub shown : Request → Show → (old new : State) → Result (List ℕ) Refusal
+shown request (Counted deed n) old new = Ok (counted_text deed n)
+shown request (Created u) old new = Ok (created_text u new.numbers)
+shown request Logged old new = Ok (codes "Logged task.\n")
+shown request TakenBack old new = Ok (undone_text (length old.pending - (length new.pending + 1)))
+shown request (Text text) old new = Ok text
+shown request (Report report before) old new = reported request report before new
 
 -- the same of what the code holds
 abbrev pub texted : Result (Vec ℕ) Refusal → Result (List ℕ) Refusal

@@ -16,19 +16,23 @@ mod duplicate;
 mod editing;
 mod export;
 mod import;
+mod information;
 mod modify;
 mod names;
 mod purge;
+pub(crate) mod report;
 mod start;
 mod texts;
 mod undo;
 
+use self::report::reporting;
 use crate::plan::{Deed, Plan};
 use crate::refusal::Refusal;
 use crate::request::{Request, view_of};
 use std::alloc::Global;
 use tw_filter::{BadWord, WordKind};
 use tw_replica::Replica;
+use tw_report::Report;
 use tw_words::{Command, first_unnamed};
 use tw_world::{IdWords, Memory};
 
@@ -55,6 +59,15 @@ fn plan_by(
         Command::Ids => return Ok(Ok(names::numbering(alloc, request, replica)?)),
         Command::Uuids => return Ok(Ok(names::naming(alloc, request, replica)?)),
         Command::Export => return Ok(Ok(export::exporting(alloc, request, replica)?)),
+        Command::Information => return information::informing(alloc, request, replica),
+        Command::Projects => return Ok(Ok(information::projecting(alloc, request, replica)?)),
+        Command::Tags => return Ok(Ok(information::tagging(alloc, request, replica)?)),
+        Command::List => return reporting(alloc, Report::List, request, replica),
+        Command::Next => return reporting(alloc, Report::Next, request, replica),
+        Command::All => return reporting(alloc, Report::All, request, replica),
+        Command::Completed => return reporting(alloc, Report::Completed, request, replica),
+        Command::Waiting => return reporting(alloc, Report::Waiting, request, replica),
+        Command::Blocked => return reporting(alloc, Report::Blocked, request, replica),
         Command::Modify | Command::Append | Command::Prepend => Deed::Modified,
         Command::Annotate => Deed::Annotated,
         Command::Denotate => Deed::Denotated,

@@ -1,5 +1,6 @@
 // What a command is to do, and what it is to print.
 use tw_model::Change;
+use tw_report::Report;
 use uuid::Uuid;
 
 /// What was done to tasks.
@@ -33,15 +34,25 @@ pub(crate) enum Work {
 #[derive(Drop)]
 pub(crate) enum Show {
     /// On how many tasks it acted.
-    Counted { deed: Deed, count: u64 },
+    Counted {
+        deed: Deed,
+        count: u64,
+    },
     /// The number of a task that was added.
-    Created { uuid: Uuid },
+    Created {
+        uuid: Uuid,
+    },
     /// That a task was logged.
     Logged,
     /// How many operations were taken back.
     TakenBack,
     /// This text.
     Text(Vec<u8>),
+    /// A report, whose words name tasks by the numbers from before.
+    Report {
+        report: Report,
+        numbers: Vec<Option<Uuid>>,
+    },
 }
 
 /// What a command is to do, and what it is to print.

@@ -13,6 +13,7 @@ ghost use Rattle.tw_commands.specs.Ready.{IsReady, NotReady};
 
 use crate::circles::{first_circle, is_judged};
 use crate::commands::plan_of;
+use crate::commands::report::reported;
 use crate::plan::{Plan, Show, Work};
 use crate::refusal::Refusal;
 use crate::request::Request;
@@ -70,20 +71,30 @@ fn prepare(
 }
 
 // The text of a command, once its step is taken in memory. Before it, so many operations were pending.
-fn shown(alloc: Global, show: Show, pending: usize, prepared: &Prepared) -> Result<Vec<u8>, Memory>
+fn shown(
+    alloc: Global,
+    request: &Request<'_>,
+    show: Show,
+    pending: usize,
+    prepared: &Prepared,
+) -> Result<Result<Vec<u8>, Refusal>, Memory>
     ensures { IfOk result (λ text. (old : State) → pending ≡ length old.pending
-        → text.items ≡ shown (show_view show) old (prepared_state prepared.now)) }
+        → texted text ≡ shown request.now (show_view show) old (prepared_state prepared.now)) }
 {
-    match show {
-        Show::Counted { deed, count } => counted_text(alloc, deed, count),
-        Show::Created { uuid } => created_text(alloc, uuid, prepared.numbers()),
-        Show::Logged => logged_text(alloc),
+    let text = match show {
+        Show::Counted { deed, count } => counted_text(alloc, deed, count)?,
+        Show::Created { uuid } => created_text(alloc, uuid, prepared.numbers())?,
+        Show::Logged => logged_text(alloc)?,
         Show::TakenBack => {
             let left = prepared.pending().len() + 1;
-            undone_text(alloc, pending.saturating_sub(left) as u64)
+            undone_text(alloc, pending.saturating_sub(left) as u64)?
         }
-        Show::Text(text) => Ok(text),
-    }
+        Show::Text(text) => text,
+        Show::Report { report, numbers } => {
+            return reported(alloc, request, report, &numbers, prepared);
+        }
+    };
+    Ok(Ok(text))
 }
 
 // The first circle that a command closes. Before its step, so many operations were pending.
@@ -117,7 +128,7 @@ fn concluded(
     if let Some(uuid) = circle_in(alloc, request, pending, prepared)? {
         return Ok(Err(Refusal::Cycle { uuid }));
     }
-    Ok(Ok(shown(alloc, show, pending, prepared)?))
+    shown(alloc, request, show, pending, prepared)
 }
 
 /// Makes in memory what a request comes to in a replica, with its text, or says why the command does nothing.

@@ -1,6 +1,7 @@
 // What commands come to in a replica in memory.
 mod circles;
 mod imports;
+mod reports;
 mod statuses;
 
 use crate::{Input, Ready, Refusal, Request, decide};

@@ -156,6 +156,32 @@ const CIRCLED: [(&str, u8, &str); 9] = [
     ("1|modify|depends:2", 0, "Modified 1 task."),
 ];
 
+// A report packs the numbers, and names tasks in its words by those from before.
+const REPORTED: [(&str, u8, &str); 10] = [
+    ("list", 1, "task: no matches"),
+    ("add|Buy|milk", 0, "Created task 1."),
+    (
+        "list",
+        0,
+        "ID Project Pri Due Description\n 1                 Buy milk\n\n1 task",
+    ),
+    (
+        "next",
+        0,
+        "ID   Urg Project Due Description\n 1 0.000             Buy milk\n\n1 task",
+    ),
+    ("9|information", 1, "task: no matches"),
+    ("add|Call|Ann|project:Home|+phone", 0, "Created task 2."),
+    ("1|done", 0, "Completed 1 task."),
+    ("projects", 0, "Home 1"),
+    (
+        "2|list",
+        0,
+        "ID Project Pri Due Description\n 1 Home            Call Ann\n\n1 task",
+    ),
+    ("2|list", 1, "task: no matches"),
+];
+
 #[test]
 fn commands_follow_each_other(rt: HostRuntime) -> Result<(), Fail> {
     let alloc = rt.alloc();
@@ -163,7 +189,8 @@ fn commands_follow_each_other(rt: HostRuntime) -> Result<(), Fail> {
     follow(&rt, alloc, &FILTERED)?;
     follow(&rt, alloc, &LIVED)?;
     follow(&rt, alloc, &EXPORTED)?;
-    follow(&rt, alloc, &CIRCLED)
+    follow(&rt, alloc, &CIRCLED)?;
+    follow(&rt, alloc, &REPORTED)
 }
 
 // Runs a line that is carried out.

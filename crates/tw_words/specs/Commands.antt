@@ -75,14 +75,5 @@ rest_of command = (form_of command).rest
 
 -- whether the program carries a command out
 abbrev pub is_built : Command → Bool
-is_built Information = false
-is_built Projects = false
-is_built Tags = false
-is_built command.List = false
-is_built Next = false
-is_built All = false
-is_built Completed = false
-is_built Waiting = false
-is_built Blocked = false
 is_built Generate = false
 is_built _ = true

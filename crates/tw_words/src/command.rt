@@ -214,16 +214,7 @@ impl Command {
         ensures { result ≡ is_built self }
     {
         match self {
-            Command::Information
-            | Command::Projects
-            | Command::Tags
-            | Command::List
-            | Command::Next
-            | Command::All
-            | Command::Completed
-            | Command::Waiting
-            | Command::Blocked
-            | Command::Generate => false,
+            Command::Generate => false,
             _ => true,
         }
     }

@@ -64,13 +64,13 @@ count|) > 1 Bracket
 rc.gc:off|count|) > 2 Bracket
 count|project.a.b:x > 1 Modifier
 due:never|done|x > 0 Date
-list > 0 Unbuilt
-list|( > 0 Unbuilt
+list > right
+list|( > 2 End
 )|list > 0 Bracket
 x|import|y > 0 Extra
 import|x > 1 Extra
 _generate|0|0 > 0 Unbuilt
-1|--|done > 0 Unbuilt";
+1|--|done > right";
 
 fn text_of<T: Drop>(alloc: Global, judged: Result<T, WordError>) -> Result<String, Memory> {
     match judged {
@@ -100,7 +100,7 @@ fn a_date_is_no_fault_without_a_moment(rt: HostRuntime) -> Result<(), Fail> {
     let text = text_of(alloc, read_line(alloc, &words))?;
     assert_eq!(rt; text.as_str(), "3 Attribute");
     let text = text_of(alloc, read_line(alloc, &Vec::new(alloc)))?;
-    assert_eq!(rt; text.as_str(), "0 Unbuilt");
+    assert_eq!(rt; text.as_str(), "right");
     let words = words_of(alloc, "add|x|due:never")?;
     let text = text_of(alloc, read_line(alloc, &words))?;
     assert_eq!(rt; text.as_str(), "right");
