@@ -1,10 +1,11 @@
 -- Bytes that are read or written at a place in several calls.
 use Rattle.std.proofs.Common.{◌≡◌, ℕ, ◌+◌, ◌≤◌, List, [], ◌++◌, None, Some, length, take, drop, refl, sym, ap, ◌∙◌, arith, append_assoc, append-nil, length-append, length-drop, length-take-le, take-append-drop}
-use Rattle.std.proofs.lemmas.List.{take_at, drop_at, drop-drop, length-take}
+use Rattle.std.proofs.lemmas.List.{take_at, drop_at, drop-drop, drop_all, length-take, length-replicate}
 use Rattle.std.proofs.Math.Seq.{take-add}
-use Rattle.std.specs.Prelude.{Option}
-use Rattle.tw_world.specs.Disk.{overwritten}
-use Rattle.tw_files.specs.PlacedFile.{Holds, Overwrites}
+use Rattle.std.specs.Prelude.{Option, replicate, ◌-◌}
+use Rattle.tw_world.specs.Disk.{overwritten, resized}
+use Rattle.tw_files.specs.PlacedFile.{Holds, Overwrites, Resizes}
+use Rattle.tw_files.specs.FolderFiles.{HasBytes}
 
 pub Holds-nil : (held : Option (List ℕ)) (at : ℕ) → Holds held at []
 Holds-nil None at = tt
@@ -20,7 +21,7 @@ Holds-more (Some held) at behind p q place first second =
     ∙ ap (λ n. take n (drop at held)) (sym (length-append p q))
 
 pub Overwrites-nil : (held : Option (List ℕ)) (at : ℕ) → Overwrites held held at []
-Overwrites-nil None at = tt
+Overwrites-nil None at = refl
 Overwrites-nil (Some held) at = λ room.
     let same : at + 0 ≡ at = omega arith in
     sym (ap (λ l. l ++ drop (at + 0) held) (append-nil (take at held)) ∙ ap (λ n. take at held ++ drop n held) same ∙ take-append-drop at held)
@@ -47,7 +48,11 @@ two_parts at a b held room =
 
 -- what is written behind other bytes is written with them
 pub Overwrites-more : (a b c : Option (List ℕ)) (at behind : ℕ) (p q : List ℕ) → behind ≡ at + length p → Overwrites a b at p → Overwrites b c behind q → Overwrites a c at (p ++ q)
-Overwrites-more None b c at behind p q place first second = tt
+Overwrites-more None b c at behind p q place first second = unknown b c behind q first second
+  where
+    unknown : (b c : Option (List ℕ)) (behind : ℕ) (q : List ℕ) → b ≡ None → Overwrites b c behind q → c ≡ None
+    unknown None c behind q first second = second
+    unknown (Some y) c behind q first second = absurd (cc)
 Overwrites-more (Some x) None c at behind p q place first second = absurd first
 Overwrites-more (Some x) (Some y) None at behind p q place first second = absurd second
 Overwrites-more (Some x) (Some y) (Some z) at behind p q place first second = λ room.
@@ -55,3 +60,21 @@ Overwrites-more (Some x) (Some y) (Some z) at behind p q place first second = λ
     let now : y ≡ overwritten at p x = first (omega (arith, fits)) in
     let long : length y ≡ length x = ap length now ∙ length-overwritten at p x (omega (arith, fits)) in
     second (omega (arith, fits, long, place)) ∙ ap (λ n. overwritten n q y) place ∙ ap (overwritten (at + length p) q) now ∙ two_parts at p q x fits
+
+length-resized : (len : ℕ) (held : List ℕ) → length (resized len held) ≡ len
+length-resized len held = omega (arith, length-append (take len held) (replicate (len - length held) 0), length-take len held, length-replicate {A = ℕ} (len - length held) 0)
+
+-- a file that was cut to the length of bytes, and written over by them, has these bytes alone
+pub written_whole : (a b c : Option (List ℕ)) (bytes : List ℕ) → Resizes a b (length bytes) → Overwrites b c 0 bytes → HasBytes c bytes
+written_whole None b c bytes sized written = unknown b c sized written
+  where
+    unknown : (b c : Option (List ℕ)) → b ≡ None → Overwrites b c 0 bytes → HasBytes c bytes
+    unknown None None sized written = λ x is. absurd (cc)
+    unknown None (Some z) sized written = absurd (cc)
+    unknown (Some y) c sized written = absurd (cc)
+written_whole (Some x) None c bytes sized written = absurd sized
+written_whole (Some x) (Some y) None bytes sized written = absurd written
+written_whole (Some x) (Some y) (Some z) bytes sized written =
+    let long : length y ≡ length bytes = ap length sized ∙ length-resized (length bytes) x in
+    let all : z ≡ bytes = written (omega (arith, long)) ∙ ap (λ (l : List ℕ). bytes ++ l) (drop_all (0 + length bytes) y (omega (arith, long))) ∙ append-nil bytes in
+    λ v is. let same : v ≡ z = cc in same ∙ all

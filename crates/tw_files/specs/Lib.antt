@@ -6,3 +6,5 @@ pub mod StreamSource
 pub mod Folders
 pub mod Waits
 pub mod Asked
+pub mod FileFolder
+pub mod FolderFiles

@@ -18,12 +18,12 @@ Holds (Some held) at bytes = bytes ≡ take (length bytes) (drop at held)
 
 -- these bytes were written over what stood at a place inside
 abbrev pub Overwrites : (old new : Option (List ℕ)) → ℕ → List ℕ → Type 0
-Overwrites None new at bytes = Unit {0}
+Overwrites None new at bytes = new ≡ None
 Overwrites (Some old) None at bytes = ⊥
 Overwrites (Some old) (Some new) at bytes = at + length bytes ≤ length old → new ≡ overwritten at bytes old
 
 -- it was cut to a length, or zeros were added up to it
 abbrev pub Resizes : (old new : Option (List ℕ)) → ℕ → Type 0
-Resizes None new len = Unit {0}
+Resizes None new len = new ≡ None
 Resizes (Some old) None len = ⊥
 Resizes (Some old) (Some new) len = new ≡ resized len old

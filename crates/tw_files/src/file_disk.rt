@@ -19,7 +19,7 @@ pub struct FileDisk<F: PlacedFile> {
 }
 
 // Fills `out` with the bytes from `at` on, and answers whether the file had them.
-fn read_whole<F: PlacedFile>(file: &F, at: u64, out: &mut [u8]) -> bool
+pub(crate) fn read_whole<F: PlacedFile>(file: &F, at: u64, out: &mut [u8]) -> bool
     requires { at + length out.old < 2 ^ 64 }
     ensures { IsTrue result → Holds (F.contents file.now) at out.new }
 {
@@ -34,10 +34,11 @@ fn read_whole<F: PlacedFile>(file: &F, at: u64, out: &mut [u8]) -> bool
 }
 
 // Writes all the bytes from `at` on, and answers whether that was possible.
-fn write_whole<F: PlacedFile>(file: &mut F, at: u64, bytes: &[u8]) -> bool
+pub(crate) fn write_whole<F: PlacedFile>(file: &mut F, at: u64, bytes: &[u8]) -> bool
     requires { at + length bytes.now < 2 ^ 64 }
     ensures whole { IsTrue result → Overwrites (F.contents file.old) (F.contents file.new) at bytes.now }
     ensures len { KeepsLength (F.contents file.old) (F.contents file.new) (at + length bytes.now) }
+    ensures at { (path : List ℕ) → F.is_at file.old path → F.is_at file.new path }
 {
     let mut done = 0;
     while done < bytes.len() {

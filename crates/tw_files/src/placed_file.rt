@@ -41,12 +41,14 @@ pub trait PlacedFile {
     fn write_some(&mut self, bytes: &[u8], at: u64) -> io::Result<usize>
         ensures bound { WritesAtMost result bytes.now }
         ensures bytes { IfOk result (λ count. Overwrites (contents self.old) (contents self.new) at (take count bytes.now)) }
-        ensures len { KeepsLength (contents self.old) (contents self.new) (at + length bytes.now) };
+        ensures len { KeepsLength (contents self.old) (contents self.new) (at + length bytes.now) }
+        ensures at { (path : List ℕ) → is_at self.old path → is_at self.new path };
 
     fn resize(&mut self, len: u64) -> io::Result<()>
         ensures resized { OnOk result (Resizes (contents self.old) (contents self.new) len) }
         ensures len { OnOk result (HasLength (contents self.new) len) }
-        ensures kept { OnErr result (KeepsLength (contents self.old) (contents self.new) 0) };
+        ensures kept { OnErr result (KeepsLength (contents self.old) (contents self.new) 0) }
+        ensures at { (path : List ℕ) → is_at self.old path → is_at self.new path };
 
     fn stabilize(&mut self) -> io::Result<()>
         ensures stable { OnOk result (is_stable self.new) }

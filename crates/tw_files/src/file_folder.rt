@@ -1,0 +1,224 @@
+// A folder of the system.
+ghost use Rattle.std.specs.Prelude.{◌≡◌, ◌≤◌, List, ℕ, Some, option_map, string_bytes, IfOk, IfErr, OnOk};
+ghost use Rattle.std.specs.FinMap.{insert};
+ghost use Rattle.tw_world.specs.Disk.{Rose};
+ghost use Rattle.tw_world.specs.Crash.{Tells, Settled, Steps};
+ghost use Rattle.tw_world.specs.Folder.{Replaced};
+ghost use Rattle.tw_files.specs.FolderFiles.{HasBytes, path_in};
+
+use crate::file_disk::{read_whole, write_whole};
+use crate::folder_files::FolderFiles;
+use crate::folders::{Folders, settle_way};
+use crate::placed_file::PlacedFile;
+use std::alloc::{AllocError, Global};
+use std::io;
+use tw_world::{Folder, FolderError};
+
+/// The longest file that is read; a longer one counts as a failure.
+const MAX_LEN: u64 = 67_108_864;
+
+// The name of the file that a new one has before it takes its place.
+const TEMPORARY: &str = ".new";
+
+/// A folder of the system, by its path, and how often it has failed. It tells nothing of what it holds.
+#[derive(Drop)]
+pub struct FileFolder<S: FolderFiles> {
+    alloc: Global,
+    system: S,
+    path: String,
+    faults: u64,
+}
+
+fn path_in(alloc: Global, folder: &str, name: &str) -> Result<String, AllocError>
+    ensures { IfOk result (λ path. string_bytes path ≡ path_in folder.now name.now) }
+{
+    let mut path = String::from_str(alloc, folder)?;
+    path.push('/')?;
+    path.push_str(name)?;
+    Ok(path)
+}
+
+// All bytes of a file that is not too long.
+fn bytes_of<F: PlacedFile>(alloc: Global, file: &F) -> io::Result<Vec<u8>>
+    ensures { IfOk result (λ bytes. HasBytes (F.contents file.now) bytes.items) }
+{
+    let len = file.byte_len()?;
+    if len > MAX_LEN {
+        return Err(io::Error::from(io::ErrorKind::FileTooLarge));
+    }
+    let mut bytes = vec![in alloc; 0u8; len as usize]?;
+    if !read_whole(file, 0, &mut bytes) {
+        return Err(io::Error::from(io::ErrorKind::UnexpectedEof));
+    }
+    Ok(bytes)
+}
+
+impl<S: FolderFiles> FileFolder<S> {
+    /// The folder of a path, which is there. Its names are made stable: an earlier run may have ended before it did that.
+    pub fn open(alloc: Global, system: S, path: &str) -> io::Result<FileFolder<S>>
+    where
+        S: Drop,
+        ensures settled { IfOk result (λ folder. S.is_settled folder.system path.now) }
+        ensures path { IfOk result (λ folder. string_bytes folder.path ≡ path.now) }
+    {
+        let mut system = system;
+        let owned = String::from_str(alloc, path)?;
+        system.settle_names(path)?;
+        Ok(FileFolder {
+            alloc,
+            system,
+            path: owned,
+            faults: 0,
+        })
+    }
+
+    // Counts a fault.
+    fn fail(&mut self) -> FolderError
+        ensures failed { result ≡ FolderError.Failed }
+        ensures counted { Rose self.old.faults self.new.faults }
+        ensures later { self.old.faults ≤ self.new.faults }
+        ensures system { self.new.system ≡ self.old.system }
+        ensures path { self.new.path ≡ self.old.path }
+    {
+        self.faults = self.faults.saturating_add(1);
+        FolderError::Failed
+    }
+
+    // The bytes of a file, or `None` where there is none; an error where it fails.
+    fn file_bytes(&mut self, alloc: Global, name: &str) -> io::Result<Option<Vec<u8>>>
+        ensures has { IfOk result (λ file. S.has self.new.system (path_in (string_bytes self.old.path) name.now) (option_map (λ bytes. bytes.items) file)) }
+        ensures path { self.new.path ≡ self.old.path }
+        ensures faults { self.new.faults ≡ self.old.faults }
+    {
+        let path = path_in(alloc, self.path.as_str(), name)?;
+        match self.system.open(path.as_str())? {
+            None => Ok(None),
+            Some(file) => Ok(Some(bytes_of(alloc, &file)?)),
+        }
+    }
+
+    // Writes a new file, makes it stable, gives it the name and makes that stable.
+    fn put(&mut self, name: &str, bytes: &[u8]) -> io::Result<()>
+        ensures has { OnOk result (S.has self.new.system (path_in (string_bytes self.old.path) name.now) (Some bytes.now)) }
+        ensures settled { OnOk result (S.is_settled self.new.system (string_bytes self.old.path)) }
+        ensures path { self.new.path ≡ self.old.path }
+        ensures faults { self.new.faults ≡ self.old.faults }
+    {
+        let new = path_in(self.alloc, self.path.as_str(), TEMPORARY)?;
+        let path = path_in(self.alloc, self.path.as_str(), name)?;
+        let from = new.as_str();
+        let to = path.as_str();
+        let mut file = self.system.make(from)?;
+        file.resize(bytes.len() as u64)?;
+        if !write_whole(&mut file, 0, bytes) {
+            return Err(io::Error::from(io::ErrorKind::WriteZero));
+        }
+        file.stabilize()?;
+        self.system.rename(file, from, to)?;
+        self.system.settle_names(self.path.as_str())
+    }
+}
+
+impl<S: FolderFiles> Folder for FileFolder<S> {
+    ghost use Rattle.tw_files.specs.FileFolder.{folder_model};
+    ghost use Rattle.tw_files.specs.FileDisk.{none_told};
+
+    ghost model = { folder_model };
+
+    ghost seen_may_stay = { λ folder tells. none_told tells };
+
+    ghost counts_now = { λ folder t c le left. left };
+
+    ghost only_now = { λ folder c left. left };
+
+    fn names(&mut self, alloc: Global) -> Result<Vec<String>, FolderError> {
+        match self.system.list(alloc, self.path.as_str()) {
+            Ok(names) => {
+                let mut names = names;
+                if names.sort().is_err() {
+                    return Err(FolderError::Memory);
+                }
+                Ok(names)
+            }
+            Err(error) if error.kind() == io::ErrorKind::OutOfMemory => Err(FolderError::Memory),
+            Err(_) => Err(self.fail()),
+        }
+    }
+
+    fn read(&mut self, alloc: Global, name: &str) -> Result<Option<Vec<u8>>, FolderError> {
+        match self.file_bytes(alloc, name) {
+            Ok(file) => Ok(file),
+            Err(error) if error.kind() == io::ErrorKind::OutOfMemory => Err(FolderError::Memory),
+            Err(_) => Err(self.fail()),
+        }
+    }
+
+    fn replace(&mut self, name: &str, bytes: &[u8]) -> Result<(), FolderError>
+        ensures replaced { OnOk result (Tells folder_model self.old → folder_model.seen self.new ≡ insert (folder_model.seen self.old) name.now bytes.now) }
+        ensures settled { OnOk result (Tells folder_model self.old → Settled folder_model self.new) }
+        ensures all_or_nothing { Tells folder_model self.old → Replaced name.now bytes.now (folder_model.seen self.old) (folder_model.seen self.new) }
+        ensures steps { Steps folder_model (Replaced name.now bytes.now) self.old self.new }
+        ensures failed { IfErr result (λ e. (e ≡ FolderError.Failed) × Rose self.old.faults self.new.faults) }
+
+        // The system has the bytes under the name, and the name is stable.
+        ensures has { OnOk result (S.has self.new.system (path_in (string_bytes self.old.path) name.now) (Some bytes.now)) }
+        ensures stable { OnOk result (S.is_settled self.new.system (string_bytes self.old.path)) }
+    {
+        match self.put(name, bytes) {
+            Ok(()) => Ok(()),
+            Err(_) => Err(self.fail()),
+        }
+    }
+}
+
+/// Opens a folder, which is made, with those on the way to it, where it is not there. All of them are made stable, since the
+/// run that made them may have ended before it did that.
+pub fn open_folder<S: Folders + FolderFiles + Drop>(
+    alloc: Global,
+    system: S,
+    path: &str,
+) -> io::Result<FileFolder<S>> {
+    let mut system = system;
+    system.make_folder(path)?;
+    settle_way(&mut system, path)?;
+    FileFolder::open(alloc, system, path)
+}
+
+#[cfg(test)]
+mod tests {
+    use super::*;
+    use std::test::Fail;
+
+    #[test]
+    fn a_folder_holds_what_is_put_into_it_and_counts_its_faults(
+        rt: HostRuntime,
+    ) -> Result<(), Fail> {
+        let alloc = rt.alloc();
+        let mut folder = open_folder(alloc, &rt, "a_folder/deep")?;
+        assert_eq!(rt; folder.replace("b", b"one"), Ok(()));
+        assert_eq!(rt; folder.replace("a", b""), Ok(()));
+        assert_eq!(rt; folder.replace("b", b"four"), Ok(()));
+        let Ok(names) = folder.names(alloc) else {
+            return Err(Fail::from("no names"));
+        };
+        assert_eq!(rt; names.len(), 2);
+        assert_eq!(rt; names[0].as_str(), "a");
+        assert_eq!(rt; names[1].as_str(), "b");
+        match folder.read(alloc, "b") {
+            Ok(Some(bytes)) => assert_eq!(rt; bytes.as_slice(), b"four".as_slice()),
+            _ => assert!(rt; false),
+        }
+        match folder.read(alloc, "c") {
+            Ok(None) => {}
+            _ => assert!(rt; false),
+        }
+        assert_eq!(rt; folder.faults, 0);
+        let _ = open_folder(alloc, &rt, "a_folder/deep/d")?;
+        match folder.read(alloc, "d") {
+            Err(error) => assert_eq!(rt; error, FolderError::Failed),
+            Ok(_) => assert!(rt; false),
+        }
+        assert_eq!(rt; folder.faults, 1);
+        Ok(())
+    }
+}
