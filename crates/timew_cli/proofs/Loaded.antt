@@ -1,0 +1,240 @@
+-- A command over what was loaded, seen from before the loading.
+use Rattle.std.proofs.Common.{◌≡◌, inl, inr, ℕ, ◌+◌, ◌<◌, ◌≤◌, ◌^◌, true, false, List, [], ◌∷◌, ◌++◌, ◌⊎◌, length, take, Option, Some, None, Result, Ok, Err, refl, sym, ap, subst, ◌∙◌, arith}
+use Rattle.std.specs.Prelude.{slice_index_or, Bool}
+use Rattle.std.proofs.lemmas.List.{append-nil, length-append}
+use Rattle.jiff.specs.Types.{TimeZone}
+use Rattle.tw_world.specs.Disk.{DiskModel, Rose}
+use Rattle.tw_world.specs.Disk as disk
+use Rattle.tw_world.specs.Crash.{Tells, Settled, Kept}
+use Rattle.tw_world.specs.Folder.{Files, FolderModel}
+use Rattle.tw_world.specs.Turns.{InTurns, crash_of}
+use Rattle.tw_world.proofs.TurnRules.{turns_weaker, turns_joined}
+use Rattle.tw_journal.specs.Record.{rows}
+use Rattle.tw_journal.specs.Open.{Records, IsFault, IsDamagedAt}
+use Rattle.tw_journal.specs.Journal.{is_closed}
+use Rattle.tw_journal.specs.declared.journal.JournalError.{JournalError}
+use Rattle.tw_journal.specs.declared.journal.JournalError.TheVariants as fault
+use Rattle.tw_journal.proofs.Unique.{one_records}
+use Rattle.timew_store.specs.Body.{FileChange, step_of}
+use Rattle.timew_store.specs.History.{History, Stands}
+use Rattle.timew_store.specs.Held.{magic, Held, OpensTo, IsAtRest, held_by}
+use Rattle.timew_store.specs.Loading.{OpensAlike, OpeningRefused, IsNoStep, EndsInNoStep, HoldsNoStep}
+use Rattle.timew_store.specs.Rows.{rows_of}
+use Rattle.timew_store.specs.Store.{IsStoreOn, IsLoadedStore, LoadRefused, IsLoadFault, RestHolding, rows_kept}
+use Rattle.timew_store.specs.declared.interval.Interval.{Interval}
+use Rattle.timew_store.specs.declared.store.Store.{Store}
+use Rattle.timew_store.specs.declared.error.LoadError.{LoadError}
+use Rattle.timew_store.specs.declared.error.LoadError.TheVariants as load
+use Rattle.timew_cmd.specs.declared.command.Command.{Command}
+use Rattle.timew_cli.specs.Cause.{load_cause, journal_cause}
+use Rattle.timew_cli.specs.Carried.{Carried, carried_by, carried_out, with_rows}
+use Rattle.timew_cli.specs.Run.{Outside, went, HasSize, HoldsNoStepAt, Opens, HoldsMore, Does, CarriedOut, Refused, PassesLimit, NotCarried, CanBeCarriedOut, LeavesOf, LeavesStates}
+use Rattle.timew_cli.specs.Step.{Rests, EndsBadly, Ends, EndsWith, IsFaultOf, Among, IsTooLong}
+use Rattle.timew_cli.specs.declared.cause.Cause.{Cause}
+use Rattle.timew_cli.specs.declared.cause.Cause.TheVariants as causes
+
+-- where the last record holds no step, a record holds none
+ends_at : (file : List ℕ) (offset : ℕ) → HoldsNoStep file offset → HoldsNoStepAt file offset
+ends_at file offset holds = record {
+  bodies = holds.bodies;
+  records = holds.records;
+  number = length holds.end.front;
+  inside = omega (arith, ap length holds.end.split, length-append holds.end.front (holds.end.body ∷ []));
+  none = (
+    ap step_of (ap (λ (l : List (List ℕ)). slice_index_or l (length holds.end.front) []) holds.end.split ∙ last_of holds.end.front holds.end.body) ∙ holds.end.none,
+    holds.end.place ∙ sym (ap (λ (l : List (List ℕ)). length (rows (magic ∷ l))) (ap (take (length holds.end.front)) holds.end.split ∙ first_of holds.end.front (holds.end.body ∷ []))),
+  );
+}
+  where
+    last_of : (front : List (List ℕ)) (body : List ℕ) → slice_index_or (front ++ body ∷ []) (length front) [] ≡ body
+    last_of [] body = refl
+    last_of (b ∷ front) body = last_of front body
+
+    first_of : (front back : List (List ℕ)) → take (length front) (front ++ back) ≡ front
+    first_of [] back = refl
+    first_of (b ∷ front) back = ap (λ (l : List (List ℕ)). b ∷ l) (first_of front back)
+
+module _ {F D : Type 0} (m : FolderModel F) (n : DiskModel D) (command : Command) (now : ℕ) (zone : TimeZone) where
+  pub still_among : (w : Outside F D) (held : Held) (r : Result Carried Cause) (x : Files) (y : List ℕ) → OpensAlike m n w.f0 w.d0 x y → LeavesOf m n command now zone w held r x y
+  still_among w held (Ok carried) x y alike = inl alike
+  still_among w held (Err cause) x y alike = inl alike
+
+  -- ---- where nothing was loaded
+
+  module _ (f0 f1 : F) (d0 d1 : D) where
+    pub load_ends : (e : LoadError) → LoadRefused m n f0 f1 d0 d1 e → NotCarried m n command now zone (went f0 f1 d0 d1) (load_cause e)
+    load_ends load.Folder r = r
+    load_ends (load.Journal fault.Disk) r = r
+    load_ends (load.Journal fault.Memory) r = tt
+    load_ends (load.Journal (fault.Damaged offset)) r = λ told settled tells. of_either (r tells)
+      where
+        of_either : IsDamagedAt magic (n.seen d0) offset ⊎ HoldsNoStep (n.seen d0) offset → IsDamagedAt magic (n.seen d0) offset ⊎ HoldsNoStepAt (n.seen d0) offset
+        of_either (inl damaged) = inl damaged
+        of_either (inr none) = inr (ends_at (n.seen d0) offset none)
+    load_ends (load.Journal (fault.TooLong bytes)) r = absurd r
+    load_ends (load.Journal fault.Closed) r = absurd r
+    load_ends (load.BadLine file line) r = λ held opens.
+        let bad = r opens.told opens.settled opens.tells held opens.opens in (
+          ap (λ (found : Result (List Interval) (List ℕ × ℕ)). with_rows command held found now zone) bad.0,
+          record {
+            bodies = bad.1.bodies;
+            had = bad.1.had;
+            journal = bad.1.journal;
+            history = bad.1.history;
+            rest = subst (λ (b : List (List ℕ)). IsAtRest m n bad.1.journal f1 d1 b bad.1.history) (sym (append-nil bad.1.bodies)) bad.1.rest;
+            holds = bad.1.holds;
+          },
+        )
+    load_ends load.Memory r = tt
+
+    pub load_wants : (e : LoadError) → LoadRefused m n f0 f1 d0 d1 e → ((held : Held) → disk.Tells n d0 → OpensTo (m.seen f0) (n.seen d0) held → IsLoadFault e) → CanBeCarriedOut m n command now zone (went f0 f1 d0 d1) → load_cause e ≡ causes.Memory
+    load_wants load.Folder r sound can = absurd (can.folder_well r)
+    load_wants (load.Journal fault.Disk) r sound can = absurd (can.disk_well r)
+    load_wants (load.Journal fault.Memory) r sound can = refl
+    load_wants (load.Journal (fault.Damaged offset)) r sound can = absurd (sound can.held can.opens.tells can.opens.opens)
+    load_wants (load.Journal (fault.TooLong bytes)) r sound can = absurd r
+    load_wants (load.Journal fault.Closed) r sound can = absurd r
+    load_wants (load.BadLine file line) r sound can =
+        let bad = r can.opens.told can.opens.settled can.opens.tells can.held can.opens.opens in
+        absurd (apart (sym can.is ∙ ap (λ (found : Result (List Interval) (List ℕ × ℕ)). with_rows command can.held found now zone) bad.0))
+      where
+        apart : Ok can.carried ≡ Err (causes.BadLine file line) → ⊥
+        apart e = cc
+    load_wants load.Memory r sound can = refl
+
+    pub load_leaves : (Tells m f0 → Settled m f0 → disk.Tells n d0 → InTurns m (crash_of n) (OpensAlike m n f0 d0) f0 d0 f1 d1) → LeavesStates m n command now zone (went f0 f1 d0 d1)
+    load_leaves run held opens =
+        turns_weaker m (crash_of n) (OpensAlike m n f0 d0) (LeavesOf m n command now zone (went f0 f1 d0 d1) held (carried_out command held now zone)) (λ x y alike. still_among (went f0 f1 d0 d1) held (carried_out command held now zone) x y alike) f0 d0 f1 d1 (run opens.told opens.settled opens.tells)
+
+  -- ---- where a store was loaded
+
+  module _ (store : Store) (f0 f1 f2 : F) (d0 d1 d2 : D) (loaded : Tells m f0 → Settled m f0 → disk.Tells n d0 → IsLoadedStore m n f0 f1 d0 d1 store) (held : Held) (opens : Opens m n f0 d0 held) where
+    abbrev pub is_loaded : IsLoadedStore m n f0 f1 d0 d1 store
+    is_loaded = loaded opens.told opens.settled opens.tells
+
+    stands : Stands is_loaded.bodies opens.opens.history
+    stands = subst (λ (b : List (List ℕ)). Stands b opens.opens.history) (one_records magic (n.seen d0) opens.opens.bodies is_loaded.bodies opens.opens.records is_loaded.records) opens.opens.stands
+
+    on : IsStoreOn m n store f1 d1 is_loaded.bodies opens.opens.history
+    on = is_loaded.on opens.opens.history stands
+
+    files_same : m.seen f1 ≡ held.files
+    files_same = is_loaded.finished_now opens.opens.history stands ∙ opens.opens.files_are
+
+    held_same : held_by m f1 opens.opens.history ≡ held
+    held_same =
+        ap (λ (s : Files). let h : Held = record { files = s; undoable = opens.opens.history.undoable } in h) files_same
+        ∙ ap (λ (u : List (List FileChange)). let h : Held = record { files = held.files; undoable = u } in h) opens.opens.undoable_are
+
+    expected_same : carried_by command (held_by m f1 opens.opens.history) (rows_kept store) now zone ≡ carried_out command held now zone
+    expected_same =
+        ap (λ (h : Held). carried_by command h (rows_kept store) now zone) held_same
+        ∙ sym (ap (λ (found : Result (List Interval) (List ℕ × ℕ)). with_rows command held found now zone) (ap rows_of (sym files_same) ∙ on.months.rows_are))
+
+    abbrev pub w : Outside F D
+    w = went f0 f2 d0 d2
+
+    more : (adds : List (List ℕ)) (after : Held) → Rests m n f2 d2 (is_loaded.bodies ++ adds) after → HoldsMore m n w adds after
+    more adds after rest = record { bodies = is_loaded.bodies; had = is_loaded.records; journal = rest.journal; history = rest.history; rest = rest.rest; holds = rest.holds }
+
+    stays : Rests m n f2 d2 is_loaded.bodies (held_by m f1 opens.opens.history) → HoldsMore m n w [] held
+    stays rest = more [] held (subst (λ (b : List (List ℕ)). Rests m n f2 d2 b held) (sym (append-nil is_loaded.bodies)) (subst (λ (h : Held). Rests m n f2 d2 is_loaded.bodies h) held_same rest))
+
+    pub does : (text : List ℕ) → EndsWith m n (went f1 f2 d1 d2) (carried_by command (held_by m f1 opens.opens.history) (rows_kept store) now zone) is_loaded.bodies text → Does m n command now zone w held text
+    does text ends = record { carried = ends.carried; is = sym expected_same ∙ ends.is; text_is = ends.text_is; after = more ends.carried.adds ends.carried.held ends.after }
+
+    refused : (cause : Cause) → (carried_by command (held_by m f1 opens.opens.history) (rows_kept store) now zone ≡ Err cause) × Rests m n f2 d2 is_loaded.bodies (held_by m f1 opens.opens.history)
+        → (carried_out command held now zone ≡ Err cause) × HoldsMore m n w [] held
+    refused cause r = (sym expected_same ∙ r.0, stays r.1)
+
+    passes : (bytes : ℕ) → IsTooLong m n (went f1 f2 d1 d2) (carried_by command (held_by m f1 opens.opens.history) (rows_kept store) now zone) is_loaded.bodies (held_by m f1 opens.opens.history) bytes → PassesLimit m n command now zone w held bytes
+    passes bytes r = record { carried = r.carried; is = sym expected_same ∙ r.is; size = r.size; stays = stays r.stays }
+
+  -- ---- whatever is held
+
+  among_leaves : (w : Outside F D) (held : Held) (r : Result Carried Cause) (x : Files) (y : List ℕ) → Among held r x y → LeavesOf m n command now zone w held r x y
+  among_leaves w held (Ok carried) x y among = inr among
+  among_leaves w held (Err cause) x y among = inr among
+
+  module _ (store : Store) (f0 f1 f2 : F) (d0 d1 d2 : D) (loaded : Tells m f0 → Settled m f0 → disk.Tells n d0 → IsLoadedStore m n f0 f1 d0 d1 store) where
+    pub step_done : (text : List ℕ)
+        → ((bodies : List (List ℕ)) (history : History) → IsStoreOn m n store f1 d1 bodies history → EndsWith m n (went f1 f2 d1 d2) (carried_by command (held_by m f1 history) (rows_kept store) now zone) bodies text)
+        → CarriedOut m n command now zone (went f0 f2 d0 d2) text
+    step_done text ends held opens = does store f0 f1 f2 d0 d1 d2 loaded held opens text (ends (is_loaded store f0 f1 f2 d0 d1 d2 loaded held opens).bodies opens.opens.history (on store f0 f1 f2 d0 d1 d2 loaded held opens))
+
+    pub step_leaves : (Tells m f0 → Settled m f0 → disk.Tells n d0 → InTurns m (crash_of n) (OpensAlike m n f0 d0) f0 d0 f1 d1)
+        → ((bodies : List (List ℕ)) (history : History) → IsStoreOn m n store f1 d1 bodies history → InTurns m (crash_of n) (Among (held_by m f1 history) (carried_by command (held_by m f1 history) (rows_kept store) now zone)) f1 d1 f2 d2)
+        → LeavesStates m n command now zone (went f0 f2 d0 d2)
+    step_leaves load run held opens =
+        let history = opens.opens.history in
+        let expected = carried_out command held now zone in
+        let P = LeavesOf m n command now zone (went f0 f2 d0 d2) held expected in
+        let same = held_same store f0 f1 f2 d0 d1 d2 loaded held opens in
+        let among = run (is_loaded store f0 f1 f2 d0 d1 d2 loaded held opens).bodies history (on store f0 f1 f2 d0 d1 d2 loaded held opens) in
+        turns_joined m (crash_of n) P f0 d0 f1 d1 f2 d2
+        (turns_weaker m (crash_of n) (OpensAlike m n f0 d0) P (λ x y alike. still_among (went f0 f2 d0 d2) held expected x y alike) f0 d0 f1 d1 (load opens.told opens.settled opens.tells))
+        (turns_weaker m (crash_of n) (Among held expected) P (λ x y has. among_leaves (went f0 f2 d0 d2) held expected x y has) f1 d1 f2 d2
+        (subst (λ (r : Result Carried Cause). InTurns m (crash_of n) (Among held r) f1 d1 f2 d2) (expected_same store f0 f1 f2 d0 d1 d2 loaded held opens)
+        (subst (λ (h : Held). InTurns m (crash_of n) (Among h (carried_by command (held_by m f1 history) (rows_kept store) now zone)) f1 d1 f2 d2) same among)))
+
+    here : (cause : Cause) → ((bodies : List (List ℕ)) (history : History) → IsStoreOn m n store f1 d1 bodies history → EndsBadly m n (went f1 f2 d1 d2) (carried_by command (held_by m f1 history) (rows_kept store) now zone) bodies (held_by m f1 history) cause)
+        → (held : Held) (opens : Opens m n f0 d0 held)
+        → EndsBadly m n (went f1 f2 d1 d2) (carried_by command (held_by m f1 opens.opens.history) (rows_kept store) now zone) (is_loaded store f0 f1 f2 d0 d1 d2 loaded held opens).bodies (held_by m f1 opens.opens.history) cause
+    here cause ends held opens = ends (is_loaded store f0 f1 f2 d0 d1 d2 loaded held opens).bodies opens.opens.history (on store f0 f1 f2 d0 d1 d2 loaded held opens)
+
+    pub step_ends : Kept m f0 f1 → disk.Kept n d0 d1 → (cause : Cause)
+        → ((bodies : List (List ℕ)) (history : History) → IsStoreOn m n store f1 d1 bodies history → EndsBadly m n (went f1 f2 d1 d2) (carried_by command (held_by m f1 history) (rows_kept store) now zone) bodies (held_by m f1 history) cause)
+        → IsFaultOf m n (went f1 f2 d1 d2) store cause → NotCarried m n command now zone (went f0 f2 d0 d2) cause
+    step_ends folder kept causes.Done ends is = absurd is
+    step_ends folder kept causes.OutFault ends is = absurd is
+    step_ends folder kept causes.DiskFault ends is = omega (arith, kept.faults, is)
+    step_ends folder kept causes.FolderFault ends is = omega (arith, folder.faults, is)
+    step_ends folder kept causes.Memory ends is = tt
+    step_ends folder kept (causes.RecordTooLong bytes) ends is = (is, λ held opens. passes store f0 f1 f2 d0 d1 d2 loaded held opens bytes (here (causes.RecordTooLong bytes) ends held opens))
+    step_ends folder kept (causes.Damaged offset) ends is = λ told settled tells.
+        let has = loaded told settled tells in
+        let at = is (kept.tells ∙ tells) has.bodies has.open_on in
+        inr (record { bodies = has.bodies; records = has.records; number = at.0; inside = at.1; none = at.2 })
+    step_ends folder kept causes.NotTracking ends is = λ held opens. refused store f0 f1 f2 d0 d1 d2 loaded held opens causes.NotTracking (here causes.NotTracking ends held opens)
+    step_ends folder kept causes.NothingToUndo ends is = λ held opens. refused store f0 f1 f2 d0 d1 d2 loaded held opens causes.NothingToUndo (here causes.NothingToUndo ends held opens)
+    step_ends folder kept (causes.Edited file) ends is = λ held opens. refused store f0 f1 f2 d0 d1 d2 loaded held opens (causes.Edited file) (here (causes.Edited file) ends held opens)
+    step_ends folder kept (causes.BadWords word kind) ends is = λ held opens. refused store f0 f1 f2 d0 d1 d2 loaded held opens (causes.BadWords word kind) (here (causes.BadWords word kind) ends held opens)
+    step_ends folder kept (causes.NoInterval id) ends is = λ held opens. refused store f0 f1 f2 d0 d1 d2 loaded held opens (causes.NoInterval id) (here (causes.NoInterval id) ends held opens)
+    step_ends folder kept causes.NoOpen ends is = λ held opens. refused store f0 f1 f2 d0 d1 d2 loaded held opens causes.NoOpen (here causes.NoOpen ends held opens)
+    step_ends folder kept (causes.AlreadyOpen id) ends is = λ held opens. refused store f0 f1 f2 d0 d1 d2 loaded held opens (causes.AlreadyOpen id) (here (causes.AlreadyOpen id) ends held opens)
+    step_ends folder kept (causes.Range word) ends is = λ held opens. refused store f0 f1 f2 d0 d1 d2 loaded held opens (causes.Range word) (here (causes.Range word) ends held opens)
+    step_ends folder kept (causes.Overlap id) ends is = λ held opens. refused store f0 f1 f2 d0 d1 d2 loaded held opens (causes.Overlap id) (here (causes.Overlap id) ends held opens)
+    step_ends folder kept (causes.BadLine file line) ends is = λ held opens. refused store f0 f1 f2 d0 d1 d2 loaded held opens (causes.BadLine file line) (here (causes.BadLine file line) ends held opens)
+
+    same_carried : (a b : Carried) (r : Result Carried Cause) → r ≡ Ok a → r ≡ Ok b → a ≡ b
+    same_carried a b r is that = cc
+
+    no_refusal : (held : Held) (carried : Carried) (cause : Cause) → carried_out command held now zone ≡ Ok carried → carried_out command held now zone ≡ Err cause → ⊥
+    no_refusal held carried cause is that = absurd (apart (carried_out command held now zone) is that)
+      where
+        apart : (r : Result Carried Cause) → r ≡ Ok carried → r ≡ Err cause → ⊥
+        apart r e f = cc
+
+    pub step_wants : Kept m f0 f1 → disk.Kept n d0 d1 → (cause : Cause)
+        → ((bodies : List (List ℕ)) (history : History) → IsStoreOn m n store f1 d1 bodies history → EndsBadly m n (went f1 f2 d1 d2) (carried_by command (held_by m f1 history) (rows_kept store) now zone) bodies (held_by m f1 history) cause)
+        → IsFaultOf m n (went f1 f2 d1 d2) store cause → CanBeCarriedOut m n command now zone (went f0 f2 d0 d2) → cause ≡ causes.Memory
+    step_wants folder kept causes.Done ends is can = absurd is
+    step_wants folder kept causes.OutFault ends is can = absurd is
+    step_wants folder kept causes.DiskFault ends is can = absurd (can.disk_well (omega (arith, kept.faults, is)))
+    step_wants folder kept causes.FolderFault ends is can = absurd (can.folder_well (omega (arith, folder.faults, is)))
+    step_wants folder kept causes.Memory ends is can = refl
+    step_wants folder kept (causes.RecordTooLong bytes) ends is can =
+        let long = passes store f0 f1 f2 d0 d1 d2 loaded can.held can.opens bytes (here (causes.RecordTooLong bytes) ends can.held can.opens) in
+        let same = same_carried long.carried can.carried (carried_out command can.held now zone) long.is can.is in
+        absurd (omega (arith, is, can.fits bytes (subst (λ (c : Carried). HasSize c.adds bytes) same long.size)))
+    step_wants folder kept (causes.Damaged offset) ends is can = absurd (here (causes.Damaged offset) ends can.held can.opens)
+    step_wants folder kept causes.NotTracking ends is can = absurd (no_refusal can.held can.carried causes.NotTracking can.is (refused store f0 f1 f2 d0 d1 d2 loaded can.held can.opens causes.NotTracking (here causes.NotTracking ends can.held can.opens)).0)
+    step_wants folder kept causes.NothingToUndo ends is can = absurd (no_refusal can.held can.carried causes.NothingToUndo can.is (refused store f0 f1 f2 d0 d1 d2 loaded can.held can.opens causes.NothingToUndo (here causes.NothingToUndo ends can.held can.opens)).0)
+    step_wants folder kept (causes.Edited file) ends is can = absurd (no_refusal can.held can.carried (causes.Edited file) can.is (refused store f0 f1 f2 d0 d1 d2 loaded can.held can.opens (causes.Edited file) (here (causes.Edited file) ends can.held can.opens)).0)
+    step_wants folder kept (causes.BadWords word kind) ends is can = absurd (no_refusal can.held can.carried (causes.BadWords word kind) can.is (refused store f0 f1 f2 d0 d1 d2 loaded can.held can.opens (causes.BadWords word kind) (here (causes.BadWords word kind) ends can.held can.opens)).0)
+    step_wants folder kept (causes.NoInterval id) ends is can = absurd (no_refusal can.held can.carried (causes.NoInterval id) can.is (refused store f0 f1 f2 d0 d1 d2 loaded can.held can.opens (causes.NoInterval id) (here (causes.NoInterval id) ends can.held can.opens)).0)
+    step_wants folder kept causes.NoOpen ends is can = absurd (no_refusal can.held can.carried causes.NoOpen can.is (refused store f0 f1 f2 d0 d1 d2 loaded can.held can.opens causes.NoOpen (here causes.NoOpen ends can.held can.opens)).0)
+    step_wants folder kept (causes.AlreadyOpen id) ends is can = absurd (no_refusal can.held can.carried (causes.AlreadyOpen id) can.is (refused store f0 f1 f2 d0 d1 d2 loaded can.held can.opens (causes.AlreadyOpen id) (here (causes.AlreadyOpen id) ends can.held can.opens)).0)
+    step_wants folder kept (causes.Range word) ends is can = absurd (no_refusal can.held can.carried (causes.Range word) can.is (refused store f0 f1 f2 d0 d1 d2 loaded can.held can.opens (causes.Range word) (here (causes.Range word) ends can.held can.opens)).0)
+    step_wants folder kept (causes.Overlap id) ends is can = absurd (no_refusal can.held can.carried (causes.Overlap id) can.is (refused store f0 f1 f2 d0 d1 d2 loaded can.held can.opens (causes.Overlap id) (here (causes.Overlap id) ends can.held can.opens)).0)
+    step_wants folder kept (causes.BadLine file line) ends is can = absurd (no_refusal can.held can.carried (causes.BadLine file line) can.is (refused store f0 f1 f2 d0 d1 d2 loaded can.held can.opens (causes.BadLine file line) (here (causes.BadLine file line) ends can.held can.opens)).0)

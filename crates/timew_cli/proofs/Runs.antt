@@ -1,0 +1,85 @@
+-- What is known of a run of words.
+use Rattle.std.proofs.Common.{◌≡◌, ◌⊎◌, inl, inr, ℕ, List, Result, Ok, Err, refl, sym, ap, subst, ◌∙◌, arith}
+use Rattle.jiff.specs.Types.{TimeZone}
+use Rattle.tw_world.specs.Disk.{DiskModel, Rose}
+use Rattle.tw_world.specs.Disk as disk
+use Rattle.tw_world.specs.Crash.{Kept}
+use Rattle.tw_world.specs.Folder.{Files, FolderModel}
+use Rattle.tw_world.specs.Turns.InTurns.{at_rest}
+use Rattle.timew_store.specs.Held.{OpensTo}
+use Rattle.timew_cli.specs.Carried.{carried_out}
+use Rattle.timew_cli.proofs.Loaded.{still_among}
+use Rattle.tw_world.specs.Sink.{SinkModel, Got, GotPart}
+use Rattle.timew_cmd.specs.declared.command.Command.{Command}
+use Rattle.timew_cmd.specs.declared.error.BadWord.{BadWord}
+use Rattle.timew_cmd.specs.declared.error.WordsError.{WordsError}
+use Rattle.timew_cmd.specs.declared.error.WordsError.TheVariants as words
+use Rattle.timew_cmd.specs.Reading.{Refuses}
+use Rattle.timew_cli.specs.Cause.{End, end_of, word_cause, words_cause}
+use Rattle.timew_cli.specs.Cause.End.{Failed}
+use Rattle.timew_cli.specs.Run.{Outside, went, CarriedOut, NotCarried, CanBeCarriedOut, Gives, GivesBy, CanEnd, IsDoneOrWant, EndsPrinting, RunGives, EndsWell, RunLeaves, LeavesStates, IsRun}
+use Rattle.timew_cli.specs.declared.cause.Cause.{Cause}
+use Rattle.timew_cli.specs.declared.cause.Cause.TheVariants as causes
+
+module _ {F D O : Type 0} (m : FolderModel F) (n : DiskModel D) (s : SinkModel O) where
+  module _ (command : Command) (now : ℕ) (zone : TimeZone) (w : Outside F D) (o0 : O) where
+    -- a command that is not carried out
+    pub failed_gives : (cause : Cause) → NotCarried m n command now zone w cause → Gives m n command now zone w s o0 o0 cause
+    failed_gives causes.Done why = absurd why
+    failed_gives causes.OutFault why = absurd why
+    failed_gives causes.NotTracking why = (why, refl)
+    failed_gives causes.NothingToUndo why = (why, refl)
+    failed_gives (causes.Edited file) why = (why, refl)
+    failed_gives (causes.BadWords word kind) why = (why, refl)
+    failed_gives (causes.NoInterval id) why = (why, refl)
+    failed_gives causes.NoOpen why = (why, refl)
+    failed_gives (causes.AlreadyOpen id) why = (why, refl)
+    failed_gives (causes.Range word) why = (why, refl)
+    failed_gives (causes.Overlap id) why = (why, refl)
+    failed_gives (causes.BadLine file line) why = (why, refl)
+    failed_gives causes.DiskFault why = (why, refl)
+    failed_gives (causes.RecordTooLong bytes) why = (why, refl)
+    failed_gives (causes.Damaged offset) why = (why, refl)
+    failed_gives causes.FolderFault why = (why, refl)
+    failed_gives causes.Memory why = (why, refl)
+
+    -- one that is printed
+    pub printed_gives : (o1 : O) (text : List ℕ) (cause : Cause) → EndsPrinting s o0 o1 text cause → CarriedOut m n command now zone w text → Gives m n command now zone w s o0 o1 cause
+    printed_gives o1 text cause (inl done) does = subst (Gives m n command now zone w s o0 o1) (sym done.0) (text, does, done.1)
+    printed_gives o1 text cause (inr failed) does = subst (Gives m n command now zone w s o0 o1) (sym failed.0) (text, does, failed.1, failed.2)
+
+    pub printed_ends : (o1 : O) (text : List ℕ) (cause : Cause) → EndsPrinting s o0 o1 text cause → CanEnd m n command now zone w s o0 o1 → IsDoneOrWant cause
+    printed_ends o1 text cause (inl done) can = inl done.0
+    printed_ends o1 text cause (inr failed) can = absurd (can.out_well failed.2)
+
+  -- words that ask for a command, and words that do not
+  pub command_is_run : (asked : Result Command BadWord) (command : Command) (now : ℕ) (zone : TimeZone) (w : Outside F D) (o0 o1 : O) (cause : Cause) → asked ≡ Ok command → Gives m n command now zone w s o0 o1 cause
+      → (CanEnd m n command now zone w s o0 o1 → IsDoneOrWant cause) → LeavesStates m n command now zone w → Kept m w.f0 w.f1 → disk.Kept n w.d0 w.d1 → IsRun m n s asked now zone w o0 o1 cause
+  command_is_run asked command now zone w o0 o1 cause is gives ends leaves folder kept = subst (λ (a : Result Command BadWord). IsRun m n s a now zone w o0 o1 cause) (sym is)
+      (record { gives = gives; complete = ends; any_moment = leaves; folder = folder; disk = kept })
+
+  refused_is_run : (bad : BadWord) (now : ℕ) (zone : TimeZone) (f : F) (d : D) (o : O) (cause : Cause) → (cause ≡ word_cause bad) ⊎ (cause ≡ causes.Memory) → Kept m f f → disk.Kept n d d → IsRun m n s (Err bad) now zone (went f f d d) o o cause
+  refused_is_run bad now zone f d o cause is folder kept = record { gives = (is, refl, refl, refl); complete = tt; any_moment = (refl, refl); folder = folder; disk = kept }
+
+  folder_kept : (f : F) → Kept m f f
+  folder_kept f = record { faults = omega arith; tells = refl }
+
+  disk_kept : (d : D) → disk.Kept n d d
+  disk_kept d = record { faults = omega arith; tells = refl }
+
+  -- nothing was done for want of memory
+  want_is_run : (asked : Result Command BadWord) (now : ℕ) (zone : TimeZone) (f : F) (d : D) (o : O) → IsRun m n s asked now zone (went f f d d) o o causes.Memory
+  want_is_run (Ok command) now zone f d o = record {
+    gives = (tt, refl);
+    complete = λ can. inr refl;
+    any_moment = λ held opens. at_rest f d (λ x y left left'. still_among m n command now zone (went f f d d) held (carried_out command held now zone) x y
+        (record { before = y; left = left'; alike = λ h o. subst (λ (files : Files). OpensTo files y h) (sym (opens.settled x left)) o }));
+    folder = folder_kept f;
+    disk = disk_kept d;
+  }
+  want_is_run (Err bad) now zone f d o = refused_is_run bad now zone f d o causes.Memory (inr refl) (folder_kept f) (disk_kept d)
+
+  pub error_is_run : (asked : Result Command BadWord) (error : WordsError) (now : ℕ) (zone : TimeZone) (f : F) (d : D) (o : O) (cause : Cause) → Refuses error asked → cause ≡ words_cause error → IsRun m n s asked now zone (went f f d d) o o cause
+  error_is_run asked (words.Bad bad) now zone f d o cause is same =
+      subst (λ (a : Result Command BadWord). IsRun m n s a now zone (went f f d d) o o cause) (sym is) (refused_is_run bad now zone f d o cause (inl same) (folder_kept f) (disk_kept d))
+  error_is_run asked words.Memory now zone f d o cause is same = subst (λ (c : Cause). IsRun m n s asked now zone (went f f d d) o o c) (sym same) (want_is_run asked now zone f d o)

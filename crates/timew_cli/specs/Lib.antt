@@ -1,0 +1,6 @@
+pub mod Text
+pub mod Fault
+pub mod Cause
+pub mod Carried
+pub mod Run
+pub mod Step

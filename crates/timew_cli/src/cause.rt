@@ -1,0 +1,168 @@
+// How a command ends.
+ghost use Rattle.std.specs.Prelude.{◌≡◌};
+ghost use Rattle.timew_cli.specs.Fault.{status_of};
+ghost use Rattle.timew_cli.specs.Cause.{words_cause, journal_cause, load_cause, change_cause, undo_cause, plan_cause};
+
+use timew_cmd::{BadWord, TimewError, WordKind, WordsError};
+use timew_store::{LoadError, StoreError, UndoError};
+use tw_journal::JournalError;
+use tw_world::{Memory, Text};
+
+/// How a command of `timew` ended.
+#[derive(Debug, Drop)]
+pub enum Cause {
+    /// It was carried out and printed.
+    Done,
+    /// No interval is open, and there were no words.
+    NotTracking,
+    /// Every change is undone. Nothing was written.
+    NothingToUndo,
+    /// This month file no longer has the bytes that the last change left. Nothing was written.
+    Edited { file: Text },
+    /// The word with this number, from 0, is the first that fits no part of the command. Nothing was done.
+    BadWords { word: u64, kind: WordKind },
+    /// There are fewer intervals. Nothing was written.
+    NoInterval { id: u64 },
+    /// No interval is open. Nothing was written.
+    NoOpen,
+    /// The last interval is open. Nothing was written.
+    AlreadyOpen { id: u64 },
+    /// The moment or the length of this word leads out of range; the number is 0 where there is no word. Nothing was written.
+    Range { word: u64 },
+    /// The interval overlaps others, of which this one has the least id. Nothing was written.
+    Overlap { id: u64 },
+    /// The line with this number, from 1, of this month file is no interval, or overlaps one that stands before it in order; after
+    /// an undo it would be so. Nothing was written.
+    BadLine { file: Text, line: u64 },
+    /// The journal's disk failed. The record may stand or not.
+    DiskFault,
+    /// The record, with its gate and length, would have so many bytes, which are too many. Nothing was written.
+    RecordTooLong { bytes: u64 },
+    /// The journal is damaged at this offset. Nothing was written.
+    Damaged { offset: u64 },
+    /// The folder failed. Where the record stands, the next command finishes the change.
+    FolderFault,
+    /// There was no memory. No record was written.
+    Memory,
+    /// The output failed. The record stands.
+    OutFault,
+}
+
+/// How a command ended, with the status of the program.
+#[derive(Debug, Drop)]
+pub struct Outcome {
+    pub status: u8,
+    pub cause: Cause,
+}
+
+impl From<Memory> for Cause {
+    ghost use Rattle.timew_cli.specs.declared.cause.Cause.TheVariants.{Memory as NoMemory};
+
+    ghost from_gives = { λ _ cause. cause ≡ NoMemory };
+
+    fn from(_: Memory) -> Cause {
+        Cause::Memory
+    }
+}
+
+impl From<WordsError> for Cause {
+    ghost from_gives = { λ error cause. cause ≡ words_cause error };
+
+    fn from(error: WordsError) -> Cause {
+        match error {
+            WordsError::Bad(BadWord { word, kind }) => Cause::BadWords { word, kind },
+            WordsError::Memory => Cause::Memory,
+        }
+    }
+}
+
+impl From<JournalError> for Cause {
+    ghost from_gives = { λ error cause. cause ≡ journal_cause error };
+
+    fn from(error: JournalError) -> Cause {
+        match error {
+            JournalError::Disk | JournalError::Closed => Cause::DiskFault,
+            JournalError::Damaged { offset } => Cause::Damaged { offset },
+            JournalError::TooLong { bytes } => Cause::RecordTooLong { bytes },
+            JournalError::Memory => Cause::Memory,
+        }
+    }
+}
+
+impl From<LoadError> for Cause {
+    ghost from_gives = { λ error cause. cause ≡ load_cause error };
+
+    fn from(error: LoadError) -> Cause {
+        match error {
+            LoadError::Folder => Cause::FolderFault,
+            LoadError::Journal(error) => Cause::from(error),
+            LoadError::BadLine { file, line } => Cause::BadLine { file, line },
+            LoadError::Memory => Cause::Memory,
+        }
+    }
+}
+
+impl From<StoreError> for Cause {
+    ghost from_gives = { λ error cause. cause ≡ change_cause error };
+
+    fn from(error: StoreError) -> Cause {
+        match error {
+            StoreError::Folder => Cause::FolderFault,
+            StoreError::Journal(error) => Cause::from(error),
+            StoreError::Memory => Cause::Memory,
+        }
+    }
+}
+
+impl From<UndoError> for Cause {
+    ghost from_gives = { λ error cause. cause ≡ undo_cause error };
+
+    fn from(error: UndoError) -> Cause {
+        match error {
+            UndoError::Folder => Cause::FolderFault,
+            UndoError::Journal(error) => Cause::from(error),
+            UndoError::BadLine { file, line } => Cause::BadLine { file, line },
+            UndoError::Edited { file } => Cause::Edited { file },
+            UndoError::NothingToUndo => Cause::NothingToUndo,
+            UndoError::Memory => Cause::Memory,
+        }
+    }
+}
+
+impl From<TimewError> for Cause {
+    ghost from_gives = { λ error cause. cause ≡ plan_cause error };
+
+    fn from(error: TimewError) -> Cause {
+        match error {
+            TimewError::Overlap { id } => Cause::Overlap { id },
+            TimewError::NoOpen => Cause::NoOpen,
+            TimewError::AlreadyOpen { id } => Cause::AlreadyOpen { id },
+            TimewError::NoInterval { id } => Cause::NoInterval { id },
+            TimewError::Range { word } => Cause::Range { word },
+            TimewError::Bad(BadWord { word, kind }) => Cause::BadWords { word, kind },
+            TimewError::Memory => Cause::Memory,
+        }
+    }
+}
+
+/// The status of a cause.
+pub(crate) fn status_of(cause: &Cause) -> u8
+    ensures { result ≡ status_of cause.now }
+{
+    match cause {
+        Cause::Done => 0,
+        Cause::NotTracking
+        | Cause::NothingToUndo
+        | Cause::Edited { .. }
+        | Cause::NoInterval { .. }
+        | Cause::NoOpen
+        | Cause::AlreadyOpen { .. }
+        | Cause::Overlap { .. } => 1,
+        Cause::BadWords { .. } | Cause::Range { .. } => 2,
+        Cause::DiskFault | Cause::RecordTooLong { .. } => 3,
+        Cause::Memory => 4,
+        Cause::OutFault => 6,
+        Cause::BadLine { .. } | Cause::Damaged { .. } => 7,
+        Cause::FolderFault => 8,
+    }
+}
