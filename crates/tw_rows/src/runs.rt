@@ -92,7 +92,8 @@ fn words_outside_the_grammar_are_told(rt: HostRuntime) -> Result<(), Fail> {
         assert_eq!(rt; ended.out.bytes(), b"".as_slice());
         let told = format!(in alloc; "task: bad word {}\n", word)?;
         assert_eq!(rt; ended.err.bytes(), told.as_bytes());
-        assert_eq!(rt; disk.calls(), 0);
+        // whether a word names a task is seen once the store is open
+        assert_eq!(rt; disk.calls() == 0, kind != WordKind::Id, "{line}");
     }
     Ok(())
 }
