@@ -1,4 +1,0 @@
-pub mod Tasks
-pub mod Changes
-pub mod Summary
-pub mod Generated
