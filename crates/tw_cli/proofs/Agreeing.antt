@@ -15,6 +15,7 @@ use Rattle.tw_sync.specs.Fold.{Agrees}
 use Rattle.tw_sync.specs.Sync.{told, IsEndIn}
 use Rattle.tw_sync.specs.declared.report.SyncReport.{SyncReport}
 use Rattle.tw_sync.proofs.Folds.{agrees_is_kept}
+use Rattle.tw_replica.proofs.Commits.{changes_are_group}
 use Rattle.tw_sync.proofs.Steps.{commit_agrees, undo_agrees}
 use Rattle.tw_sync.proofs.Ends.{sync_end_agrees}
 use Rattle.tw_world.specs.declared.ids.IdWords.{IdWords}
@@ -55,7 +56,7 @@ LeadsAgreeing chain next = (s : State) → next ≡ Some s → Agrees s chain
 
 -- the step of a command is a commit or an undo, which keep agreement
 work_agrees : (request : Request) (old new : State) (work : Work) (chain : List Version) → Agrees old chain → applied old (step_in request.at old work) ≡ Some new → Agrees new chain
-work_agrees request old new (Changes renumber changes) chain a e = commit_agrees renumber (group_of (ops_of_all old.tasks changes request.at)) old new chain a e
+work_agrees request old new (Changes renumber changes) chain a e = commit_agrees renumber (group_of (ops_of_all old.tasks changes request.at)) old new chain (changes_are_group old.tasks changes request.at) a e
 work_agrees request old new TakeBack chain a e = undo_agrees old new chain a e
 
 carried_agrees : (request : Request) (ids : IdWords) (old : State) (c : Carried) (chain : List Version) → carried_out request ids old ≡ Ok c → Agrees old chain → Agrees c.new chain

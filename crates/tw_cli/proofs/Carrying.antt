@@ -4,9 +4,9 @@ use Rattle.tw_world.specs.Disk.{DiskModel, Tells, Settled, Rose, Kept, LeavesOnl
 use Rattle.tw_world.specs.Source.{SourceModel}
 use Rattle.tw_world.specs.declared.ids.IdWords.{IdWords}
 use Rattle.tw_journal.specs.Journal.{IsOpenOn, is_closed}
-use Rattle.tw_journal.specs.declared.journal.JournalError.TheVariants as journal
+use Rattle.tw_replica.specs.declared.error.WriteError.TheVariants as writes
 use Rattle.tw_replica.specs.State.{Stands, applied}
-use Rattle.tw_replica.specs.Replica.{magic, OpensToEither, IsReplicaOn, IsOpenedReplica, held_state, is_replica_closed}
+use Rattle.tw_replica.specs.Replica.{magic, OpensToEither, IsReplicaOn, IsOpenedReplica, held_state, is_replica_closed, OpeningRefused}
 use Rattle.tw_replica.specs.Prepared.{step_bodies, prepared_bodies, prepared_state, HasSize, RecordsOrAll, PreparedRefused}
 use Rattle.tw_replica.specs.declared.replica.Replica.{Replica}
 use Rattle.tw_replica.proofs.Preparing.{prepared_on, prepared_leaves}
@@ -17,13 +17,13 @@ use Rattle.tw_commands.specs.Ready.{IsReady, NotReady}
 use Rattle.tw_commands.specs.declared.ready.Ready.{Ready}
 use Rattle.tw_commands.specs.declared.request.Request.{Request}
 use Rattle.tw_commands.specs.declared.refusal.Refusal.{Refusal}
-use Rattle.tw_cli.specs.Opening.{HasMore, Stays, NotOpened}
+use Rattle.tw_cli.specs.Opening.{HasMore, Stays}
 use Rattle.tw_cli.specs.Cause.{open_cause, input_cause}
 use Rattle.tw_cli.specs.Input.{Took, NotTaken, WithInput, with_input}
 use Rattle.tw_cli.specs.Run.{CarriedOut, Refuses, PassesLimit, StaysUnread, CanBeCarriedOut, CanCarryOut, Drew, Draws}
 use Rattle.tw_cli.specs.Crash.{LeavesRecords, LeavesEither, new_of, next_of}
-use Rattle.tw_cli.specs.declared.opening.OpenError.{OpenError}
-use Rattle.tw_cli.specs.declared.opening.OpenError.TheVariants as opening
+use Rattle.tw_replica.specs.declared.error.OpenError.{OpenError}
+use Rattle.tw_replica.specs.declared.error.OpenError.TheVariants as opening
 use Rattle.tw_cli.specs.declared.input.InputError.{InputError}
 use Rattle.tw_cli.specs.declared.input.InputError.TheVariants as input
 use Rattle.tw_cli.specs.declared.cause.Cause.TheVariants as causes
@@ -87,7 +87,7 @@ module _ {D S : Type 0} (m : DiskModel D) (sources : SourceModel S) (request : R
 
 module _ {D : Type 0} (m : DiskModel D) (request : Request) (ids : IdWords) where
   -- an opening that is refused where the command can be carried out wants memory
-  pub opening_wants : (d0 d1 : D) (e : OpenError) → NotOpened m d0 d1 e → CanBeCarriedOut m request ids d0 d1 → open_cause e ≡ causes.Memory
+  pub opening_wants : (d0 d1 : D) (e : OpenError) → OpeningRefused m d0 d1 e → CanBeCarriedOut m request ids d0 d1 → open_cause e ≡ causes.Memory
   opening_wants d0 d1 e refused can = open_wants m d0 d1 can.state e can.tells can.opens can.disk_well refused
 
   module _ (d0 mid : D) (old : Replica) (opened : Tells m d0 → IsOpenedReplica m d0 mid old) where
@@ -131,7 +131,7 @@ module _ {D : Type 0} (m : DiskModel D) (request : Request) (ids : IdWords) wher
               (record { bodies = o.bodies; had = o.records; stood = o.now.stands; has = records_of m d1 (o.bodies ++ step_bodies is.step) n.open_on.rest; stands = subst (Stands (o.bodies ++ step_bodies is.step)) state n.stands }, n.open_on.rest.settled)
 
       -- a write that passes the limit
-      pub passes_limit : (bytes : ℕ) → PreparedRefused m ready.prepared mid d1 (journal.TooLong bytes) → PassesLimit m request ids d0 d1 bytes
+      pub passes_limit : (bytes : ℕ) → PreparedRefused m ready.prepared mid d1 (writes.TooLong bytes) → PassesLimit m request ids d0 d1 bytes
       unfolding come
       passes_limit bytes refused = record {
         state = held_state old;
@@ -142,7 +142,7 @@ module _ {D : Type 0} (m : DiskModel D) (request : Request) (ids : IdWords) wher
         stays = subst (λ d. Stays m d0 d (held_state old)) (sym refused.2) (stays_open m d0 mid old opened);
       }
 
-      pub fits_always : (bytes : ℕ) → PreparedRefused m ready.prepared mid d1 (journal.TooLong bytes) → CanBeCarriedOut m request ids d0 d1 → ⊥
+      pub fits_always : (bytes : ℕ) → PreparedRefused m ready.prepared mid d1 (writes.TooLong bytes) → CanBeCarriedOut m request ids d0 d1 → ⊥
       fits_always bytes refused can =
           let there : carried_out request ids (held_state old) ≡ Ok can.carried = can_in d1 can in
           let same : record { step = is.step; new = prepared_state ready.prepared; text = ready.text.items } ≡ can.carried = (let a = is.is in cc) in
@@ -150,11 +150,11 @@ module _ {D : Type 0} (m : DiskModel D) (request : Request) (ids : IdWords) wher
           above_limit bytes refused.1 (can.fits bytes (subst (λ (c : Carried). HasSize (step_bodies c.step) bytes) same size))
 
       -- a write that fails
-      pub fails_later : Kept m d0 mid → PreparedRefused m ready.prepared mid d1 journal.Disk → Rose (m.faults d0) (m.faults d1)
+      pub fails_later : Kept m d0 mid → PreparedRefused m ready.prepared mid d1 writes.Disk → Rose (m.faults d0) (m.faults d1)
       fails_later kept refused = rose_later (m.faults d0) (m.faults mid) (m.faults d1) kept.faults refused
 
       -- the journal of a replica that was opened is not closed
-      pub not_closed : is_replica_closed old ≡ false → PreparedRefused m ready.prepared mid d1 journal.Closed → ⊥
+      pub not_closed : is_replica_closed old ≡ false → PreparedRefused m ready.prepared mid d1 writes.Closed → ⊥
       not_closed live refused = no_longer (is_replica_closed old) (ap is_closed (sym is.prepared.journal) ∙ refused.0) live
 
       -- the state after the step is the next one

@@ -17,8 +17,8 @@ use Rattle.tw_cli.specs.Cause.End.{Failed}
 use Rattle.tw_cli.specs.Run.{NotCarried, GivesBy, Gives, EndsPrinting, IsDoneOrWant}
 use Rattle.tw_cli.specs.Syncing.{NotSynced, SyncGivesBy, SyncGives}
 use Rattle.tw_words.specs.declared.server.Server.{Server}
-use Rattle.tw_cli.specs.declared.opening.OpenError.{OpenError}
-use Rattle.tw_cli.specs.declared.opening.OpenError.TheVariants as opening
+use Rattle.tw_replica.specs.declared.error.OpenError.{OpenError}
+use Rattle.tw_replica.specs.declared.error.OpenError.TheVariants as opening
 use Rattle.tw_cli.specs.declared.input.InputError.{InputError}
 use Rattle.tw_cli.specs.declared.input.InputError.TheVariants as input
 use Rattle.tw_cli.specs.declared.carry.CarryError.{CarryError}

@@ -22,7 +22,7 @@ use Rattle.tw_cli.specs.Asked.{IsAsked}
 use Rattle.tw_cli.specs.Cause.{line_cause}
 use Rattle.tw_cli.specs.Whole.{went, IsRun}
 use Rattle.tw_cli.specs.declared.carry.CarryError.TheVariants as carry
-use Rattle.tw_cli.specs.declared.opening.OpenError.TheVariants as opening
+use Rattle.tw_replica.specs.declared.error.OpenError.TheVariants as opening
 use Rattle.tw_cli.specs.declared.syncing.SyncFailure.TheVariants as failure
 use Rattle.tw_cli.specs.declared.asked.Job.{Job}
 use Rattle.tw_cli.specs.declared.asked.Job.TheVariants.{Here, Sync}

@@ -8,11 +8,11 @@ ghost use Rattle.tw_cli.specs.Crash.{LeavesCommand};
 
 use crate::cause::Cause;
 use crate::input::{InputError, command_of, take_input, with_input};
-use crate::opening::{OpenError, open};
+use crate::opening::{leave, open};
 use crate::printing::print;
 use std::alloc::Global;
 use tw_commands::{Ready, Refusal, Request, decide};
-use tw_journal::JournalError;
+use tw_replica::{OpenError, WriteError};
 use tw_world::{Disk, IdWords, Sink, Source};
 
 /// Why a command is not carried out.
@@ -67,11 +67,13 @@ fn carry_out<D: Disk, S: Source>(
         Err(_) => return Err(CarryError::Memory),
     };
     match prepared.write(disk) {
-        Ok(_) => Ok(text),
-        Err(JournalError::Disk) => Err(CarryError::Disk),
-        Err(JournalError::TooLong { bytes }) => Err(CarryError::TooLong { bytes }),
-        Err(JournalError::Closed) | Err(JournalError::Damaged { .. }) | Err(JournalError::Memory) =>
-            { unreachable!() }
+        Ok(replica) => {
+            leave(replica);
+            Ok(text)
+        }
+        Err(WriteError::Disk) => Err(CarryError::Disk),
+        Err(WriteError::TooLong { bytes }) => Err(CarryError::TooLong { bytes }),
+        Err(WriteError::Closed) => unreachable!(),
     }
 }
 

@@ -20,7 +20,7 @@ use crate::request::Request;
 use crate::texts::{counted_text, created_text, logged_text, undone_text};
 use std::alloc::Global;
 use tw_model::Change;
-use tw_replica::{Prepared, Replica, ReplicaError};
+use tw_replica::{Prepared, Replica, TakeBackError};
 use tw_world::{IdWords, Memory, Moment};
 use uuid::Uuid;
 
@@ -64,8 +64,8 @@ fn prepare(
         }
         Work::TakeBack => match replica.take_back(alloc) {
             Ok(prepared) => Ok(Ok(prepared)),
-            Err(ReplicaError::NothingToUndo) => Ok(Err(Refusal::NothingToUndo)),
-            Err(_) => Err(Memory),
+            Err(TakeBackError::NothingToUndo) => Ok(Err(Refusal::NothingToUndo)),
+            Err(TakeBackError::Memory) => Err(Memory),
         },
     }
 }

@@ -1,12 +1,10 @@
 -- A step that is made in memory and not yet written.
-use Rattle.std.specs.Prelude.{◌≡◌, ◌⊎◌, ◌<◌, ◌+◌, ◌^◌, ℕ, Bool, false, true, cond, List, [], ◌∷◌, ◌++◌, length, Option, Some, None}
+use Rattle.std.specs.Prelude.{◌≡◌, ◌⊎◌, ◌<◌, ◌≤◌, ◌+◌, ◌^◌, ℕ, Bool, false, true, cond, List, [], ◌∷◌, ◌++◌, length, Option, Some, None}
 use Rattle.std.specs.Global.{Vec}
 use Rattle.std.specs.FinMap.{get}
 use Rattle.tw_world.specs.Disk.{DiskModel, Rose}
 use Rattle.tw_journal.specs.Open.{Records}
 use Rattle.tw_journal.specs.Journal.{is_closed, journal_end}
-use Rattle.tw_journal.specs.declared.journal.JournalError.{JournalError}
-use Rattle.tw_journal.specs.declared.journal.JournalError.TheVariants.{Disk, Closed, Damaged, TooLong, Memory as NoMemory}
 use Rattle.tw_model.specs.Ops.{TasksValue}
 use Rattle.tw_replica.specs.Body.{Step, body_of, IsStep}
 use Rattle.tw_replica.specs.Body.Step.{Commit, Undo, Sync}
@@ -20,8 +18,10 @@ use Rattle.tw_model.specs.declared.Change.{Change}
 use Rattle.tw_replica.specs.declared.editing.Editing.{Editing}
 use Rattle.tw_replica.specs.declared.prepared.Prepared.{Prepared}
 use Rattle.tw_replica.specs.declared.replica.Replica.{Replica}
-use Rattle.tw_replica.specs.declared.replica.ReplicaError.{ReplicaError}
-use Rattle.tw_replica.specs.declared.replica.ReplicaError.TheVariants as errors
+use Rattle.tw_replica.specs.declared.error.TakeBackError.{TakeBackError}
+use Rattle.tw_replica.specs.declared.error.TakeBackError.TheVariants as backs
+use Rattle.tw_replica.specs.declared.error.WriteError.{WriteError}
+use Rattle.tw_replica.specs.declared.error.WriteError.TheVariants as writes
 
 -- the bodies of the records that a step writes: one, unless it is a commit that has nothing to do
 abbrev pub step_bodies : Step → List (List ℕ)
@@ -67,11 +67,9 @@ abbrev pub step_of_changes : Replica → (renumber : Bool) → List Change → M
 step_of_changes old renumber made at = Commit renumber (group_of (ops_of_all (held_state old).tasks made at))
 
 -- why an undo is not prepared
-abbrev pub TakingBackRefused : Replica → ReplicaError → Type 0
-TakingBackRefused old (errors.Journal e) = ⊥
-TakingBackRefused old (errors.Invalid index) = ⊥
-TakingBackRefused old errors.NothingToUndo = split_group (held_state old).pending ≡ None
-TakingBackRefused old errors.Memory = Unit {0}
+abbrev pub TakingBackRefused : Replica → TakeBackError → Type 0
+TakingBackRefused old backs.NothingToUndo = split_group (held_state old).pending ≡ None
+TakingBackRefused old backs.Memory = Unit {0}
 
 -- a file has these records behind the magic, or these and those that were to be written
 abbrev pub RecordsOrAll : (bodies more : List (List ℕ)) → List ℕ → Type 0
@@ -82,13 +80,15 @@ abbrev pub HasSize : List (List ℕ) → ℕ → Type 0
 HasSize [] size = ⊥
 HasSize (body ∷ bodies) size = size ≡ length body + 5
 
+-- the record that is to be written, if there is one, is not above the limit
+abbrev pub IsWithinLimit : List (List ℕ) → Type 0
+IsWithinLimit bodies = (size : ℕ) → HasSize bodies size → size ≤ 2 ^ 30
+
 -- why a prepared step is not written
-abbrev pub PreparedRefused : {D : Type 0} → DiskModel D → Prepared → (before after : D) → JournalError → Type 0
-PreparedRefused m prepared before after Disk = Rose (m.faults before) (m.faults after)
-PreparedRefused m prepared before after Closed = (is_closed prepared.journal ≡ true) × (after ≡ before)
-PreparedRefused m prepared before after (TooLong bytes) = HasSize (prepared_bodies prepared) bytes × (2 ^ 30 < bytes) × (after ≡ before)
-PreparedRefused m prepared before after (Damaged offset) = ⊥
-PreparedRefused m prepared before after NoMemory = ⊥
+abbrev pub PreparedRefused : {D : Type 0} → DiskModel D → Prepared → (before after : D) → WriteError → Type 0
+PreparedRefused m prepared before after writes.Disk = Rose (m.faults before) (m.faults after)
+PreparedRefused m prepared before after writes.Closed = (is_closed prepared.journal ≡ true) × (after ≡ before)
+PreparedRefused m prepared before after (writes.TooLong bytes) = HasSize (prepared_bodies prepared) bytes × (2 ^ 30 < bytes) × (after ≡ before)
 
 -- the disk has the length that the journal left, unless that is closed
 abbrev pub IsLengthReady : {D : Type 0} → DiskModel D → Prepared → D → Type 0

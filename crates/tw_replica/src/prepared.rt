@@ -3,10 +3,11 @@ ghost use Rattle.tw_replica.specs.Settled.{IsSettledIn, settled_prop};
 
 use crate::changing::{commit_core, take_back_core, undo_body};
 use crate::editing::Editing;
+use crate::error::{TakeBackError, WriteError, write_error};
 use crate::held::{Core, last_point};
-use crate::replica::{Replica, ReplicaError};
+use crate::replica::Replica;
 use std::alloc::Global;
-use tw_journal::{Journal, JournalError};
+use tw_journal::Journal;
 use tw_model::{Op, Tasks};
 use tw_world::{Disk, Memory};
 use uuid::Uuid;
@@ -26,14 +27,14 @@ impl Replica {
     ghost use Rattle.tw_replica.specs.Prepared.{IsPrepared, TakingBackRefused};
 
     /// Takes the last group back in memory. Nothing is written yet, and where it is refused the file stays as it was.
-    pub fn take_back(self, alloc: Global) -> Result<Prepared, ReplicaError>
+    pub fn take_back(self, alloc: Global) -> Result<Prepared, TakeBackError>
         ensures prepared { IfOk result (IsPrepared self Undo) }
         ensures refused { IfErr result (TakingBackRefused self) }
     {
         let Replica { journal, core } = self;
         let mut core = core;
         let Some(point) = last_point(&core.pending) else {
-            return Err(ReplicaError::NothingToUndo);
+            return Err(TakeBackError::NothingToUndo);
         };
         take_back_core(alloc, &mut core, point as usize)?;
         let body = Some(undo_body(alloc)?);
@@ -75,11 +76,12 @@ impl Editing {
 }
 
 impl Prepared {
-    ghost use Rattle.std.specs.Prelude.{◌≡◌, ◌++◌, List, ℕ, IfOk, IfErr};
+    ghost use Rattle.std.specs.Prelude.{◌≡◌, ◌++◌, List, ℕ, length, true, false, Err as AnErr, IfOk, OnOk, IfErr};
     ghost use Rattle.tw_world.specs.Disk.{LeavesOnly, Kept};
-    ghost use Rattle.tw_journal.specs.Journal.{IsOpenOn};
-    ghost use Rattle.tw_replica.specs.Replica.{magic, held_state};
-    ghost use Rattle.tw_replica.specs.Prepared.{RecordsOrAll, PreparedRefused, IsLengthReady, prepared_state, prepared_bodies};
+    ghost use Rattle.tw_journal.specs.Record.{rows, IsLongerBy};
+    ghost use Rattle.tw_journal.specs.Journal.{IsOpenOn, is_closed};
+    ghost use Rattle.tw_replica.specs.Replica.{magic, held_state, is_replica_closed};
+    ghost use Rattle.tw_replica.specs.Prepared.{IsWithinLimit, RecordsOrAll, PreparedRefused, IsLengthReady, prepared_state, prepared_bodies};
 
     /// The tasks after the step.
     pub fn tasks(&self) -> &Tasks
@@ -103,11 +105,15 @@ impl Prepared {
     }
 
     /// Writes the record of the step, if there is one. It takes no memory. After a fault of the disk the file has to be opened again.
-    pub fn write<D: Disk>(self, disk: &mut D) -> Result<Replica, JournalError>
+    pub fn write<D: Disk>(self, disk: &mut D) -> Result<Replica, WriteError>
         requires length { IsLengthReady D.model self disk.old }
         ensures state { IfOk result (λ replica. held_state replica ≡ prepared_state self) }
         ensures journal { IfOk result (λ replica. (bodies : List (List ℕ)) → IsOpenOn D.model magic self.journal disk.old bodies → IsOpenOn D.model magic replica.journal disk.new (bodies ++ prepared_bodies self)) }
         ensures any_moment { (bodies : List (List ℕ)) → IsOpenOn D.model magic self.journal disk.old bodies → LeavesOnly D.model disk.old disk.new (RecordsOrAll bodies (prepared_bodies self)) }
+        ensures growth { (bodies : List (List ℕ)) → IsOpenOn D.model magic self.journal disk.old bodies → LeavesOnly D.model disk.old disk.new (IsLongerBy D.model disk.old (length (rows (prepared_bodies self)))) }
+        ensures within { OnOk result (IsWithinLimit (prepared_bodies self)) }
+        ensures closed { is_closed self.journal ≡ true → result ≡ AnErr WriteError.Closed }
+        ensures live { IfOk result (λ replica. is_replica_closed replica ≡ false) }
         ensures refused { IfErr result (λ e. PreparedRefused D.model self disk.old disk.new e) }
         ensures kept { Kept D.model disk.old disk.new }
     {
@@ -116,13 +122,16 @@ impl Prepared {
             core,
             body,
         } = self;
-        match body {
-            Some(body) => {
-                let mut journal = journal;
-                journal.append(disk, body.as_slice())?;
-                Ok(Replica { journal, core })
-            }
-            None => Ok(Replica { journal, core }),
+        if journal.is_closed() {
+            return Err(WriteError::Closed);
+        }
+        let Some(body) = body else {
+            return Ok(Replica { journal, core });
+        };
+        let mut journal = journal;
+        match journal.append(disk, body.as_slice()) {
+            Ok(()) => Ok(Replica { journal, core }),
+            Err(error) => Err(write_error(error)),
         }
     }
 }

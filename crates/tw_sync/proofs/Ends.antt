@@ -26,7 +26,7 @@ new_replica_agrees chain = record {
 
 -- a sound replica that is moved to a version, with nothing pending, is sound
 pub stands_sound : (old : State) (v : List ℕ) (tasks : TasksValue) → IsSound old → IsSound (stands_at old v tasks)
-stands_sound old v tasks sound = record { fits = tt; tasks = refl; settled = settled_in old.numbers tasks sound.settled.once }
+stands_sound old v tasks sound = record { begins = tt; fits = tt; tasks = refl; settled = settled_in old.numbers tasks sound.settled.once }
 
 stands_agrees : (old new : State) (chain : List Version) (v : List ℕ) (tasks : TasksValue) → IsSound old → IsFold chain v tasks → new ≡ stands_at old v tasks → Agrees new chain
 stands_agrees old new chain v tasks sound f e = subst (λ s. Agrees s chain) (sym e) (record { sound = stands_sound old v tasks sound; folded = f })

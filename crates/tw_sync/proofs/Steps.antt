@@ -5,11 +5,13 @@ use Rattle.tw_model.specs.LocalOps.{fits_local, apply_local, apply_all_local, Fi
 use Rattle.tw_model.specs.declared.Op.{Op}
 use Rattle.tw_model.proofs.LocalOps.{all_taken_back}
 use Rattle.tw_protocol.specs.Chain.{Version}
+use Rattle.tw_replica.specs.Body.{is_group}
 use Rattle.tw_replica.specs.Reading.{◌>>=◌}
 use Rattle.tw_replica.specs.Settle.{settled}
 use Rattle.tw_replica.specs.State.{State, misfit, is_idle, unless, moved_to, split_group, undone}
 use Rattle.tw_replica.specs.Sound.{start_of, IsSound, IsUndone}
 use Rattle.tw_replica.proofs.Touched.{settled_in, packed_if_in}
+use Rattle.tw_replica.proofs.Groups.{group_begins, begins-append}
 use Rattle.tw_replica.proofs.Soundness.{undo_sound, undo_leads_back}
 use Rattle.tw_sync.specs.Fold.{IsFold, Agrees}
 use Rattle.tw_sync.specs.Steps.{CommitAgrees, UndoAgrees}
@@ -60,24 +62,25 @@ fit-append : (tasks : TasksValue) (xs ys : List Op) → FitAllLocal tasks xs →
 fit-append tasks [] ys first second = second
 fit-append tasks (x ∷ xs) ys first second = (first.0, fit-append (apply_local tasks x) xs ys first.1 second)
 
-module _ (renumber : Bool) (ops : List Op) (old : State) (sound : IsSound old) (fits : FitAllLocal old.tasks ops) where
+module _ (renumber : Bool) (ops : List Op) (old : State) (sound : IsSound old) (group : is_group ops ≡ true) (fits : FitAllLocal old.tasks ops) where
   start_same : take_back_all (apply_all_local old.tasks ops) (old.pending ++ ops) ≡ start_of old
   start_same = back-append (apply_all_local old.tasks ops) old.pending ops ∙ ap (λ (t : TasksValue). take_back_all t old.pending) (all_taken_back old.tasks ops fits)
 
   next_sound : IsSound (moved_to renumber (old.pending ++ ops) (apply_all_local old.tasks ops) old)
   next_sound = record {
+    begins = begins-append old.pending ops sound.begins (group_begins ops group);
     fits = subst (λ (t : TasksValue). FitAllLocal t (old.pending ++ ops)) (sym start_same) (fit-append (start_of old) old.pending ops sound.fits (subst (λ (t : TasksValue). FitAllLocal t ops) sound.tasks fits));
     tasks = ap (λ (t : TasksValue). apply_all_local t ops) sound.tasks ∙ sym (applied-append (start_of old) old.pending ops) ∙ ap (λ (t : TasksValue). apply_all_local t (old.pending ++ ops)) (sym start_same);
     settled = packed_if_in renumber (settled old.numbers (apply_all_local old.tasks ops)) (apply_all_local old.tasks ops) (settled_in old.numbers (apply_all_local old.tasks ops) sound.settled.once);
   }
 
 pub commit_agrees : CommitAgrees
-commit_agrees renumber ops old new chain a e = by (is_idle renumber ops) e
+commit_agrees renumber ops old new chain group a e = by (is_idle renumber ops) e
   where
     fitting : (o : Option ℕ) → misfit 0 old.tasks ops ≡ o → unless o (moved_to renumber (old.pending ++ ops) (apply_all_local old.tasks ops) old) ≡ Some new → Agrees new chain
     fitting None m f =
         let fits : FitAllLocal old.tasks ops = fits_from 0 old.tasks ops m in
-        subst (λ s. Agrees s chain) (some_state _ new f) (moves_from old _ chain a (next_sound renumber ops old a.sound fits) refl (start_same renumber ops old a.sound fits))
+        subst (λ s. Agrees s chain) (some_state _ new f) (moves_from old _ chain a (next_sound renumber ops old a.sound group fits) refl (start_same renumber ops old a.sound group fits))
     fitting (Some n) m f = absurd cc
 
     by : (b : Bool) → cond b (Some old) (unless (misfit 0 old.tasks ops) (moved_to renumber (old.pending ++ ops) (apply_all_local old.tasks ops) old)) ≡ Some new → Agrees new chain

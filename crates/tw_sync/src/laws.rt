@@ -71,7 +71,7 @@ pub fn added_version_cancels()
     ensures { AddedVersionCancels }
 {}
 
-/// A commit leaves a replica in agreement with the chains that it agreed with.
+/// A commit of a group leaves a replica in agreement with the chains that it agreed with.
 pub fn commit_agrees()
     ensures { CommitAgrees }
 {}

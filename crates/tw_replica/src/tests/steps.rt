@@ -2,7 +2,7 @@
 ghost use Rattle.std.specs.Prelude.{◌≡◌, IfOk};
 
 use super::{ADDED, disk_of, milk};
-use crate::{Prepared, Replica, ReplicaError};
+use crate::{Prepared, Replica, ReplicaError, TakeBackError};
 use std::alloc::Global;
 use std::test::Fail;
 use tw_model::{Change, TaskMap};
@@ -92,7 +92,7 @@ fn the_last_group_is_taken_back_in_memory(rt: HostRuntime) -> Result<(), Fail> {
     let replica = Replica::open(alloc, &mut disk)?;
     assert_eq!(rt;
         replica.take_back(alloc).err(),
-        Some(ReplicaError::NothingToUndo)
+        Some(TakeBackError::NothingToUndo)
     );
     Ok(())
 }

@@ -1,4 +1,4 @@
-use Rattle.std.proofs.Common.{◌≡◌, [], Result, Ok, Err, IfOk}
+use Rattle.std.proofs.Common.{[], Result, Ok, Err, IfOk}
 use Rattle.tw_replica.specs.Prepared.{IsEditing}
 use Rattle.tw_replica.proofs.tests.steps.with_status.Goals as goal
 

@@ -1,0 +1,258 @@
+// Why the calls of a replica are refused.
+ghost use Rattle.std.specs.Prelude.{◌≡◌};
+ghost use Rattle.tw_replica.specs.Errors.{IsOpenCause, IsWriteCause, of_open, of_write};
+
+use crate::replica::RecordError;
+use std::alloc::AllocError;
+use tw_journal::JournalError;
+use tw_world::Memory;
+
+/// Why no replica is opened.
+#[derive(Clone, Copy, Debug, PartialEq, Eq, Drop)]
+pub enum OpenError {
+    /// The disk failed.
+    Disk,
+    /// The bytes at this offset are no record of a replica, or one whose step leads nowhere.
+    Damaged { offset: u64 },
+    /// There was no memory left.
+    Memory,
+}
+
+/// Why a commit is refused.
+#[derive(Clone, Copy, Debug, PartialEq, Eq, Drop)]
+pub enum CommitError {
+    /// The journal refused: a fault of the disk, which closes the replica, or a record above its limit.
+    Journal(JournalError),
+    /// The operation with this number, counted from 0, does not fit what those before it leave. Nothing has changed.
+    Invalid { index: u64 },
+    /// There was no memory left. Nothing has changed.
+    Memory,
+}
+
+/// Why an undo is refused.
+#[derive(Clone, Copy, Debug, PartialEq, Eq, Drop)]
+pub enum UndoError {
+    /// The journal refused: a fault of the disk, which closes the replica.
+    Journal(JournalError),
+    /// There is no undo point among the pending operations. Nothing has changed.
+    NothingToUndo,
+    /// There was no memory left. Nothing has changed.
+    Memory,
+}
+
+/// Why the last group is not taken back in memory. The file is as it was.
+#[derive(Clone, Copy, Debug, PartialEq, Eq, Drop)]
+pub enum TakeBackError {
+    /// There is no undo point among the pending operations.
+    NothingToUndo,
+    /// There was no memory left.
+    Memory,
+}
+
+/// Why a prepared step is not written.
+#[derive(Clone, Copy, Debug, PartialEq, Eq, Drop)]
+pub enum WriteError {
+    /// The disk failed, and the record may stand or not.
+    Disk,
+    /// A fault of the disk had closed the replica before.
+    Closed,
+    /// The record would have so many bytes, more than 2^30. Nothing is written.
+    TooLong { bytes: u64 },
+}
+
+/// Why one of several calls of a replica is refused.
+#[derive(Clone, Copy, Debug, PartialEq, Eq, Drop)]
+pub enum ReplicaError {
+    /// The journal refused: a fault of the disk, which closes the replica, a record above its limit, or a file that is damaged at an offset.
+    Journal(JournalError),
+    /// The operation with this number, counted from 0, does not fit what those before it leave. Nothing has changed.
+    Invalid { index: u64 },
+    /// There is no undo point among the pending operations. Nothing has changed.
+    NothingToUndo,
+    /// There was no memory left. Nothing has changed.
+    Memory,
+}
+
+/// The same cause, of a journal that is opened or read.
+pub(crate) fn open_error(error: JournalError) -> OpenError
+    requires { IsOpenCause error }
+    ensures { of_open result ≡ error }
+{
+    match error {
+        JournalError::Disk => OpenError::Disk,
+        JournalError::Damaged { offset } => OpenError::Damaged { offset },
+        JournalError::Memory => OpenError::Memory,
+        JournalError::Closed | JournalError::TooLong { .. } => unreachable!(),
+    }
+}
+
+/// The same cause, of a record that is added.
+pub(crate) fn write_error(error: JournalError) -> WriteError
+    requires { IsWriteCause error }
+    ensures { of_write result ≡ error }
+{
+    match error {
+        JournalError::Disk => WriteError::Disk,
+        JournalError::Closed => WriteError::Closed,
+        JournalError::TooLong { bytes } => WriteError::TooLong { bytes },
+        JournalError::Damaged { .. } | JournalError::Memory => unreachable!(),
+    }
+}
+
+impl From<Memory> for OpenError {
+    ghost use Rattle.std.specs.Prelude.{◌≡◌};
+    ghost use Rattle.tw_replica.specs.declared.error.OpenError.TheVariants.{Memory as NoMemory};
+
+    ghost from_gives = { λ _ e. e ≡ NoMemory };
+
+    fn from(_: Memory) -> OpenError {
+        OpenError::Memory
+    }
+}
+
+impl From<Memory> for CommitError {
+    ghost use Rattle.std.specs.Prelude.{◌≡◌};
+    ghost use Rattle.tw_replica.specs.declared.error.CommitError.TheVariants.{Memory as NoMemory};
+
+    ghost from_gives = { λ _ e. e ≡ NoMemory };
+
+    fn from(_: Memory) -> CommitError {
+        CommitError::Memory
+    }
+}
+
+impl From<Memory> for UndoError {
+    ghost use Rattle.std.specs.Prelude.{◌≡◌};
+    ghost use Rattle.tw_replica.specs.declared.error.UndoError.TheVariants.{Memory as NoMemory};
+
+    ghost from_gives = { λ _ e. e ≡ NoMemory };
+
+    fn from(_: Memory) -> UndoError {
+        UndoError::Memory
+    }
+}
+
+impl From<Memory> for TakeBackError {
+    ghost use Rattle.std.specs.Prelude.{◌≡◌};
+    ghost use Rattle.tw_replica.specs.declared.error.TakeBackError.TheVariants.{Memory as NoMemory};
+
+    ghost from_gives = { λ _ e. e ≡ NoMemory };
+
+    fn from(_: Memory) -> TakeBackError {
+        TakeBackError::Memory
+    }
+}
+
+impl From<Memory> for ReplicaError {
+    ghost use Rattle.std.specs.Prelude.{◌≡◌};
+    ghost use Rattle.tw_replica.specs.declared.error.ReplicaError.TheVariants.{Memory as NoMemory};
+
+    ghost from_gives = { λ _ e. e ≡ NoMemory };
+
+    fn from(_: Memory) -> ReplicaError {
+        ReplicaError::Memory
+    }
+}
+
+impl From<RecordError> for CommitError {
+    ghost use Rattle.std.specs.Prelude.{◌≡◌};
+    ghost use Rattle.tw_replica.specs.Errors.{record_in_commit};
+
+    ghost from_gives = { λ error e. e ≡ record_in_commit error };
+
+    fn from(error: RecordError) -> CommitError {
+        match error {
+            RecordError::Journal(error) => CommitError::Journal(error),
+            RecordError::Memory => CommitError::Memory,
+        }
+    }
+}
+
+impl From<RecordError> for UndoError {
+    ghost use Rattle.std.specs.Prelude.{◌≡◌};
+    ghost use Rattle.tw_replica.specs.Errors.{record_in_undo};
+
+    ghost from_gives = { λ error e. e ≡ record_in_undo error };
+
+    fn from(error: RecordError) -> UndoError {
+        match error {
+            RecordError::Journal(error) => UndoError::Journal(error),
+            RecordError::Memory => UndoError::Memory,
+        }
+    }
+}
+
+impl From<AllocError> for ReplicaError {
+    ghost use Rattle.std.specs.Prelude.{◌≡◌};
+    ghost use Rattle.tw_replica.specs.declared.error.ReplicaError.TheVariants.{Memory as NoMemory};
+
+    ghost from_gives = { λ _ e. e ≡ NoMemory };
+
+    fn from(_: AllocError) -> ReplicaError {
+        ReplicaError::Memory
+    }
+}
+
+impl From<CommitError> for ReplicaError {
+    ghost use Rattle.std.specs.Prelude.{◌≡◌};
+    ghost use Rattle.tw_replica.specs.Errors.{commit_in_all};
+
+    ghost from_gives = { λ error e. e ≡ commit_in_all error };
+
+    fn from(error: CommitError) -> ReplicaError {
+        match error {
+            CommitError::Journal(error) => ReplicaError::Journal(error),
+            CommitError::Invalid { index } => ReplicaError::Invalid { index },
+            CommitError::Memory => ReplicaError::Memory,
+        }
+    }
+}
+
+impl From<UndoError> for ReplicaError {
+    ghost use Rattle.std.specs.Prelude.{◌≡◌};
+    ghost use Rattle.tw_replica.specs.Errors.{undo_in_all};
+
+    ghost from_gives = { λ error e. e ≡ undo_in_all error };
+
+    fn from(error: UndoError) -> ReplicaError {
+        match error {
+            UndoError::Journal(error) => ReplicaError::Journal(error),
+            UndoError::NothingToUndo => ReplicaError::NothingToUndo,
+            UndoError::Memory => ReplicaError::Memory,
+        }
+    }
+}
+
+impl From<OpenError> for ReplicaError {
+    ghost use Rattle.std.specs.Prelude.{◌≡◌};
+    ghost use Rattle.tw_replica.specs.Errors.{open_in_all};
+
+    ghost from_gives = { λ error e. e ≡ open_in_all error };
+
+    fn from(error: OpenError) -> ReplicaError {
+        match error {
+            OpenError::Disk => ReplicaError::Journal(JournalError::Disk),
+            OpenError::Damaged { offset } => {
+                ReplicaError::Journal(JournalError::Damaged { offset })
+            }
+            OpenError::Memory => ReplicaError::Memory,
+        }
+    }
+}
+
+impl From<WriteError> for ReplicaError {
+    ghost use Rattle.std.specs.Prelude.{◌≡◌};
+    ghost use Rattle.tw_replica.specs.Errors.{write_in_all};
+
+    ghost from_gives = { λ error e. e ≡ write_in_all error };
+
+    fn from(error: WriteError) -> ReplicaError {
+        match error {
+            WriteError::Disk => ReplicaError::Journal(JournalError::Disk),
+            WriteError::Closed => ReplicaError::Journal(JournalError::Closed),
+            WriteError::TooLong { bytes } => {
+                ReplicaError::Journal(JournalError::TooLong { bytes })
+            }
+        }
+    }
+}
