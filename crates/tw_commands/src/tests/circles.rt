@@ -36,34 +36,40 @@ fn a_dependency_that_closes_a_circle_is_refused(rt: HostRuntime) -> Result<(), F
     let mut ids = ids_from(1);
     for (line, wanted) in ROWS {
         let before = disk.bytes().len();
-        let found = match decided(alloc, line, NOW, &mut ids, &mut disk)? {
-            Ok(_) => 0,
-            Err(Refusal::Cycle { uuid }) => uuid.as_u128() & 0xffff,
-            Err(_) => return Err(Fail::new(line)),
-        };
-        assert_eq!(rt; found, wanted, "{line}");
+        match decided(alloc, line, NOW, &mut ids, &mut disk)? {
+            Ok(_) => assert_eq!(rt; wanted, 0, "{line}"),
+            Err(refusal) => assert_eq!(rt;
+                refusal,
+                Refusal::Cycle {
+                    uuid: uuid_of(wanted)
+                },
+                "{line}"
+            ),
+        }
         assert_eq!(rt; disk.bytes().len() > before, wanted == 0, "{line}");
     }
     Ok(())
 }
 
 // A disk with a chain of tasks, each of which depends on the one before it.
-fn chained(alloc: Global, length: u128) -> Result<MemoryDisk, Fail> {
+fn chained(alloc: Global, length: u64) -> Result<MemoryDisk, Fail> {
     let mut disk = empty_disk(alloc)?;
     let mut changes = Vec::new(alloc);
-    let mut n = 1;
-    while n <= length {
+    for before in 0..length {
+        let before = u128::from(before);
         let mut task = TaskMap::new(alloc);
         task.set(alloc, "status", Some("pending"))?;
-        let name = format!(in alloc; "dep_{}", uuid_of(n - 1))?;
+        let name = format!(in alloc; "dep_{}", uuid_of(before))?;
         task.set(alloc, name.as_str(), Some(""))?;
         changes.push(Change {
-            uuid: uuid_of(n),
+            uuid: uuid_of(before + 1),
             task: Some(task),
         })?;
-        n += 1;
     }
-    let prepared = make_changes(alloc, opened(alloc, &mut disk)?, changes, moment(1)?, false)?;
+    let Ok(replica) = Replica::open(alloc, &mut disk) else {
+        return Err(Fail::new("no replica"));
+    };
+    let prepared = make_changes(alloc, replica, changes, moment(1)?, false)?;
     match prepared.write(&mut disk) {
         Ok(_) => Ok(disk),
         Err(_) => Err(Fail::new("not written")),
