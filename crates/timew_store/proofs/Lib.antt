@@ -19,7 +19,6 @@ pub mod Stored
 pub mod MonthNames
 pub mod OneLine
 pub mod FilesHold
-pub mod Back
 pub mod Written
 pub mod Seating
 pub mod Late

@@ -1,9 +1,8 @@
 -- What an undo makes of the month files.
-use Rattle.std.specs.Prelude.{ℕ, cond, List, [], ◌∷◌, Option, Some, None, Result, Ok, Err, zero, suc}
+use Rattle.std.specs.Prelude.{ℕ, cond, List, [], ◌∷◌, Option, Some, None, Result, Ok, Err}
 use Rattle.tw_world.specs.Folder.{Files, same_bytes}
-use Rattle.timew_store.specs.Body.{FileChange, Step, ◌>>=◌}
-use Rattle.timew_store.specs.Body.Step.{Change, Undo}
-use Rattle.timew_store.specs.History.{History, start, applied, exchanged}
+use Rattle.timew_store.specs.Body.{FileChange}
+use Rattle.timew_store.specs.History.{exchanged}
 use Rattle.timew_store.specs.Held.{Held, bytes_of, replaced}
 use Rattle.timew_store.specs.Rows.{rows_of}
 use Rattle.timew_store.specs.declared.interval.Interval.{Interval}
@@ -38,17 +37,3 @@ before_last held (change ∷ earlier) = unless_edited (taken_back held change ea
 -- the state before the last change that is not undone
 abbrev pub undone_held : Held → Result Held NoUndo
 undone_held held = before_last held held.undoable
-
--- ---- finding the change
-
--- the history after steps, the last one first
-abbrev pub reached : List Step → Option History
-reached [] = Some start
-reached (s ∷ steps) = reached steps >>= λ h. applied h s
-
--- the change at a depth of the stack, found from the last step back
-abbrev pub change_back : ℕ → List Step → Option (List FileChange)
-change_back depth [] = None
-change_back depth (Undo files ∷ steps) = change_back (suc depth) steps
-change_back zero (Change files ∷ steps) = Some files
-change_back (suc depth) (Change files ∷ steps) = change_back depth steps

@@ -1,15 +1,14 @@
 use crate::body::read_record;
-use crate::error::StoreError;
 use crate::fields::ReadError;
 use crate::files::MonthFile;
-use crate::load::open_and_finish;
 use crate::record::{change_body, undo_body};
 use crate::rows::{RowsError, read_rows};
-use crate::write::write_change;
-use crate::{Intervals, LoadError, MonthError, Store, Texts, UndoError, read_month, write_month};
+use crate::{Intervals, MonthError, Texts, read_month, write_month};
 use std::alloc::Global;
 use std::test::Fail;
-use tw_world::{Folder, MemoryDisk, MemoryFolder, Text};
+use tw_world::Text;
+
+mod store;
 
 // Lines, with each liberty that a reader has, and the one text of what they say.
 #[test]
@@ -145,34 +144,6 @@ fn a_body_outside_the_grammar_is_none(rt: HostRuntime) {
     }
 }
 
-// The folder fails once the record stands, and the next opening finishes the change.
-#[test]
-fn a_change_that_was_cut_off_is_finished(rt: HostRuntime) -> Result<(), Fail> {
-    let alloc = rt.alloc();
-    let mut folder = MemoryFolder::new(alloc, Vec::new(alloc), [0].to_vec(alloc)?)?;
-    let mut disk = MemoryDisk::new(alloc, Vec::new(alloc), Vec::new(alloc))?;
-    let Ok(held) = read_record(alloc, CHANGE) else {
-        return Err(Fail::from("no record"));
-    };
-    let files = held.into_files();
-    let Ok(mut journal) = open_and_finish(alloc, &mut folder, &mut disk) else {
-        return Err(Fail::from("no journal"));
-    };
-    let written = write_change(&mut journal, &mut folder, &mut disk, &files, CHANGE);
-    assert_eq!(rt; written, Err(StoreError::Folder));
-    assert_eq!(rt; disk.bytes().len(), 13 + 5 + CHANGE.len());
-    let names = folder.names(alloc).ok().ok_or("no names")?;
-    assert_eq!(rt; names.len(), 0);
-    assert!(rt; open_and_finish(alloc, &mut folder, &mut disk).is_ok());
-    let file = folder
-        .read(alloc, "2026-01.data")
-        .ok()
-        .ok_or("no folder")?
-        .ok_or("no file")?;
-    assert_eq!(rt; file.as_slice(), b"x".as_slice());
-    Ok(())
-}
-
 // What reading two files gives: the starts of their intervals in order, or the file and the line of the first bad line.
 fn told(alloc: Global, january: &str, february: &str) -> Result<String, Fail> {
     let mut files = Vec::new(alloc);
@@ -242,186 +213,5 @@ fn files_are_read_in_any_order(rt: HostRuntime) -> Result<(), Fail> {
             "{january} and {february}"
         );
     }
-    Ok(())
-}
-
-// A folder with these files.
-fn folder_of(alloc: Global, files: &[(&str, &str)]) -> Result<MemoryFolder, Fail> {
-    let mut content = Vec::new(alloc);
-    for (name, text) in files {
-        content.push((
-            String::from_str(alloc, name)?,
-            text.as_bytes().to_vec(alloc)?,
-        ))?;
-    }
-    Ok(MemoryFolder::new(alloc, content, Vec::new(alloc))?)
-}
-
-#[test]
-fn a_store_holds_the_month_files(rt: HostRuntime) -> Result<(), Fail> {
-    let alloc = rt.alloc();
-    let table = [
-        (
-            "inc 20260105T090000Z - 20260105T090005Z\n",
-            "inc 20260201T000000Z\n",
-            "2",
-        ),
-        ("", "", "0"),
-        (
-            "inc 20260105T090000Z\n",
-            "inc 20260201T000000Z\n",
-            "2026-02.data 1",
-        ),
-        ("inc x", "inc y", "2026-01.data 1"),
-    ];
-    for (january, february, want) in table {
-        let files = [
-            ("2026-02.data", february),
-            ("2026-01.data", january),
-            ("notes", "inc z"),
-        ];
-        let mut folder = folder_of(alloc, &files)?;
-        let mut disk = MemoryDisk::new(alloc, Vec::new(alloc), Vec::new(alloc))?;
-        let told = match Store::load(alloc, &mut folder, &mut disk) {
-            Ok(store) => format!(in alloc; "{}", store.intervals().len())?,
-            Err(LoadError::BadLine { file, line }) => format!(in alloc;
-                "{} {line}",
-                file.as_str()
-            )?,
-            Err(_) => String::new(alloc),
-        };
-        assert_eq!(rt; told.as_str(), want, "{january} and {february}");
-    }
-    Ok(())
-}
-
-// The intervals of a month's lines.
-fn rows_of(alloc: Global, lines: &str) -> Result<Intervals, Fail> {
-    let rows = read_month(alloc, lines.as_bytes())
-        .ok()
-        .ok_or("a bad line")?;
-    Ok(Intervals::in_order(rows).ok_or("out of order")?)
-}
-
-// The text of a file of a folder, or `none`.
-fn file_text(alloc: Global, folder: &mut MemoryFolder, name: &str) -> Result<String, Fail> {
-    match folder.read(alloc, name).ok().ok_or("no folder")? {
-        Some(bytes) => Ok(String::from_utf8(bytes).ok().ok_or("no text")?),
-        None => Ok(String::from_str(alloc, "none")?),
-    }
-}
-
-#[test]
-fn changes_are_taken_back_one_after_another(rt: HostRuntime) -> Result<(), Fail> {
-    let alloc = rt.alloc();
-    let mut folder = folder_of(alloc, &[])?;
-    let mut disk = MemoryDisk::new(alloc, Vec::new(alloc), Vec::new(alloc))?;
-    let mut store = Store::load(alloc, &mut folder, &mut disk)
-        .ok()
-        .ok_or("no store")?;
-    let table = [
-        "inc 20260105T090000Z - 20260105T090005Z # code\n",
-        "inc 20260105T090000Z\n",
-        "",
-    ];
-    for lines in table {
-        let next = rows_of(alloc, lines)?;
-        assert!(rt;
-            store.change(alloc, &mut folder, &mut disk, next).is_ok(),
-            "{lines}"
-        );
-        assert_eq!(rt;
-            file_text(alloc, &mut folder, "2026-01.data")?.as_str(),
-            lines
-        );
-    }
-    for lines in [table[1], table[0], ""] {
-        assert!(rt;
-            store.undo(alloc, &mut folder, &mut disk).is_ok(),
-            "{lines}"
-        );
-        assert_eq!(rt;
-            file_text(alloc, &mut folder, "2026-01.data")?.as_str(),
-            lines
-        );
-    }
-    let undone = store.undo(alloc, &mut folder, &mut disk);
-    assert!(rt; matches!(&undone, Err(UndoError::NothingToUndo)));
-    assert_eq!(rt; store.intervals().len(), 0);
-    Ok(())
-}
-
-// A text that a file is given by hand after a change, and what an undo then says.
-#[test]
-fn an_undo_looks_at_the_files(rt: HostRuntime) -> Result<(), Fail> {
-    let alloc = rt.alloc();
-    let table = [
-        (
-            "2026-01.data",
-            "inc 20260105T090000Z - 20260105T090006Z\n",
-            "2026-01.data was edited",
-        ),
-        (
-            "2026-02.data",
-            "inc 20260201T000000Z - 20260201T000001Z\n",
-            "undone",
-        ),
-        (
-            "2026-02.data",
-            "inc 20260105T073000Z - 20260105T080000Z\n",
-            "2026-02.data 1",
-        ),
-    ];
-    for (file, text, want) in table {
-        let old = "inc 20260105T070000Z - 20260105T080000Z\n";
-        let mut folder = folder_of(alloc, &[("2026-01.data", old)])?;
-        let mut disk = MemoryDisk::new(alloc, Vec::new(alloc), Vec::new(alloc))?;
-        let mut store = Store::load(alloc, &mut folder, &mut disk)
-            .ok()
-            .ok_or("no store")?;
-        let next = rows_of(alloc, "inc 20260105T090000Z - 20260105T090005Z\n")?;
-        assert!(rt;
-            store.change(alloc, &mut folder, &mut disk, next).is_ok(),
-            "{want}"
-        );
-        assert!(rt; folder.replace(file, text.as_bytes()).is_ok());
-        let mut store = Store::load(alloc, &mut folder, &mut disk)
-            .ok()
-            .ok_or("no store")?;
-        let told = match store.undo(alloc, &mut folder, &mut disk) {
-            Ok(()) => String::from_str(alloc, "undone")?,
-            Err(UndoError::Edited { file }) => format!(in alloc; "{} was edited", file.as_str())?,
-            Err(UndoError::BadLine { file, line }) => format!(in alloc;
-                "{} {line}",
-                file.as_str()
-            )?,
-            Err(_) => String::new(alloc),
-        };
-        assert_eq!(rt; told.as_str(), want);
-    }
-    Ok(())
-}
-
-// The folder fails at the second of two files: the next load replaces it.
-#[test]
-fn a_change_of_two_files_is_finished(rt: HostRuntime) -> Result<(), Fail> {
-    let alloc = rt.alloc();
-    let mut folder = MemoryFolder::new(alloc, Vec::new(alloc), [2].to_vec(alloc)?)?;
-    let mut disk = MemoryDisk::new(alloc, Vec::new(alloc), Vec::new(alloc))?;
-    let mut store = Store::load(alloc, &mut folder, &mut disk)
-        .ok()
-        .ok_or("no store")?;
-    let lines = "inc 20260105T090000Z - 20260105T090005Z\ninc 20260201T000000Z\n";
-    let changed = store.change(alloc, &mut folder, &mut disk, rows_of(alloc, lines)?);
-    assert_eq!(rt; changed, Err(StoreError::Folder));
-    assert_eq!(rt;
-        file_text(alloc, &mut folder, "2026-02.data")?.as_str(),
-        "none"
-    );
-    assert!(rt; Store::load(alloc, &mut folder, &mut disk).is_ok());
-    assert_eq!(rt;
-        file_text(alloc, &mut folder, "2026-02.data")?.as_str(),
-        "inc 20260201T000000Z\n"
-    );
     Ok(())
 }
