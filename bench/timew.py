@@ -49,7 +49,7 @@ class Hours(run.Program):
     """A program over month files of its own."""
 
     def __init__(self, argv, environment, first):
-        super().__init__(argv, environment)
+        super().__init__(argv, environment, None)
         self.first = first
 
     def place(self):

@@ -55,15 +55,7 @@ fn over_journal(
         Err(_) => {
             let mut journal = FailingDisk::new();
             let mut folder = FailingFolder::new();
-            Ok(run_over(
-                rt,
-                alloc,
-                words,
-                now,
-                zone,
-                &mut folder,
-                &mut journal,
-            ))
+            Ok(run_over(rt, alloc, words, now, zone, &mut folder, &mut journal))
         }
     }
 }
@@ -104,8 +96,5 @@ fn run_over<F: Folder, D: Disk>(
 ) -> u8 {
     let mut out = Stream::new(rt.stdout());
     let mut err = Stream::new(rt.stderr());
-    timew_run(
-        alloc, words, now, zone, folder, journal, &mut out, &mut err,
-    )
-    .status
+    timew_run(alloc, words, now, zone, folder, journal, &mut out, &mut err).status
 }
