@@ -7,6 +7,7 @@ tw keeps tasks and working hours, for people who use several machines.
 usage:
   tw task [FILTER] [COMMAND] [WORDS]
   tw                    show what to do next, as tw task does without words
+  tw timew [COMMAND] [WORDS]
   tw server PORT FILE [COUNT]
                         serve syncs on a port of 127.0.0.1, with the history of
                         all clients in a file; end after COUNT connections
