@@ -6,7 +6,7 @@ use Rattle.std.specs.declared.env.VarError.TheVariants as variable
 use Rattle.tw.specs.declared.start.StartError.{StartError}
 use Rattle.tw.specs.declared.start.StartError.TheVariants.{CommandLine, Failed, InUse, Memory}
 use Rattle.tw.specs.declared.start.Part.{Part}
-use Rattle.tw.specs.declared.start.Part.TheVariants.{Help, Version, Task, Server}
+use Rattle.tw.specs.declared.start.Part.TheVariants.{Help, Version, Task, Timew, Server}
 
 -- the status of a program that does not begin
 abbrev pub status_of : StartError → ℕ
@@ -28,8 +28,9 @@ part_of word =
     cond (bytes_eq word (codes "--help")) (Some Help)
     (cond (bytes_eq word (codes "--version")) (Some Version)
     (cond (bytes_eq word (codes "task")) (Some Task)
+    (cond (bytes_eq word (codes "timew")) (Some Timew)
     (cond (bytes_eq word (codes "server")) (Some Server)
-    None)))
+    None))))
 
 -- what a variable says: nothing where it is not set, or empty
 abbrev pub value_of : {Z : Type 0} → Result (String Z) VarError → Result (Option (String Z)) StartError

@@ -7,6 +7,7 @@ tw keeps tasks and working hours, for people who use several machines.
 usage:
   tw task [FILTER] [COMMAND] [WORDS]
   tw                    show what to do next, as tw task does without words
+  tw timew [COMMAND] [WORDS]
   tw server PORT FILE [COUNT]
                         serve syncs on a port of 127.0.0.1, with the history of
                         all clients in a file; end after COUNT connections
@@ -54,6 +55,29 @@ commands that show tasks:
 between machines:
   sync                  exchange changes with the server that the settings name
 
+commands of working hours, behind tw timew:
+  start [MOMENT] [TAGS] begin an interval; an open one ends
+  stop [MOMENT]         end the open interval
+  cancel                drop it
+  continue [@N]         begin one with the tags of the last one, or of that one
+  track START - END [TAGS]
+                        place an interval
+  tag [@N ..] TAGS      add tags, to the open one without an id
+  untag [@N ..] TAGS    take tags away
+  annotate [@N] TEXT    set the note
+  delete @N ..          drop intervals
+  split @N ..           cut each in the middle
+  join @N @M            make one interval of two
+  move @N START         move one to another start
+  lengthen @N LENGTH    move the end of one to a later moment
+  shorten @N LENGTH     move it to an earlier one
+  undo                  take the last change back
+  summary [RANGE]       show intervals and their length, today's without a range
+  export [RANGE]        print them as JSON, all without a range
+
+@1 is the last interval. A range is :day, :week, :all or START - END. With
+:adjust other intervals make room for the one that is placed.
+
 A change is a word as project:Home, due:tomorrow, priority:H, +tag or -tag, and
 every other word is of the description. A filter has numbers of tasks, uuids,
 +tag, -tag, +PENDING and its kin, attributes as project:Home or
@@ -70,6 +94,10 @@ modifiers, as in due.before:eow:
 virtual tags:
   PENDING WAITING COMPLETED DELETED ACTIVE OVERDUE BLOCKED BLOCKING TAGGED
   ANNOTATED
+
+The working hours lie in the folder that the variable TIMEWARRIORDB names;
+without it in .timewarrior of the folder that HOME names: month files in data,
+and their journal undo.journal.
 
 The tasks lie in the file replica.journal, in the folder that the variable
 TASKDATA names, or the setting data.location; without them in .task of the
@@ -97,7 +125,8 @@ status:
   0 done                        4 out of memory
   1 nothing to do               5 the server or the port failed
   2 a word or setting is wrong  6 the output failed
-  3 the journal failed          7 the journal is damaged
+  3 the journal failed          7 the journal or a month file is damaged
+                                8 the folder of the month files failed
                                 8 the input failed, or is none that fits
 ";
 

@@ -1,10 +1,11 @@
 //! The program `tw`: tasks and working hours from the command line.
 //! It hands the words, the clock, the zone, the random source, files, the standard streams and connections to
-//! the calls of `tw_cli` and `tw_server`, and ends with the status that they give.
+//! the calls of `tw_cli`, `timew_cli` and `tw_server`, and ends with the status that they give.
 #![tactic(auto)]
 
 mod failing_link;
 mod help;
+mod hours;
 mod link;
 mod print;
 mod server;
@@ -13,6 +14,7 @@ mod settings;
 mod start;
 mod store;
 mod task;
+mod timew;
 mod zone;
 
 use help::{HELP, VERSION};
@@ -22,6 +24,7 @@ use start::{Part, StartError, part_of, take_first, words};
 use std::alloc::Global;
 use std::process::ExitCode;
 use task::run_task;
+use timew::run_timew;
 
 // Does what the words ask for, and gives the program's status.
 fn run(rt: &HostRuntime, alloc: Global) -> Result<u8, StartError> {
@@ -33,6 +36,7 @@ fn run(rt: &HostRuntime, alloc: Global) -> Result<u8, StartError> {
         Some(Part::Help) => Ok(print(rt, HELP)),
         Some(Part::Version) => Ok(print(rt, VERSION)),
         Some(Part::Task) => run_task(rt, alloc, &words),
+        Some(Part::Timew) => run_timew(rt, alloc, &words),
         Some(Part::Server) => run_server(rt, alloc, &words),
         None => Err(StartError::CommandLine),
     }

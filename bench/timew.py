@@ -1,0 +1,128 @@
+#!/usr/bin/env python3
+"""Times `tw timew` beside Timewarrior's `timew` on the same month files, and compares their peak memory.
+
+    bench/timew.py [--tw PATH] [--timew PATH] [--sizes 1000,10000,50000] [--runs 9] [--changes 0] [--commands start,track]
+
+For each number of intervals it writes month files as both programs have them, in UTC: half an hour of each hour from 2015 on, the
+last one some hours ago. With `--changes` so many tracks are made and taken back again before anything is measured, which leaves a
+journal as long use does. The runs of the two programs alternate. A `start` is taken back by a `cancel`, a `stop` ends an interval
+that was begun before, and `track` places an interval where there is none yet; what goes before and after is not measured.
+Each line gives the median of the wall time in milliseconds, the peak of resident memory of one more run in megabytes, and how many
+times less `tw` takes of each. Without `timew` on the machine (Debian's package timewarrior), it measures `tw` alone.
+"""
+
+import argparse
+import os
+import shutil
+import statistics
+import sys
+import tempfile
+import time
+
+import run
+
+HOUR = 3600
+COMMANDS = ["start", "stop", "track", "summary", "export"]
+
+
+def stamp(second):
+    return time.strftime("%Y%m%dT%H%M%SZ", time.gmtime(second))
+
+
+def first_second(number):
+    """The start of the first interval, so that the last one is some hours ago."""
+    return (int(time.time()) // HOUR - number - 6) * HOUR
+
+
+def write_months(folder, number):
+    os.makedirs(folder)
+    months = {}
+    for i in range(number):
+        start = first_second(number) + i * HOUR
+        line = f"inc {stamp(start)} - {stamp(start + HOUR // 2)} # code project{i % 10}"
+        months.setdefault(time.strftime("%Y-%m", time.gmtime(start)), []).append(line)
+    for month, lines in months.items():
+        run.write_lines(folder, f"{month}.data", lines)
+
+
+class Hours(run.Program):
+    """A program over month files of its own."""
+
+    def __init__(self, argv, environment, first):
+        super().__init__(argv, environment, None)
+        self.first = first
+
+    def place(self):
+        """The words of an interval where there is none yet: ten minutes in the free half of an hour."""
+        self.turn += 1
+        start = self.first + self.turn // 2 * HOUR + HOUR // 2 + self.turn % 2 * 900
+        return ["track", stamp(start), "-", stamp(start + 600), "call"]
+
+    def measure(self, command, wrapper=()):
+        if command == "start":
+            taken = self.run(["start", "call"], wrapper)
+            self.run(["cancel"])
+            return taken
+        if command == "stop":
+            self.run(["start", "call"])
+            taken = self.run(["stop"], wrapper)
+            self.run(["delete", "@1"])
+            return taken
+        if command == "track":
+            return self.run(self.place(), wrapper)
+        return self.run([command, ":all"] if command == "summary" else [command], wrapper)
+
+
+def programs(arguments, folder, number):
+    base = {"PATH": os.environ.get("PATH", ""), "HOME": folder, "LANG": "C.UTF-8"}
+    first = first_second(number)
+    found = []
+    for name, argv, zone in [("tw", [arguments.tw, "timew"], ""), ("timew", [arguments.timew], "UTC")]:
+        if argv[0]:
+            store = os.path.join(folder, name)
+            write_months(os.path.join(store, "data"), number)
+            run.write_lines(store, "timewarrior.cfg", [])
+            found.append(Hours(argv, dict(base, TIMEWARRIORDB=store, TZ=zone), first))
+    for program in found:
+        for _ in range(arguments.changes // 2):
+            program.run(["track", stamp(first - HOUR), "-", stamp(first - HOUR + 60), "call"])
+            program.run(["undo"])
+    return found
+
+
+def compare(arguments, number):
+    with tempfile.TemporaryDirectory(prefix="tw-bench-") as folder:
+        pair = programs(arguments, folder, number)
+        for command in arguments.commands:
+            walls = [[] for _ in pair]
+            for _ in range(arguments.runs):
+                for place, program in enumerate(pair):
+                    walls[place].append(program.measure(command))
+            peaks = [program.peak(command, folder) for program in pair]
+            run.show(number, command, [statistics.median(wall) for wall in walls], peaks)
+
+
+def main():
+    here = os.path.dirname(os.path.abspath(__file__))
+    built = os.path.join(here, "..", "crates", "tw", "out", "tw")
+    parser = argparse.ArgumentParser(description="Times tw beside Timewarrior.")
+    parser.add_argument("--tw", default=built, help="the program tw")
+    parser.add_argument("--timew", default=shutil.which("timew"), help="Timewarrior's program")
+    parser.add_argument("--sizes", default="1000,10000,50000", help="numbers of intervals")
+    parser.add_argument("--runs", type=int, default=9, help="runs of each command")
+    parser.add_argument("--changes", type=int, default=0, help="changes that were made before")
+    parser.add_argument("--commands", default=",".join(COMMANDS), help="commands to run")
+    arguments = parser.parse_args()
+    arguments.commands = arguments.commands.split(",")
+    if not os.access(arguments.tw, os.X_OK):
+        sys.exit(f"there is no program {arguments.tw}: build it by tools/build")
+    heads = [" hours command       ", "            tw        "]
+    if arguments.timew:
+        heads += ["          timew       ", "  time   memory"]
+    print(" | ".join(heads))
+    for number in arguments.sizes.split(","):
+        compare(arguments, int(number))
+
+
+if __name__ == "__main__":
+    main()
