@@ -70,7 +70,7 @@ fn a_task_is_added(rt: HostRuntime) -> Result<(), Fail> {
 fn words_outside_the_grammar_are_told(rt: HostRuntime) -> Result<(), Fail> {
     let alloc = rt.alloc();
     let rows = [
-        ("import", 0, WordKind::Unbuilt),
+        ("_generate|1|0", 0, WordKind::Unbuilt),
         ("add", 0, WordKind::Missing),
         ("add|", 1, WordKind::Value),
         ("done", 0, WordKind::NoFilter),
