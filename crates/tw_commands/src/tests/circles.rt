@@ -63,7 +63,14 @@ fn chained(alloc: Global, length: u128) -> Result<MemoryDisk, Fail> {
         })?;
         n += 1;
     }
-    let prepared = make_changes(alloc, opened(alloc, &mut disk)?, changes, moment(1)?, false)?;
+    let prepared = make_changes(
+        alloc,
+        opened(alloc, &mut disk)?,
+        changes,
+        &Vec::new(alloc),
+        moment(1)?,
+        false,
+    )?;
     match prepared.write(&mut disk) {
         Ok(_) => Ok(disk),
         Err(_) => Err(Fail::new("not written")),
