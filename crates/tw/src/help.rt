@@ -78,16 +78,19 @@ commands of working hours, behind tw timew:
 @1 is the last interval. A range is :day, :week, :all or START - END. With
 :adjust other intervals make room for the one that is placed.
 
-A change is a word as project:Home, due:tomorrow, priority:H, +tag or -tag, and
-every other word is of the description. A filter has numbers of tasks, uuids,
+A change is a word as project:Home, due:tomorrow, priority:H, depends:3, +tag or
+-tag, and every other word is of the description. A task that is added with
+due:2026-01-31 recur:monthly recurs: the reports make a task for each month.
+
+A filter has numbers of tasks, uuids,
 +tag, -tag, +PENDING and its kin, attributes as project:Home or
 due.before:eow, and words of the description, with and, or, xor, ! and brackets
 between them. Words behind -- are text.
 
 attributes that a change may set:
-  description project priority due wait scheduled until entry depends
+  description project priority due wait scheduled until entry depends recur
 attributes that a filter may ask for, too:
-  modified start end status recur parent uuid
+  modified start end status parent uuid
 modifiers, as in due.before:eow:
   none any is equals isnt not before below after above has contains hasnt
   startswith left endswith right word noword

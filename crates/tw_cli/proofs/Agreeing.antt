@@ -19,9 +19,11 @@ use Rattle.tw_replica.proofs.Commits.{changes_are_group}
 use Rattle.tw_sync.proofs.Steps.{commit_agrees, undo_agrees}
 use Rattle.tw_sync.proofs.Ends.{sync_end_agrees}
 use Rattle.tw_world.specs.declared.ids.IdWords.{IdWords}
-use Rattle.tw_model.specs.Changes.{ops_of_all, group_of}
+use Rattle.tw_model.specs.declared.changes.Change.{Change}
+use Rattle.tw_model.specs.Changes.{changed_all, ops_of_all, group_of}
 use Rattle.tw_replica.specs.State.{applied}
 use Rattle.tw_replica.specs.Prepared.{step_bodies}
+use Rattle.tw_commands.specs.Marks.{mask_changes}
 use Rattle.tw_commands.specs.Plan.{Plan, Work, step_in}
 use Rattle.tw_commands.specs.Plan.Work.{Changes, TakeBack}
 use Rattle.tw_commands.specs.Commands.{plan_of}
@@ -56,7 +58,9 @@ LeadsAgreeing chain next = (s : State) → next ≡ Some s → Agrees s chain
 
 -- the step of a command is a commit or an undo, which keep agreement
 work_agrees : (request : Request) (old new : State) (work : Work) (chain : List Version) → Agrees old chain → applied old (step_in request.at old work) ≡ Some new → Agrees new chain
-work_agrees request old new (Changes renumber changes) chain a e = commit_agrees renumber (group_of (ops_of_all old.tasks changes request.at)) old new chain (changes_are_group old.tasks changes request.at) a e
+work_agrees request old new (Changes renumber changes marks) chain a e =
+    let all : List Change = changes ++ mask_changes request.at (changed_all old.tasks changes) marks in
+    commit_agrees renumber (group_of (ops_of_all old.tasks all request.at)) old new chain (changes_are_group old.tasks all request.at) a e
 work_agrees request old new TakeBack chain a e = undo_agrees old new chain a e
 
 carried_agrees : (request : Request) (ids : IdWords) (old : State) (c : Carried) (chain : List Version) → carried_out request ids old ≡ Ok c → Agrees old chain → Agrees c.new chain

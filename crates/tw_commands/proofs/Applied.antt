@@ -3,13 +3,14 @@ use Rattle.std.proofs.Common.{◌≡◌, ◌∙◌, ap, sym, refl, List, ℕ, Op
 use Rattle.tw_world.specs.declared.Moment.{Moment}
 use Rattle.tw_model.specs.Ops.{TasksValue}
 use Rattle.tw_model.specs.LocalOps.{apply_local, apply_all_local, FitAllLocal}
-use Rattle.tw_model.specs.Changes.{ops_of_all, group_of}
+use Rattle.tw_model.specs.Changes.{changed_all, ops_of_all, group_of}
 use Rattle.tw_model.specs.declared.Op.{Op}
 use Rattle.tw_model.specs.declared.Change.{Change}
 use Rattle.tw_model.proofs.Leading.{changes_lead}
 use Rattle.tw_replica.specs.Body.{Step}
 use Rattle.tw_replica.specs.Body.Step.{Commit}
 use Rattle.tw_replica.specs.State.{State, applied, misfit, unless, is_idle, moved_to}
+use Rattle.tw_commands.specs.Marks.{mask_changes}
 use Rattle.tw_commands.specs.Plan.{Plan, step_in}
 use Rattle.tw_commands.specs.Commands.{plan_of}
 use Rattle.tw_commands.specs.Laws.{CarriedIsApplied, ChangesAreCarriedOut}
@@ -61,7 +62,8 @@ leads renumber changes now old =
     (none_misfits 0 old.tasks (group_of ops) (group_fits old.tasks ops (changes_lead old.tasks changes now).0))
 
 pub changes_carried : ChangesAreCarriedOut
-changes_carried request ids old plan renumber changes planned works =
-    let there = leads renumber changes request.at old in
+changes_carried request ids old plan renumber changes marks planned works =
+    let all : List Change = changes ++ mask_changes request.at (changed_all old.tasks changes) marks in
+    let there = leads renumber all request.at old in
     let step : applied old (step_in request.at old plan.work) ≡ Some there.0 = ap (λ w. applied old (step_in request.at old w)) works ∙ there.1 in
     (there.0, ap (carried_by request old) planned ∙ ap (then_concluded request plan old (step_in request.at old plan.work)) step)

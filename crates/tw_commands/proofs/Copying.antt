@@ -6,6 +6,7 @@ use Rattle.tw_model.specs.Ops.{TaskValue, TasksValue}
 use Rattle.tw_model.specs.declared.changes.Change.{Change}
 use Rattle.tw_commands.specs.Request.{drawn, after_draw}
 use Rattle.tw_commands.specs.Plan.Work.{Changes}
+use Rattle.tw_commands.specs.declared.marks.Mark.{Mark}
 use Rattle.tw_commands.specs.Plan.Show.{Counted}
 use Rattle.tw_commands.specs.Makes.Duplicate.{Copies, is_taken, stopped, where_there, copies_of, change_of, duplicating}
 use Rattle.tw_commands.specs.declared.plan.Deed.TheVariants.{Duplicated}
@@ -31,7 +32,7 @@ pub none_made : (es : List (List ℕ × TaskValue)) → length es ≡ 0 → Err 
 none_made [] e = refl
 none_made (x ∷ es) e = absurd cc
 
-pub some_made : (es : List (List ℕ × TaskValue)) (n : ℕ) (changes : List Change) → (length es ≡ 0 → ⊥) → n ≡ length es → changes ≡ map change_of es
-    → Ok (record { work = Changes false changes; show = Counted Duplicated n }) ≡ duplicating es
-some_made [] n changes some count made = absurd (some refl)
-some_made (x ∷ es) n changes some count made = λ i. Ok (record { work = Changes false (made i); show = Counted Duplicated (count i) })
+pub some_made : (es : List (List ℕ × TaskValue)) (n : ℕ) (changes : List Change) (marks : List Mark) → (length es ≡ 0 → ⊥) → n ≡ length es → changes ≡ map change_of es → marks ≡ []
+    → Ok (record { work = Changes false changes marks; show = Counted Duplicated n }) ≡ duplicating es
+some_made [] n changes marks some count made none = absurd (some refl)
+some_made (x ∷ es) n changes marks some count made none = λ i. Ok (record { work = Changes false (made i) (none i); show = Counted Duplicated (count i) })

@@ -5,3 +5,4 @@ pub mod Importing
 pub mod Joining
 pub mod Taken
 pub mod Circling
+pub mod Marking

@@ -17,6 +17,7 @@ use Rattle.tw_commands.specs.Spaced.{rest_text}
 use Rattle.tw_commands.specs.Plan.{Plan}
 use Rattle.tw_commands.specs.Plan.Work.{TakeBack}
 use Rattle.tw_commands.specs.Plan.Show.{TakenBack}
+use Rattle.tw_commands.specs.Marks.{marks_of}
 use Rattle.tw_commands.specs.Effects.{changes_by, acting}
 use Rattle.tw_commands.specs.Effects.Modify.{modify}
 use Rattle.tw_commands.specs.Effects.Texts.{append, prepend}
@@ -65,7 +66,9 @@ effect_in request state task = effect_by (scene_in request state) request.line r
 
 -- what a command that acts on selected tasks is to do
 abbrev pub editing : Deed → Request → State → Result Plan Refusal
-editing deed request state = acting deed (changes_by (effect_in request state) request.at state.tasks (selected_in request state))
+editing deed request state =
+    let changes = changes_by (effect_in request state) request.at state.tasks (selected_in request state) in
+    acting deed changes (marks_of request.line.command state.tasks changes)
 
 -- what `undo` is to do
 abbrev pub undoing : Plan

@@ -10,6 +10,7 @@ use Rattle.tw_commands.specs.Plan.Work.{Changes}
 use Rattle.tw_commands.specs.Plan.Show.{Counted}
 use Rattle.tw_commands.specs.declared.effect.Effect.{Effect}
 use Rattle.tw_commands.specs.declared.effect.Effect.TheVariants.{Nothing, Becomes, Removed}
+use Rattle.tw_commands.specs.declared.marks.Mark.{Mark}
 use Rattle.tw_commands.specs.declared.plan.Deed.{Deed}
 use Rattle.tw_commands.specs.declared.refusal.Refusal.{Refusal}
 use Rattle.tw_commands.specs.declared.refusal.Refusal.TheVariants.{NoMatch}
@@ -37,7 +38,7 @@ abbrev pub changes_by : (TaskValue → Effect) → Moment → TasksValue → Lis
 changes_by effect now tasks [] = []
 changes_by effect now tasks (u ∷ us) = change_at effect now u (get tasks u) ++ changes_by effect now tasks us
 
--- a command that made these changes; it needs a task on which it acts
-abbrev pub acting : Deed → List Change → Result Plan Refusal
-acting deed [] = Err NoMatch
-acting deed (change ∷ changes) = Ok (record { work = Changes false (change ∷ changes); show = Counted deed (length (change ∷ changes)) })
+-- a command that made these changes, and leaves these marks; it needs a task on which it acts
+abbrev pub acting : Deed → List Change → List Mark → Result Plan Refusal
+acting deed [] marks = Err NoMatch
+acting deed (change ∷ changes) marks = Ok (record { work = Changes false (change ∷ changes) marks; show = Counted deed (length (change ∷ changes)) })

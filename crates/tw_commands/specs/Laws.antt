@@ -7,6 +7,7 @@ use Rattle.tw_commands.specs.Plan.{Plan, step_in}
 use Rattle.tw_commands.specs.Plan.Work.{Changes}
 use Rattle.tw_commands.specs.Commands.{plan_of}
 use Rattle.tw_commands.specs.Carried.{Carried, with_text, concluded, carried_out}
+use Rattle.tw_commands.specs.declared.marks.Mark.{Mark}
 use Rattle.tw_commands.specs.declared.request.Request.{Request}
 
 -- what a command comes to is its step, taken from the state before
@@ -15,5 +16,5 @@ CarriedIsApplied = (request : Request) (ids : IdWords) (old : State) (carried : 
 
 -- a command that makes changes is carried out, unless they close a circle or a report has nothing to show: their operations fit, whatever they are
 abbrev pub ChangesAreCarriedOut : Type 0
-ChangesAreCarriedOut = (request : Request) (ids : IdWords) (old : State) (plan : Plan) (renumber : Bool) (changes : List Change) → plan_of request ids old ≡ Ok plan → plan.work ≡ Changes renumber changes
+ChangesAreCarriedOut = (request : Request) (ids : IdWords) (old : State) (plan : Plan) (renumber : Bool) (changes : List Change) (marks : List Mark) → plan_of request ids old ≡ Ok plan → plan.work ≡ Changes renumber changes marks
     → (new : State) × (carried_out request ids old ≡ with_text (step_in request.at old plan.work) new (concluded request plan.show old new))

@@ -1,6 +1,7 @@
 pub mod Request
 pub mod Spaced
 pub mod Stamps
+pub mod Marks
 pub mod Worded
 pub mod Plan
 pub mod Effects

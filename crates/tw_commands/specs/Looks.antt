@@ -10,4 +10,4 @@ pub mod Information
 
 -- nothing is changed, and a text is printed
 abbrev pub looking : List ℕ → Plan
-looking text = record { work = Changes false []; show = Text text }
+looking text = record { work = Changes false [] []; show = Text text }

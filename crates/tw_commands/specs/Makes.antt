@@ -18,5 +18,5 @@ made_task now status task = insert (insert (insert task (codes "entry") (decimal
 
 -- a task of a uuid that has none
 abbrev pub making : Show → List ℕ → TaskValue → Option TaskValue → Result Plan Refusal
-making show u task None = Ok (record { work = Changes false (record { uuid = u; task = Some task } ∷ []); show = show })
+making show u task None = Ok (record { work = Changes false (record { uuid = u; task = Some task } ∷ []) []; show = show })
 making show u task (Some there) = Err (IdTaken u)

@@ -10,7 +10,9 @@ use Rattle.tw_urgency.specs.Dependencies.{is_blocked}
 use Rattle.tw_urgency.specs.Status.{status_of}
 use Rattle.tw_urgency.specs.declared.status.Status.{Status}
 use Rattle.tw_urgency.specs.declared.status.Status.TheVariants as status
-use Rattle.tw_words.specs.Switches.{is_set_on}
+use Rattle.tw_model.specs.declared.changes.Change.{Change}
+use Rattle.tw_recur.specs.Instances.{instance_changes}
+use Rattle.tw_words.specs.Switches.{is_set_on, recurrence_limit}
 use Rattle.tw_words.specs.Weights.{weights}
 use Rattle.tw_report.specs.Sight.{Sight}
 use Rattle.tw_report.specs.Texts.{report_text}
@@ -60,10 +62,16 @@ rows_of report tasks now us = filter (λ u. is_row_there report tasks now (get t
 abbrev pub has_vacant : Places → Bool
 has_vacant places = list_any is_none places
 
--- it packs the numbers where that is on and a place is vacant, and knows the numbers from before
+-- the instances that it makes, where that is on
+abbrev pub instances_in : Request → State → List Change
+instances_in request state =
+    cond (is_set_on (codes "recurrence") request.settings)
+    (instance_changes state.tasks request.at.seconds request.zone.now (recurrence_limit request.settings)) []
+
+-- it makes instances, packs the numbers where that is on and a place is vacant, and knows the numbers from before
 abbrev pub reporting : AnyReport → Request → State → Plan
 reporting report request state = record {
-  work = Changes (is_set_on (codes "gc") request.settings && has_vacant state.numbers) [];
+  work = Changes (is_set_on (codes "gc") request.settings && has_vacant state.numbers) (instances_in request state) [];
   show = Report report state.numbers;
 }
 

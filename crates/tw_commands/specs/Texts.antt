@@ -5,7 +5,7 @@ use Rattle.std.specs.Fmt.{decimal}
 use Rattle.tw_model.specs.Places.{Places, id_of}
 use Rattle.tw_replica.specs.State.{State}
 use Rattle.tw_commands.specs.Plan.{Show}
-use Rattle.tw_commands.specs.Plan.Show.{Counted, Created, Logged, TakenBack, Text, Report}
+use Rattle.tw_commands.specs.Plan.Show.{Counted, Created, Template, Logged, TakenBack, Text, Report}
 use Rattle.tw_commands.specs.declared.plan.Deed.{Deed}
 use Rattle.tw_commands.specs.declared.plan.Deed.TheVariants.{Modified, Annotated, Denotated, Completed, Deleted, Purged, Started, Stopped, Duplicated, Imported}
 use Rattle.tw_commands.specs.Reports.{reported}
@@ -46,6 +46,10 @@ counted_text deed n = numbered (deed_word deed) n (cond (n == 1) (codes " task.\
 abbrev pub created_text : List ℕ → Places → List ℕ
 created_text u places = numbered (codes "Created task ") (number_of u places) (codes ".\n")
 
+-- of a task that was added and recurs
+abbrev pub template_text : List ℕ → Places → List ℕ
+template_text u places = numbered (codes "Created task ") (number_of u places) (codes " (recurrence template).\n")
+
 -- of operations that were taken back
 abbrev pub undone_text : ℕ → List ℕ
 undone_text n = numbered (codes "Undone ") n (cond (n == 1) (codes " operation.\n") (codes " operations.\n"))
@@ -58,6 +62,7 @@ count_text n = numbered [] n (codes "\n")
 abbrev pub shown : Request → Show → (old new : State) → Result (List ℕ) Refusal
 shown request (Counted deed n) old new = Ok (counted_text deed n)
 shown request (Created u) old new = Ok (created_text u new.numbers)
+shown request (Template u) old new = Ok (template_text u new.numbers)
 shown request Logged old new = Ok (codes "Logged task.\n")
 shown request TakenBack old new = Ok (undone_text (length old.pending - (length new.pending + 1)))
 shown request (Text text) old new = Ok text

@@ -5,6 +5,7 @@ ghost use Rattle.tw_commands.specs.Stamps.{stamped};
 ghost use Rattle.tw_commands.specs.Effects.{change_by, acting};
 ghost use Rattle.tw_commands.specs.Plan.{planned};
 
+use crate::marks::Mark;
 use crate::plan::{Deed, Plan, Show, Work};
 use crate::refusal::Refusal;
 use std::alloc::Global;
@@ -73,9 +74,9 @@ pub(crate) fn push_change(
     }
 }
 
-/// What a command is to do that made these changes of tasks. It needs one.
-pub(crate) fn acting(deed: Deed, changes: Vec<Change>) -> Result<Plan, Refusal>
-    ensures { planned result ≡ acting deed changes.items }
+/// What a command is to do that made these changes of tasks, and leaves these marks. It needs one change.
+pub(crate) fn acting(deed: Deed, changes: Vec<Change>, marks: Vec<Mark>) -> Result<Plan, Refusal>
+    ensures { planned result ≡ acting deed changes.items marks.items }
 {
     if changes.len() == 0 {
         return Err(Refusal::NoMatch);
@@ -85,6 +86,7 @@ pub(crate) fn acting(deed: Deed, changes: Vec<Change>) -> Result<Plan, Refusal>
         work: Work::Changes {
             renumber: false,
             changes,
+            marks,
         },
         show: Show::Counted { deed, count },
     })

@@ -8,7 +8,8 @@ pub fn what_a_command_comes_to_is_its_step()
     ensures { CarriedIsApplied }
 {}
 
-/// A command that makes changes is carried out, unless they close a circle: their operations fit, whatever they are.
+/// A command that makes changes is carried out, unless they close a circle or a report has nothing to show: their operations fit,
+/// whatever they are.
 pub fn changes_are_carried_out()
     ensures { ChangesAreCarriedOut }
 {}

@@ -8,6 +8,7 @@ mod commands;
 mod effect;
 mod input;
 pub mod laws;
+mod marks;
 mod plan;
 mod ready;
 mod refusal;

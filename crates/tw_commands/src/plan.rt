@@ -1,4 +1,5 @@
 // What a command is to do, and what it is to print.
+use crate::marks::Mark;
 use tw_model::Change;
 use tw_report::Report;
 use uuid::Uuid;
@@ -21,10 +22,11 @@ pub(crate) enum Deed {
 /// The step of a command.
 #[derive(Drop)]
 pub(crate) enum Work {
-    /// Changes are made, one after another, and the numbers packed if that is asked.
+    /// Changes are made, one after another, parents marked, and the numbers packed if that is asked.
     Changes {
         renumber: bool,
         changes: Vec<Change>,
+        marks: Vec<Mark>,
     },
     /// The last group is taken back.
     TakeBack,
@@ -40,6 +42,10 @@ pub(crate) enum Show {
     },
     /// The number of a task that was added.
     Created {
+        uuid: Uuid,
+    },
+    /// The number of a task that was added and recurs.
+    Template {
         uuid: Uuid,
     },
     /// That a task was logged.

@@ -14,10 +14,11 @@ ghost use Rattle.tw_commands.specs.Ready.{IsReady, NotReady};
 use crate::circles::{first_circle, is_judged};
 use crate::commands::plan_of;
 use crate::commands::report::reported;
+use crate::marks::{Mark, mask_changes};
 use crate::plan::{Plan, Show, Work};
 use crate::refusal::Refusal;
 use crate::request::Request;
-use crate::texts::{counted_text, created_text, logged_text, undone_text};
+use crate::texts::{counted_text, created_text, logged_text, template_text, undone_text};
 use std::alloc::Global;
 use tw_model::Change;
 use tw_replica::{Prepared, Replica, TakeBackError};
@@ -31,18 +32,21 @@ pub struct Ready {
     pub text: Vec<u8>,
 }
 
-/// Makes the changes of a command in memory.
+/// Makes the changes of a command in memory, and then those of the parents that it marks.
 pub(crate) fn make_changes(
     alloc: Global,
     replica: Replica,
     changes: Vec<Change>,
+    marks: &Vec<Mark>,
     now: Moment,
     renumber: bool,
 ) -> Result<Prepared, Memory>
-    ensures { IfOk result (IsPrepared replica (step_in now (held_state replica) (Changes renumber changes.items))) }
+    ensures { IfOk result (IsPrepared replica (step_in now (held_state replica) (Changes renumber changes.items marks.now.items))) }
 {
     let mut editing = replica.edit(alloc);
     editing.make(alloc, changes, now)?;
+    let masks = mask_changes(alloc, now, editing.tasks(), marks)?;
+    editing.make(alloc, masks, now)?;
     editing.prepare(alloc, renumber)
 }
 
@@ -58,8 +62,12 @@ fn prepare(
         × (applied (held_state replica) (step_in now (held_state replica) (work_view work)) ≡ Nowhere))) }
 {
     match work {
-        Work::Changes { renumber, changes } => {
-            let prepared = make_changes(alloc, replica, changes, now, renumber)?;
+        Work::Changes {
+            renumber,
+            changes,
+            marks,
+        } => {
+            let prepared = make_changes(alloc, replica, changes, &marks, now, renumber)?;
             Ok(Ok(prepared))
         }
         Work::TakeBack => match replica.take_back(alloc) {
@@ -84,6 +92,7 @@ fn shown(
     let text = match show {
         Show::Counted { deed, count } => counted_text(alloc, deed, count)?,
         Show::Created { uuid } => created_text(alloc, uuid, prepared.numbers())?,
+        Show::Template { uuid } => template_text(alloc, uuid, prepared.numbers())?,
         Show::Logged => logged_text(alloc)?,
         Show::TakenBack => {
             let left = prepared.pending().len() + 1;

@@ -1,6 +1,7 @@
 // What commands come to in a replica in memory.
 mod circles;
 mod imports;
+mod recurrence;
 mod reports;
 mod statuses;
 

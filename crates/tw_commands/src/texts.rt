@@ -72,6 +72,22 @@ pub(crate) fn created_text(
     numbered(alloc, "Created task ", number_of(uuid, places), ".\n")
 }
 
+/// The number of a task that was added and recurs.
+pub(crate) fn template_text(
+    alloc: Global,
+    uuid: Uuid,
+    places: &Vec<Option<Uuid>>,
+) -> Result<Vec<u8>, Memory>
+    ensures { IfOk result (λ text. text.items ≡ spec.template_text uuid places.now.items) }
+{
+    numbered(
+        alloc,
+        "Created task ",
+        number_of(uuid, places),
+        " (recurrence template).\n",
+    )
+}
+
 /// How many operations were taken back.
 pub(crate) fn undone_text(alloc: Global, count: u64) -> Result<Vec<u8>, Memory>
     ensures { IfOk result (λ text. text.items ≡ spec.undone_text count) }

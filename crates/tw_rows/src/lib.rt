@@ -10,6 +10,8 @@ mod damage;
 #[cfg(test)]
 mod imports;
 #[cfg(test)]
+mod instances;
+#[cfg(test)]
 mod machine;
 #[cfg(test)]
 mod merges;

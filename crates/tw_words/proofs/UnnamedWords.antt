@@ -11,7 +11,7 @@ use Rattle.tw_filter.specs.declared.bad_word.WordKind.{WordKind}
 use Rattle.tw_filter.specs.declared.bad_word.WordKind.TheVariants as bad
 use Rattle.tw_words.specs.Lines.{Parts}
 use Rattle.tw_words.specs.Modifications.{item_in, takes_out, is_plain, is_add, tag_of, pair_of, field_named, word_fault, full_fault, field_fault, date_fault, first_fault, at_word, first_of, rest_words, tally_of, number_at, unless}
-use Rattle.tw_words.specs.Modifications.{untagged_fault, tagged_fault, word_unbuilt, kind_or, judged_word}
+use Rattle.tw_words.specs.Modifications.{untagged_fault, tagged_fault}
 use Rattle.tw_words.specs.Changed.{Draft, task_in, set_to, dependency_on, going_on, with_items, with_task, given, draft_of, dated, with_value, without_value, with_pair, with_text, pair_or_text, tag_or_pair, unless_wrong, with_word, with_words, made, made_of, beginning}
 use Rattle.tw_words.specs.Changed.{going_on_behind}
 use Rattle.jiff.specs.Types.{TimeZone}
@@ -83,11 +83,6 @@ no_fault : (line : Parts) (n : ℕ) (o : Option WordKind) (others : Option BadWo
 no_fault line n None others h = (refl, h)
 no_fault line n (Some kind) others h = absurd (cc)
 
--- a word that is judged right is right in itself
-right_itself : (o fault : Option WordKind) → kind_or o fault ≡ None → fault ≡ None
-right_itself None fault h = h
-right_itself (Some kind) fault h = absurd (cc)
-
 one_made : (line : Parts) (n : ℕ) (b : Bool) (r : Result Draft WordKind) (others : Option BadWord) (on : Draft → Result Draft WordError) → IsMade b r → ((m : Draft) → IsRefusedAt others (on m))
     → IsRefusedAt (first_of (at_word line n (unless (not b) bad.Id)) others) (going_on_behind line n r on)
 one_made line n false (Ok m) others on h more = more m
@@ -102,9 +97,9 @@ words_made scene sole line m n (word ∷ words) h =
     let adding = is_add line.command in
     let plain = is_plain line n in
     let clock = Some (scene.now, scene.tz) in
-    let none = no_fault line n (judged_word clock adding sole plain word) (first_fault clock sole line (n + 1) words) h in
+    let none = no_fault line n (word_fault clock adding sole plain word) (first_fault clock sole line (n + 1) words) h in
     one_made line n (word_unnamed scene adding plain word) (with_word scene adding sole plain m word) (unnamed_from scene line (n + 1) words) (λ made. with_words scene sole line made (n + 1) words)
-    (word_made scene adding sole plain m word (right_itself (word_unbuilt adding plain word) (word_fault clock adding sole plain word) none.0)) (λ made. words_made scene sole line made (n + 1) words none.1)
+    (word_made scene adding sole plain m word none.0) (λ made. words_made scene sole line made (n + 1) words none.1)
 
 task_made : (o : Option BadWord) (r : Result Draft WordError) → IsRefusedAt o r → IsRefusedAt o (made_of r)
 task_made None (Ok m) h = (made m, refl)

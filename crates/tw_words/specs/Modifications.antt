@@ -150,33 +150,6 @@ tagged_fault clock adding sole plain word (Some x) = unless (not (is_virtual x.1
 abbrev pub word_fault : Clock → (adding sole plain : Bool) → List ℕ → Option WordKind
 word_fault clock adding sole plain word = tagged_fault clock adding sole plain word (tag_of plain word)
 
--- ---- words that are not carried out yet
-
--- whether the program carries out words of a field: of recurrence it does not
-abbrev pub is_field_built : Field → Bool
-is_field_built field.Recur = false
-is_field_built _ = true
-
-abbrev pub field_unbuilt : Option Field → Option WordKind
-field_unbuilt None = None
-field_unbuilt (Some field) = unless (is_field_built field) bad.Unbuilt
-
-abbrev pub pair_unbuilt : (adding : Bool) → Option (List ℕ × List ℕ) → Option WordKind
-pair_unbuilt adding None = None
-pair_unbuilt adding (Some x) = field_unbuilt (field_named adding x.0)
-
--- a word of a field that is not built
-abbrev pub word_unbuilt : (adding plain : Bool) → List ℕ → Option WordKind
-word_unbuilt adding plain word = pair_unbuilt adding (pair_of plain word)
-
-abbrev pub kind_or : Option WordKind → Option WordKind → Option WordKind
-kind_or None o = o
-kind_or (Some kind) o = Some kind
-
--- what is wrong with a modification word of a line: it is not built, or it is wrong in itself
-abbrev pub judged_word : Clock → (adding sole plain : Bool) → List ℕ → Option WordKind
-judged_word clock adding sole plain word = kind_or (word_unbuilt adding plain word) (word_fault clock adding sole plain word)
-
 -- ---- what all of them give
 
 abbrev pub with_text : Tally → Tally
@@ -227,4 +200,4 @@ first_of (Some b) o = Some b
 abbrev pub first_fault : Clock → (sole : Bool) → Parts → ℕ → List (List ℕ) → Option BadWord
 first_fault clock sole line n [] = None
 first_fault clock sole line n (word ∷ words) =
-    first_of (at_word line n (judged_word clock (is_add line.command) sole (is_plain line n) word)) (first_fault clock sole line (n + 1) words)
+    first_of (at_word line n (word_fault clock (is_add line.command) sole (is_plain line n) word)) (first_fault clock sole line (n + 1) words)

@@ -1,8 +1,7 @@
 // What is wrong with modification words.
 ghost use Rattle.std.specs.Prelude.{◌≡◌, ◌<◌, ◌+◌, length, drop};
 ghost use Rattle.tw_filter.specs.Cuts.{parts};
-ghost use Rattle.tw_words.specs.Modifications.{unless, moment_fault, length_fault, full_fault, empty_fault, value_fault, pair_fault, text_fault, word_fault};
-ghost use Rattle.tw_words.specs.Modifications.{is_field_built, word_unbuilt, judged_word, at_word, first_fault, rest_words};
+ghost use Rattle.tw_words.specs.Modifications.{unless, moment_fault, length_fault, full_fault, empty_fault, value_fault, pair_fault, text_fault, word_fault, at_word, first_fault, rest_words};
 ghost use Rattle.tw_words.specs.Clocks.{clock_of};
 
 use crate::clock::Clock;
@@ -110,40 +109,6 @@ pub(crate) fn word_fault(
     }
 }
 
-// Whether the program carries out words of a field.
-fn is_field_built(field: Field) -> bool
-    ensures { result ≡ is_field_built field }
-{
-    match field {
-        Field::Recur => false,
-        _ => true,
-    }
-}
-
-fn word_unbuilt(adding: bool, plain: bool, word: &str) -> Option<WordKind>
-    ensures { result ≡ word_unbuilt adding plain word.now }
-{
-    let (name, _) = pair_of(plain, word)?;
-    let field = field_named(adding, name)?;
-    unless(is_field_built(field), WordKind::Unbuilt)
-}
-
-// What is wrong with a modification word of a line: it is not built, or it is wrong in itself.
-fn judged_word(
-    clock: Option<Clock<'_>>,
-    adding: bool,
-    sole: bool,
-    plain: bool,
-    word: &str,
-) -> Option<WordKind>
-    ensures { result ≡ judged_word (clock_of clock.entry) adding sole plain word.now }
-{
-    match word_unbuilt(adding, plain, word) {
-        Some(kind) => Some(kind),
-        None => word_fault(clock, adding, sole, plain, word),
-    }
-}
-
 /// A word that is wrong, by its number among the words taken.
 pub(crate) fn at_word(line: &Line, n: u64, kind: Option<WordKind>) -> Option<BadWord>
     ensures { result ≡ at_word line.now n kind }
@@ -164,7 +129,7 @@ pub(crate) fn first_fault(clock: Option<Clock<'_>>, sole: bool, line: &Line) -> 
     let adding = is_add(line.command);
     for n in line.rest_from..line.words.len() as u64 {
         let plain = is_plain(line, n);
-        let kind = judged_word(clock, adding, sole, plain, line.word(n));
+        let kind = word_fault(clock, adding, sole, plain, line.word(n));
         if let Some(bad) = at_word(line, n, kind) {
             return Some(bad);
         }

@@ -77,7 +77,7 @@ copies_view made ids = record { made = taken_or made; ids = ids }
 -- the copies are made in byte order of their uuids; it needs one
 abbrev pub duplicating : List (List ℕ × TaskValue) → Result Plan Refusal
 duplicating [] = Err NoMatch
-duplicating (entry ∷ entries) = Ok (record { work = Changes false (map change_of (entry ∷ entries)); show = Counted Duplicated (length (entry ∷ entries)) })
+duplicating (entry ∷ entries) = Ok (record { work = Changes false (map change_of (entry ∷ entries)) []; show = Counted Duplicated (length (entry ∷ entries)) })
 
 abbrev pub duplicated : Result TasksValue Refusal → Result Plan Refusal
 duplicated (Err refusal) = Err refusal

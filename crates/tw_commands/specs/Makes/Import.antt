@@ -69,7 +69,7 @@ imports_in request ids state = imports_by ids state.tasks (import_of request.inp
 -- the changes are made, one for each element
 abbrev pub imported : Result (List Change) Refusal → Result Plan Refusal
 imported (Err refusal) = Err refusal
-imported (Ok changes) = Ok (record { work = Changes false changes; show = Counted deed.Imported (length changes) })
+imported (Ok changes) = Ok (record { work = Changes false changes []; show = Counted deed.Imported (length changes) })
 
 -- what `import` is to do
 abbrev pub importing : Request → IdWords → State → Result Plan Refusal

@@ -38,12 +38,39 @@ pub(crate) fn made_task(
     Ok(task)
 }
 
+fn recurs(task: &TaskMap) -> bool
+    ensures { result ≡ spec.recurs task.now }
+{
+    task.get("recur").is_some()
+}
+
+// A task that recurs is a template.
+fn as_template(alloc: Global, task: TaskMap) -> Result<TaskMap, Memory>
+    ensures { IfOk result (λ made. made ≡ spec.as_template task) }
+{
+    let mut task = task;
+    if recurs(&task) {
+        task.set(alloc, "status", Some("recurring"))?;
+    }
+    Ok(task)
+}
+
+fn created(uuid: Uuid, task: &TaskMap) -> Show
+    ensures { show_view result ≡ spec.created uuid task.now }
+{
+    if recurs(task) {
+        Show::Template { uuid }
+    } else {
+        Show::Created { uuid }
+    }
+}
+
 // The task that `add` makes.
 fn added(alloc: Global, line: &Line, view: &View<'_>, now: Moment) -> Result<TaskMap, Memory>
     ensures { IfOk result (λ task. task ≡ spec.added (scene_of view.entry.now) line.now now) }
 {
     let task = made_task(alloc, now, "pending", TaskMap::new(alloc))?;
-    worded(alloc, line, view, &task)
+    as_template(alloc, worded(alloc, line, view, &task)?)
 }
 
 // The task that `log` makes.
@@ -78,9 +105,23 @@ fn making(
         work: Work::Changes {
             renumber: false,
             changes,
+            marks: Vec::new(alloc),
         },
         show,
     }))
+}
+
+// What `add` is to do that makes this task.
+fn creating(
+    alloc: Global,
+    uuid: Uuid,
+    task: TaskMap,
+    tasks: &Tasks,
+) -> Result<Result<Plan, Refusal>, Memory>
+    ensures { IfOk result (λ plan. planned plan ≡ making (spec.created uuid task) uuid task (map.get tasks.now uuid)) }
+{
+    let show = created(uuid, &task);
+    making(alloc, show, uuid, task, tasks)
 }
 
 /// What `add` is to do (task(1), "add"). It draws the uuid of the task.
@@ -96,7 +137,7 @@ pub(crate) fn adding(
     let uuid = draw(ids);
     let view = view_of(request, replica);
     let task = added(alloc, &request.line, &view, request.at)?;
-    making(alloc, Show::Created { uuid }, uuid, task, replica.tasks())
+    creating(alloc, uuid, task, replica.tasks())
 }
 
 /// What `log` is to do (task(1), "log"). It draws the uuid of the task.

@@ -20,6 +20,7 @@ pub(crate) fn looking(alloc: Global, text: Vec<u8>) -> Plan
         work: Work::Changes {
             renumber: false,
             changes: Vec::new(alloc),
+            marks: Vec::new(alloc),
         },
         show: Show::Text(text),
     }

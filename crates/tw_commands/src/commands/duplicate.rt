@@ -145,6 +145,7 @@ fn duplicating(alloc: Global, made: &Tasks) -> Result<Result<Plan, Refusal>, Mem
         work: Work::Changes {
             renumber: false,
             changes,
+            marks: Vec::new(alloc),
         },
         show: Show::Counted {
             deed: Deed::Duplicated,

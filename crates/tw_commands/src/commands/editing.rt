@@ -16,6 +16,7 @@ use crate::commands::purge::purge;
 use crate::commands::start::{start, stop};
 use crate::commands::texts::{append, prepend};
 use crate::effect::{Effect, acting, push_change};
+use crate::marks::marks_of;
 use crate::plan::{Deed, Plan};
 use crate::refusal::Refusal;
 use crate::request::{Request, selected, view_of};
@@ -117,5 +118,6 @@ pub(crate) fn editing(
         &view,
         &rows,
     )?;
-    Ok(acting(deed, changes))
+    let marks = marks_of(alloc, request.line.command, replica.tasks(), &changes)?;
+    Ok(acting(deed, changes, marks))
 }

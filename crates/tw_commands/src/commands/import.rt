@@ -136,7 +136,7 @@ fn imports_in(
 }
 
 // What a command is to do that makes these changes, one for each element.
-fn imported(changes: Result<Vec<Change>, Refusal>) -> Result<Plan, Refusal>
+fn imported(alloc: Global, changes: Result<Vec<Change>, Refusal>) -> Result<Plan, Refusal>
     ensures { planned result ≡ spec.imported (spec.changes_view changes) }
 {
     let changes = match changes {
@@ -148,6 +148,7 @@ fn imported(changes: Result<Vec<Change>, Refusal>) -> Result<Plan, Refusal>
         work: Work::Changes {
             renumber: false,
             changes,
+            marks: Vec::new(alloc),
         },
         show: Show::Counted {
             deed: Deed::Imported,
@@ -168,5 +169,5 @@ pub(crate) fn importing(
     ensures want { OnErr result (ids.new ≡ ids.old) }
 {
     let changes = imports_in(alloc, request, ids, replica)?;
-    Ok(imported(changes))
+    Ok(imported(alloc, changes))
 }

@@ -15,7 +15,8 @@ use crate::refusal::Refusal;
 use crate::request::Request;
 use std::alloc::Global;
 use tw_filter::{Looks, View, select};
-use tw_model::{TaskMap, Tasks};
+use tw_model::{Change, TaskMap, Tasks};
+use tw_recur::due_changes;
 use tw_replica::{Prepared, Replica};
 use tw_report::{Report, report_text};
 use tw_urgency::{Status, is_blocked, status_of};
@@ -80,6 +81,26 @@ fn copied_places(alloc: Global, places: &Vec<Option<Uuid>>) -> Result<Vec<Option
     Ok(places.as_slice().to_vec(alloc)?)
 }
 
+// The instances that a report makes, where that is on.
+fn instances_in(
+    alloc: Global,
+    request: &Request<'_>,
+    replica: &Replica,
+) -> Result<Vec<Change>, Memory>
+    ensures { IfOk result (λ changes. changes.items ≡ spec.instances_in request.now (held_state replica.now)) }
+{
+    if !request.settings.recurrence() {
+        return Ok(Vec::new(alloc));
+    }
+    due_changes(
+        alloc,
+        replica.tasks(),
+        request.at.seconds,
+        request.zone,
+        request.settings.recurrence_limit(),
+    )
+}
+
 /// What a report is to do (task(1), "reports").
 pub(crate) fn reporting(
     alloc: Global,
@@ -89,11 +110,13 @@ pub(crate) fn reporting(
 ) -> Result<Result<Plan, Refusal>, Memory>
     ensures { IfOk result (λ plan. planned plan ≡ AnOk (spec.reporting report request.now (held_state replica.now))) }
 {
+    let changes = instances_in(alloc, request, replica)?;
     let numbers = copied_places(alloc, replica.numbers())?;
     Ok(Ok(Plan {
         work: Work::Changes {
             renumber: request.settings.gc() && has_vacant(replica.numbers()),
-            changes: Vec::new(alloc),
+            changes,
+            marks: Vec::new(alloc),
         },
         show: Show::Report { report, numbers },
     }))

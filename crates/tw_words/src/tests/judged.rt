@@ -20,10 +20,10 @@ append|x > 0 NoFilter
 add|due:never > 0 Missing
 add|x|recur:weekly > 0 Missing
 add|x|recur:weekly|due:1d|due: > 0 Missing
-add|x|recur:weekly|due:never > 2 Unbuilt
+add|x|recur:weekly|due:never > 3 Date
 add|x|due:never|recur:weekly > 2 Date
-add|x|recur:often|due:1d > 2 Unbuilt
-add|x|recur:|due: > 2 Unbuilt
+add|x|recur:often|due:1d > 2 Value
+add|x|recur:|due: > right
 add|x|--|recur:weekly > right
 log|x|recur:weekly > 2 Attribute
 x|add|y > 0 Extra

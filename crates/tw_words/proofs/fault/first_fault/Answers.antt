@@ -1,5 +1,5 @@
 use Rattle.std.proofs.Common.{◌+◌, ◌∙◌, ap, sym, drop}
-use Rattle.tw_words.specs.Modifications.{first_fault, first_of, at_word, judged_word}
+use Rattle.tw_words.specs.Modifications.{first_fault, first_of, at_word, word_fault}
 use Rattle.tw_words.specs.Clocks.{clock_of}
 use Rattle.tw_words.proofs.FirstFaults.{one_word}
 use Rattle.tw_words.proofs.fault.first_fault.Goals as goal
@@ -13,7 +13,7 @@ returns-in-Some c =
     let left = drop (n + 1) line.words in
     ap (λ x. first_of x (first_fault clock c.args.sole line (n + 1) left)) (sym c.in-Some.is)
     ∙ one_word clock c.args.sole line n w left c.at_word.result c.word.ensures
-    (c.at_word.ensures ∙ ap (at_word line n) (c.judged_word-kind.ensures ∙ (λ i. judged_word clock (c.loop-n.invariant.adding i) c.args.sole (c.is_plain-plain.ensures i) w)))
+    (c.at_word.ensures ∙ ap (at_word line n) (c.word_fault-kind.ensures ∙ (λ i. word_fault clock (c.loop-n.invariant.adding i) c.args.sole (c.is_plain-plain.ensures i) w)))
     ∙ c.loop-n.invariant.same
 
 pub loop-n-preserved : goal.loop-n-preserved
@@ -27,6 +27,6 @@ loop-n-preserved c =
       adding = c.loop-n.invariant.adding;
       same = ap (λ x. first_of x (first_fault clock c.args.sole line (n + 1) left)) (sym c.in_default.is)
           ∙ one_word clock c.args.sole line n w left c.at_word.result c.word.ensures
-          (c.at_word.ensures ∙ ap (at_word line n) (c.judged_word-kind.ensures ∙ (λ i. judged_word clock (c.loop-n.invariant.adding i) c.args.sole (c.is_plain-plain.ensures i) w)))
+          (c.at_word.ensures ∙ ap (at_word line n) (c.word_fault-kind.ensures ∙ (λ i. word_fault clock (c.loop-n.invariant.adding i) c.args.sole (c.is_plain-plain.ensures i) w)))
           ∙ c.loop-n.invariant.same;
     }

@@ -9,5 +9,5 @@ returns-then-len-eq0 c = none_made (map.entries c.args.made.now) (sym (len-entri
 
 pub returns : goal.returns
 returns c =
-    some_made (map.entries c.args.made.now) c.len-count.result c.in_ok-changes.changes.items (λ e. absurd (c.if-len-eq0.false (c.len.ensures ∙ len-entries c.args.made.now ∙ e)))
-    (c.len-count.ensures ∙ len-entries c.args.made.now) c.in_ok-changes.ensures
+    some_made (map.entries c.args.made.now) c.len-count.result c.in_ok-changes.changes.items c.new.result.items (λ e. absurd (c.if-len-eq0.false (c.len.ensures ∙ len-entries c.args.made.now ∙ e)))
+    (c.len-count.ensures ∙ len-entries c.args.made.now) c.in_ok-changes.ensures c.new.ensures.items

@@ -1,0 +1,22 @@
+use Rattle.std.proofs.Common.{◌≡◌, ◌∙◌, ap, Result, Ok, Err, IfOk}
+use Rattle.std.specs.FinMap.{get}
+use Rattle.tw_replica.specs.Replica.{held_state}
+use Rattle.tw_filter.specs.Holds.{Scene}
+use Rattle.tw_commands.specs.Request.{scene_in}
+use Rattle.tw_commands.specs.Makes.{making}
+use Rattle.tw_commands.specs.Makes.Add.{added, created}
+use Rattle.tw_commands.proofs.commands.add.adding.Goals as goal
+
+if_ok_map : {A E : Type 0} {P Q : A → Type 0} (r : Result A E) → ((a : A) → P a → Q a) → IfOk r P → IfOk r Q
+if_ok_map (Ok a) f p = f a p
+if_ok_map (Err e) f p = tt
+
+pub returns-clause-plan : goal.returns-clause-plan
+returns-clause-plan c =
+    let line = c.args.request.now.line in
+    let at = c.args.request.now.at in
+    let task : c.in_ok-task.task ≡ added (scene_in c.args.request.now (held_state c.args.replica.now)) line at =
+    c.in_ok-task.ensures ∙ ap (λ (s : Scene). added s line at) c.view_of-view.ensures in
+    if_ok_map c.creating.result
+    (λ plan is. is ∙ (λ i. making (created (c.draw-uuid.ensures.uuid i) (task i)) (c.draw-uuid.ensures.uuid i) (task i) (get (c.tasks.ensures i) (c.draw-uuid.ensures.uuid i))))
+    c.creating.ensures

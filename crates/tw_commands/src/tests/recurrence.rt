@@ -1,0 +1,94 @@
+// Templates, their instances, and the marks in their masks.
+use super::*;
+
+// 2026-05-01T00:00:00Z.
+const MAY: u64 = 1_777_593_600;
+
+const RENT: &str = "\
+ID Project Pri Due        Description
+ 2             2026-01-31 Rent
+ 3             2026-02-28 Rent
+ 4             2026-03-31 Rent
+ 5             2026-04-30 Rent
+ 6             2026-05-31 Rent
+
+5 tasks
+";
+
+// Seconds behind that moment, lines, what each prints, and the template's mask then.
+const ROWS: [(u64, &str, &str, &str); 10] = [
+    (
+        0,
+        "add Rent due:2026-01-31 recur:monthly",
+        "Created task 1 (recurrence template).\n",
+        "",
+    ),
+    (0, "rc.recurrence:off list", "NoMatch", ""),
+    (0, "list", RENT, "-----"),
+    (0, "list", RENT, "-----"),
+    (1, "2 done", "Completed 1 task.\n", "+----"),
+    (1, "undo", "Undone 5 operations.\n", "-----"),
+    (1, "3 delete", "Deleted 1 task.\n", "-X---"),
+    (1, "4 7 done", "Completed 2 tasks.\n", "+X+--"),
+    (1, "1 done", "NoMatch", "+X+--"),
+    (1, "1 delete", "Deleted 1 task.\n", "+X+--"),
+];
+
+fn mask_in(alloc: Global, disk: &mut MemoryDisk) -> Result<String, Fail> {
+    let replica = opened(alloc, disk)?;
+    let task = replica.tasks().get(uuid_of(1)).ok_or("no task")?;
+    Ok(String::from_str(alloc, task.get("mask").unwrap_or(""))?)
+}
+
+#[test]
+fn a_template_makes_instances_and_keeps_their_marks(rt: HostRuntime) -> Result<(), Fail> {
+    let alloc = rt.alloc();
+    let mut disk = empty_disk(alloc)?;
+    let mut ids = ids_from(1);
+    for (later, line, wanted, mask) in ROWS {
+        let printed = carried(alloc, line, MAY + later, &mut ids, &mut disk)?;
+        assert_eq!(rt; printed.as_str(), wanted, "{line}");
+        assert_eq!(rt; mask_in(alloc, &mut disk)?.as_str(), mask, "{line}");
+    }
+    Ok(())
+}
+
+// A template of each day, due first 2,000 days before.
+#[test]
+fn a_report_makes_a_thousand_instances_at_most(rt: HostRuntime) -> Result<(), Fail> {
+    let alloc = rt.alloc();
+    let mut disk = empty_disk(alloc)?;
+    let mut ids = ids_from(1);
+    let line = "add Water due:1527200000 recur:1d";
+    let _ = carried(alloc, line, NOW, &mut ids, &mut disk)?;
+    for (wanted, writes) in [
+        ("1000\n", true),
+        ("2000\n", true),
+        ("2002\n", true),
+        ("2002\n", false),
+    ] {
+        let before = disk.bytes().len();
+        let _ = carried(alloc, "list", NOW, &mut ids, &mut disk)?;
+        assert_eq!(rt; disk.bytes().len() > before, writes);
+        let printed = carried(alloc, "status:pending count", NOW, &mut ids, &mut disk)?;
+        assert_eq!(rt; printed.as_str(), wanted);
+    }
+    Ok(())
+}
+
+// Two machines with one template make the same instances.
+#[test]
+fn instances_are_the_same_on_each_machine(rt: HostRuntime) -> Result<(), Fail> {
+    let alloc = rt.alloc();
+    let mut exports = Vec::new(alloc);
+    for first in [50, 70] {
+        let mut disk = empty_disk(alloc)?;
+        let line = "add Rent due:2026-01-31 recur:monthly";
+        let _ = carried(alloc, line, MAY, &mut ids_from(1), &mut disk)?;
+        let mut ids = ids_from(first);
+        let _ = carried(alloc, "list", MAY, &mut ids, &mut disk)?;
+        exports.push(carried(alloc, "export", MAY, &mut ids, &mut disk)?)?;
+    }
+    assert_eq!(rt; exports[0].as_str(), exports[1].as_str());
+    Ok(())
+}
