@@ -69,14 +69,7 @@ fn chained(alloc: Global, length: u64) -> Result<MemoryDisk, Fail> {
     let Ok(replica) = Replica::open(alloc, &mut disk) else {
         return Err(Fail::new("no replica"));
     };
-    let prepared = make_changes(
-        alloc,
-        replica,
-        changes,
-        &Vec::new(alloc),
-        moment(1)?,
-        false,
-    )?;
+    let prepared = make_changes(alloc, replica, changes, &Vec::new(alloc), moment(1)?, false)?;
     match prepared.write(&mut disk) {
         Ok(_) => Ok(disk),
         Err(_) => Err(Fail::new("not written")),
