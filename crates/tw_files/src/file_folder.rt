@@ -171,16 +171,29 @@ impl<S: FolderFiles> Folder for FileFolder<S> {
     }
 }
 
-/// Opens a folder, which is made, with those on the way to it, where it is not there. All of them are made stable, since the
-/// run that made them may have ended before it did that.
+// Whether a folder has no file yet. It is made, with those on the way to it, where it is not there.
+fn is_new<S: Folders + FolderFiles>(alloc: Global, system: &mut S, path: &str) -> io::Result<bool> {
+    match system.list(alloc, path) {
+        Ok(names) => Ok(names.is_empty()),
+        Err(error) if error.kind() == io::ErrorKind::NotFound => {
+            system.make_folder(path)?;
+            Ok(true)
+        }
+        Err(error) => Err(error),
+    }
+}
+
+/// Opens a folder, which is made, with those on the way to it, where it is not there. Where it has no file yet, all of them are
+/// made stable, since the run that made them may have ended before it did that.
 pub fn open_folder<S: Folders + FolderFiles + Drop>(
     alloc: Global,
     system: S,
     path: &str,
 ) -> io::Result<FileFolder<S>> {
     let mut system = system;
-    system.make_folder(path)?;
-    settle_way(&mut system, path)?;
+    if is_new(alloc, &mut system, path)? {
+        settle_way(&mut system, path)?;
+    }
     FileFolder::open(alloc, system, path)
 }
 
