@@ -79,7 +79,7 @@ fn words_outside_the_grammar_are_told(rt: HostRuntime) -> Result<(), Fail> {
         ("add|x|due:999999999999", 2, WordKind::Date),
         ("1|modify|depends:9", 2, WordKind::Id),
         ("add|x|recur:weekly", 0, WordKind::Missing),
-        ("add|x|due:tomorrow|recur:weekly", 3, WordKind::Unbuilt),
+        ("log|x|recur:weekly", 2, WordKind::Attribute),
         ("(|1|list", 2, WordKind::End),
         ("(|1|count", 2, WordKind::End),
         ("undo|2", 1, WordKind::Extra),
