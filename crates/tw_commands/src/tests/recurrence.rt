@@ -76,19 +76,21 @@ fn a_report_makes_a_thousand_instances_at_most(rt: HostRuntime) -> Result<(), Fa
     Ok(())
 }
 
+// What a machine with a template of each month exports once it has listed its tasks, with identifiers of its own.
+fn listed(alloc: Global, first: u128) -> Result<String, Fail> {
+    let mut disk = empty_disk(alloc)?;
+    let line = "add Rent due:2026-01-31 recur:monthly";
+    let _ = carried(alloc, line, MAY, &mut ids_from(1), &mut disk)?;
+    let mut ids = ids_from(first);
+    let _ = carried(alloc, "list", MAY, &mut ids, &mut disk)?;
+    carried(alloc, "export", MAY, &mut ids, &mut disk)
+}
+
 // Two machines with one template make the same instances.
 #[test]
 fn instances_are_the_same_on_each_machine(rt: HostRuntime) -> Result<(), Fail> {
     let alloc = rt.alloc();
-    let mut exports = Vec::new(alloc);
-    for first in [50, 70] {
-        let mut disk = empty_disk(alloc)?;
-        let line = "add Rent due:2026-01-31 recur:monthly";
-        let _ = carried(alloc, line, MAY, &mut ids_from(1), &mut disk)?;
-        let mut ids = ids_from(first);
-        let _ = carried(alloc, "list", MAY, &mut ids, &mut disk)?;
-        exports.push(carried(alloc, "export", MAY, &mut ids, &mut disk)?)?;
-    }
-    assert_eq!(rt; exports[0].as_str(), exports[1].as_str());
+    let (desk, lap) = (listed(alloc, 50)?, listed(alloc, 70)?);
+    assert_eq!(rt; desk.as_str(), lap.as_str());
     Ok(())
 }
