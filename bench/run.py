@@ -220,17 +220,18 @@ def programs(arguments, folder, number):
     imported = os.path.join(folder, "import.json")
     write_import(imported, number)
     found = [Program([arguments.tw, "task"], dict(base, TASKDATA=tw_store), imported)]
-    if arguments.task:
+    if arguments.rival:
         task_store = os.path.join(folder, "task")
         write_data(task_store, number, not arguments.synced)
         settings = os.path.join(folder, "taskrc")
         with open(settings, "w", encoding="utf-8") as file:
             file.write("confirmation=no\nbulk=0\nrecurrence.confirmation=no\n")
-        found.append(Program([arguments.task], dict(base, TASKDATA=task_store, TASKRC=settings), imported))
+        found.append(Program([arguments.rival], dict(base, TASKDATA=task_store, TASKRC=settings), imported))
     return found
 
 
-def compare(arguments, number):
+def compare(arguments, number, programs):
+    """Runs each command of the programs that are made for a number, and shows how long each took."""
     with tempfile.TemporaryDirectory(prefix="tw-bench-") as folder:
         pair = programs(arguments, folder, number)
         for command in arguments.commands:
@@ -253,27 +254,38 @@ def show(number, command, walls, peaks):
     print(" | ".join(cells), flush=True)
 
 
-def main():
+def options(about, rival, counted, commands):
+    """The options of a benchmark of `tw` beside a rival, at numbers of what is counted."""
     here = os.path.dirname(os.path.abspath(__file__))
     built = os.path.join(here, "..", "crates", "tw", "out", "tw")
-    parser = argparse.ArgumentParser(description="Times tw beside Taskwarrior.")
+    parser = argparse.ArgumentParser(description=about)
     parser.add_argument("--tw", default=built, help="the program tw")
-    parser.add_argument("--task", default=shutil.which("task"), help="Taskwarrior's program")
-    parser.add_argument("--sizes", default="1000,10000,50000", help="numbers of tasks")
+    parser.add_argument(f"--{rival}", default=shutil.which(rival), help=f"the program {rival}", dest="rival")
+    parser.add_argument("--sizes", default="1000,10000,50000", help=f"numbers of {counted}")
     parser.add_argument("--runs", type=int, default=9, help="runs of each command")
-    parser.add_argument("--per-record", type=int, default=1, help="tasks in a record")
-    parser.add_argument("--synced", action="store_true", help="stores after a first sync")
-    parser.add_argument("--commands", default=",".join(COMMANDS), help="commands to run")
+    parser.add_argument("--commands", default=",".join(commands), help="commands to run")
+    return parser
+
+
+def start(parser, rival, counted, programs):
+    """Reads the options, and compares the programs at each number."""
     arguments = parser.parse_args()
     arguments.commands = arguments.commands.split(",")
     if not os.access(arguments.tw, os.X_OK):
         sys.exit(f"there is no program {arguments.tw}: build it by tools/build")
-    heads = [" tasks command       ", "            tw        "]
-    if arguments.task:
-        heads += ["           task       ", "  time   memory"]
+    heads = [f"{counted:>6} command       ", "            tw        "]
+    if arguments.rival:
+        heads += [f"{rival:>15}       ", "  time   memory"]
     print(" | ".join(heads))
     for number in arguments.sizes.split(","):
-        compare(arguments, int(number))
+        compare(arguments, int(number), programs)
+
+
+def main():
+    parser = options("Times tw beside Taskwarrior.", "task", "tasks", COMMANDS)
+    parser.add_argument("--per-record", type=int, default=1, help="tasks in a record")
+    parser.add_argument("--synced", action="store_true", help="stores after a first sync")
+    start(parser, "task", "tasks", programs)
 
 
 if __name__ == "__main__":

@@ -6,17 +6,12 @@
 For each number of intervals it writes month files as both programs have them, in UTC: half an hour of each hour from 2015 on, the
 last one some hours ago. With `--changes` so many tracks are made and taken back again before anything is measured, which leaves a
 journal as long use does. The runs of the two programs alternate. A `start` is taken back by a `cancel`, a `stop` ends an interval
-that was begun before, and `track` places an interval where there is none yet; what goes before and after is not measured.
+that began ten minutes before, and `track` places an interval where there is none yet; what goes before and after is not measured.
 Each line gives the median of the wall time in milliseconds, the peak of resident memory of one more run in megabytes, and how many
 times less `tw` takes of each. Without `timew` on the machine (Debian's package timewarrior), it measures `tw` alone.
 """
 
-import argparse
 import os
-import shutil
-import statistics
-import sys
-import tempfile
 import time
 
 import run
@@ -64,7 +59,7 @@ class Hours(run.Program):
             self.run(["cancel"])
             return taken
         if command == "stop":
-            self.run(["start", "call"])
+            self.run(["start", stamp(time.time() - 600), "call"])
             taken = self.run(["stop"], wrapper)
             self.run(["delete", "@1"])
             return taken
@@ -77,7 +72,7 @@ def programs(arguments, folder, number):
     base = {"PATH": os.environ.get("PATH", ""), "HOME": folder, "LANG": "C.UTF-8"}
     first = first_second(number)
     found = []
-    for name, argv, zone in [("tw", [arguments.tw, "timew"], ""), ("timew", [arguments.timew], "UTC")]:
+    for name, argv, zone in [("tw", [arguments.tw, "timew"], ""), ("timew", [arguments.rival], "UTC")]:
         if argv[0]:
             store = os.path.join(folder, name)
             write_months(os.path.join(store, "data"), number)
@@ -90,38 +85,10 @@ def programs(arguments, folder, number):
     return found
 
 
-def compare(arguments, number):
-    with tempfile.TemporaryDirectory(prefix="tw-bench-") as folder:
-        pair = programs(arguments, folder, number)
-        for command in arguments.commands:
-            walls = [[] for _ in pair]
-            for _ in range(arguments.runs):
-                for place, program in enumerate(pair):
-                    walls[place].append(program.measure(command))
-            peaks = [program.peak(command, folder) for program in pair]
-            run.show(number, command, [statistics.median(wall) for wall in walls], peaks)
-
-
 def main():
-    here = os.path.dirname(os.path.abspath(__file__))
-    built = os.path.join(here, "..", "crates", "tw", "out", "tw")
-    parser = argparse.ArgumentParser(description="Times tw beside Timewarrior.")
-    parser.add_argument("--tw", default=built, help="the program tw")
-    parser.add_argument("--timew", default=shutil.which("timew"), help="Timewarrior's program")
-    parser.add_argument("--sizes", default="1000,10000,50000", help="numbers of intervals")
-    parser.add_argument("--runs", type=int, default=9, help="runs of each command")
+    parser = run.options("Times tw beside Timewarrior.", "timew", "hours", COMMANDS)
     parser.add_argument("--changes", type=int, default=0, help="changes that were made before")
-    parser.add_argument("--commands", default=",".join(COMMANDS), help="commands to run")
-    arguments = parser.parse_args()
-    arguments.commands = arguments.commands.split(",")
-    if not os.access(arguments.tw, os.X_OK):
-        sys.exit(f"there is no program {arguments.tw}: build it by tools/build")
-    heads = [" hours command       ", "            tw        "]
-    if arguments.timew:
-        heads += ["          timew       ", "  time   memory"]
-    print(" | ".join(heads))
-    for number in arguments.sizes.split(","):
-        compare(arguments, int(number))
+    run.start(parser, "timew", "hours", programs)
 
 
 if __name__ == "__main__":

@@ -18,6 +18,7 @@ use crate::cause::Cause;
 use crate::printing::print;
 use crate::text::stored_text;
 use std::alloc::Global;
+use std::mem::forget;
 use timew_cmd::{Command, export_text, plan, summary_text, tracking_text};
 use timew_store::{Intervals, Store};
 use tw_time::Zone;
@@ -71,6 +72,11 @@ fn view(
     }
 }
 
+// Lets a store go and keeps its memory, which goes with the program: to give it back takes time with each interval.
+fn leave(store: Store) {
+    forget(store);
+}
+
 // Takes the last change back.
 fn take_back<F: Folder, D: Disk>(
     alloc: Global,
@@ -90,9 +96,9 @@ fn take_back<F: Folder, D: Disk>(
 {
     let mut store = store;
     store.undo(alloc, folder, disk)?;
-    Ok(Shown::Stored {
-        count: store.intervals().len(),
-    })
+    let count = store.intervals().len();
+    leave(store);
+    Ok(Shown::Stored { count })
 }
 
 // Lets the intervals after a command stand in the month files.
@@ -120,6 +126,7 @@ fn change<F: Folder, D: Disk>(
     let next = plan(alloc, command, store.intervals(), now)?;
     let count = next.len();
     store.change(alloc, folder, disk, next)?;
+    leave(store);
     Ok(Shown::Stored { count })
 }
 
@@ -151,7 +158,9 @@ fn carry_on<F: Folder, D: Disk>(
     if !is_view(command) {
         return change(alloc, command, now, store, folder, disk);
     }
-    match view(alloc, command, store.intervals(), now, zone)? {
+    let text = view(alloc, command, store.intervals(), now, zone)?;
+    leave(store);
+    match text {
         Some(text) => Ok(Shown::Text(text)),
         None => Err(Cause::NotTracking),
     }

@@ -52,6 +52,37 @@ fn january(alloc: Global, folder: &mut MemoryFolder) -> Result<String, Fail> {
     }
 }
 
+// A folder that holds one text for January.
+fn folder_with(alloc: Global, text: &str, fails: Vec<u64>) -> Result<MemoryFolder, Fail> {
+    let mut files = Vec::new(alloc);
+    files.push((
+        String::from_str(alloc, "2026-01.data")?,
+        text.as_bytes().to_vec(alloc)?,
+    ))?;
+    Ok(MemoryFolder::new(alloc, files, fails)?)
+}
+
+// A disk with these bytes, of which there are few.
+fn disk_of(alloc: Global, content: Vec<u8>, fails: Vec<u64>) -> Result<MemoryDisk, Fail> {
+    if content.len() > 1_000_000 {
+        return Err(Fail::from("too long"));
+    }
+    Ok(MemoryDisk::new(alloc, content, fails)?)
+}
+
+// A journal on which that text was written.
+fn journal_of_one(alloc: Global) -> Result<Vec<u8>, Fail> {
+    let mut folder = MemoryFolder::new(alloc, Vec::new(alloc), Vec::new(alloc))?;
+    let mut disk = MemoryDisk::new(alloc, Vec::new(alloc), Vec::new(alloc))?;
+    told(
+        alloc,
+        &mut folder,
+        &mut disk,
+        "track 2026-01-05T09:00:00 - 2026-01-05T09:00:05 code",
+    )?;
+    Ok(disk.bytes().to_vec(alloc)?)
+}
+
 #[test]
 fn lines_one_after_another(rt: HostRuntime) -> Result<(), Fail> {
     let alloc = rt.alloc();
@@ -100,6 +131,83 @@ fn lines_one_after_another(rt: HostRuntime) -> Result<(), Fail> {
     for (line, want, file) in table {
         assert_eq!(rt; told(alloc, &mut folder, &mut disk, line)?.as_str(), want);
         assert_eq!(rt; january(alloc, &mut folder)?.as_str(), file);
+    }
+    Ok(())
+}
+
+// What an undo says of a file that a hand has changed.
+#[test]
+fn a_file_was_changed_by_hand(rt: HostRuntime) -> Result<(), Fail> {
+    let alloc = rt.alloc();
+    let table = [
+        (
+            "inc 20260105T090000Z - 20260105T090006Z # code\n",
+            "1 timew: 2026-01.data was edited\n",
+        ),
+        (
+            "inc x\n",
+            "7 timew: line 1 of 2026-01.data is no interval\n",
+        ),
+        (ONE, "0 Stored 0 intervals.\n"),
+    ];
+    for (text, want) in table {
+        let mut folder = folder_with(alloc, text, Vec::new(alloc))?;
+        let mut disk = disk_of(alloc, journal_of_one(alloc)?, Vec::new(alloc))?;
+        assert_eq!(rt; told(alloc, &mut folder, &mut disk, "undo")?.as_str(), want);
+    }
+    Ok(())
+}
+
+// Each of the four calls of the folder and each of the disk fails in turn while an interval is split. The next command finds it
+// whole or split.
+#[test]
+fn a_split_is_whole_or_not_there(rt: HostRuntime) -> Result<(), Fail> {
+    let alloc = rt.alloc();
+    for n in 0..16_u64 {
+        let none = Vec::new(alloc);
+        let (first, second) = if n < 4 {
+            ([n].to_vec(alloc)?, none)
+        } else {
+            (none, [n - 4].to_vec(alloc)?)
+        };
+        let mut folder = folder_with(alloc, ONE, first)?;
+        let mut disk = disk_of(alloc, journal_of_one(alloc)?, second)?;
+        let split = told(alloc, &mut folder, &mut disk, "split @1")?;
+        let mut disk = disk_of(alloc, disk.bytes().to_vec(alloc)?, Vec::new(alloc))?;
+        let next = told(alloc, &mut folder, &mut disk, "")?;
+        assert_eq!(rt; next.as_str(), "1 timew: no active tracking\n", "{n}");
+        let text = january(alloc, &mut folder)?;
+        assert!(rt;
+            text.as_str() == TWO || text.as_str() == ONE && !split.as_str().starts_with("0"),
+            "{n}"
+        );
+    }
+    Ok(())
+}
+
+// Each image that a crash may leave of the journal while an interval is split, before the file is replaced.
+#[test]
+fn every_image_is_loaded(rt: HostRuntime) -> Result<(), Fail> {
+    let alloc = rt.alloc();
+    let mut folder = folder_with(alloc, ONE, Vec::new(alloc))?;
+    let mut disk = disk_of(alloc, journal_of_one(alloc)?, Vec::new(alloc))?;
+    told(alloc, &mut folder, &mut disk, "split @1")?;
+    for call in 0..disk.calls() {
+        for pick in 0..4 {
+            let mut folder = folder_with(alloc, ONE, Vec::new(alloc))?;
+            let mut image = disk_of(alloc, disk.image(call, pick)?, Vec::new(alloc))?;
+            let next = told(alloc, &mut folder, &mut image, "")?;
+            assert_eq!(rt;
+                next.as_str(),
+                "1 timew: no active tracking\n",
+                "{call} {pick}"
+            );
+            let text = january(alloc, &mut folder)?;
+            assert!(rt;
+                text.as_str() == ONE || text.as_str() == TWO,
+                "{call} {pick}"
+            );
+        }
     }
     Ok(())
 }

@@ -28,10 +28,12 @@ pub fn export_text(
     let rows = rows.as_slice();
     let mut text = Vec::new(alloc);
     text.extend_from_slice(b"[\n")?;
+    let mut object = Vec::new(alloc);
     let mut is_first = true;
     for (k, row) in rows.iter().enumerate() {
         if is_within(from, to, now, row) {
-            text = with_row(text, is_first, (rows.len() - k) as u64, row)?;
+            object = object_of(object, (rows.len() - k) as u64, row)?;
+            put_object(&mut text, is_first, &object)?;
             is_first = false;
         }
     }
@@ -42,25 +44,26 @@ pub fn export_text(
     Ok(text)
 }
 
-// The text with an interval after it, parted from the one before.
-fn with_row(text: Vec<u8>, is_first: bool, id: u64, row: &Interval) -> Result<Vec<u8>, Memory>
-    requires { IsRow row.now }
-    ensures { IfOk result (λ longer. longer.items ≡ text.items ++ (cond is_first [] (codes ",\n") ++ row_text (id, row.now))) }
+// Puts an object behind a text, parted from the one before.
+fn put_object(text: &mut Vec<u8>, is_first: bool, object: &[u8]) -> Result<(), Memory>
+    ensures { OnOk result (text.new.items ≡ text.old.items ++ (cond is_first [] (codes ",\n") ++ object.now)) }
 {
-    let mut text = text;
     if !is_first {
         text.extend_from_slice(b",\n")?;
     }
-    put_row(text, id, row)
+    text.extend_from_slice(object)?;
+    Ok(())
 }
 
-// The text with an interval's object after it.
+// An interval's object, in the memory of the one before: a writer makes room in advance, the more the longer its text is.
 #[tactic(auto, unfolding(crate::specs::Exported::row_text))]
-fn put_row(text: Vec<u8>, id: u64, row: &Interval) -> Result<Vec<u8>, Memory>
+fn object_of(before: Vec<u8>, id: u64, row: &Interval) -> Result<Vec<u8>, Memory>
     requires { IsRow row.now }
-    ensures { IfOk result (λ longer. longer.items ≡ text.items ++ row_text (id, row.now)) }
+    ensures { IfOk result (λ object. object.items ≡ row_text (id, row.now)) }
 {
-    let mut writer = Writer::new(text);
+    let mut room = before;
+    room.clear();
+    let mut writer = Writer::new(room);
     writer.begin_object()?;
     put_annotation(&mut writer, row.annotation.as_str())?;
     put_end(&mut writer, row.end)?;

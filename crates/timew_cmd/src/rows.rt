@@ -100,24 +100,24 @@ fn push_outside(
     alloc: Global,
     out: &mut Vec<Interval>,
     new: &Interval,
-    row: &Interval,
+    row: Interval,
 ) -> Result<(), Memory>
-    ensures { OnOk result (out.new.items ≡ out.old.items ++ left_outside new.now row.now) }
+    ensures { OnOk result (out.new.items ≡ out.old.items ++ left_outside new.now row) }
 {
-    if overlaps(row, new) {
-        push_front(alloc, out, new.start, row)?;
-        push_back(alloc, out, new.end, row)?;
+    if overlaps(&row, new) {
+        push_front(alloc, out, new.start, &row)?;
+        push_back(alloc, out, new.end, &row)?;
     } else {
-        let copy = copy_row(alloc, row)?;
-        out.push(copy)?;
+        out.push(row)?;
     }
     Ok(())
 }
 
-fn all_outside(alloc: Global, new: &Interval, rows: &Vec<Interval>) -> Result<Vec<Interval>, Memory>
-    ensures { IfOk result (λ out. out.items ≡ flat_map (left_outside new.now) rows.now.items) }
+// There is room for one more, and for the second piece of a row that is cut in two.
+fn all_outside(alloc: Global, new: &Interval, rows: Vec<Interval>) -> Result<Vec<Interval>, Memory>
+    ensures { IfOk result (λ out. out.items ≡ flat_map (left_outside new.now) rows.items) }
 {
-    let mut out = Vec::with_capacity(alloc, rows.len())?;
+    let mut out = Vec::with_capacity(alloc, rows.len().saturating_add(2))?;
     for row in rows {
         push_outside(alloc, &mut out, new, row)?;
     }
@@ -137,8 +137,8 @@ fn place_of(rows: &Vec<Interval>, new: &Interval) -> usize
 }
 
 /// The rows with an interval placed among them: they keep what lies outside it.
-pub fn placed(alloc: Global, new: Interval, rows: &Vec<Interval>) -> Result<Vec<Interval>, Memory>
-    ensures { IfOk result (λ out. out.items ≡ placed new rows.now.items) }
+pub fn placed(alloc: Global, new: Interval, rows: Vec<Interval>) -> Result<Vec<Interval>, Memory>
+    ensures { IfOk result (λ out. out.items ≡ placed new rows.items) }
 {
     let mut out = all_outside(alloc, &new, rows)?;
     let at = place_of(&out, &new);
@@ -146,10 +146,11 @@ pub fn placed(alloc: Global, new: Interval, rows: &Vec<Interval>) -> Result<Vec<
     Ok(out)
 }
 
+/// The rows once more, with room for one behind them.
 pub fn copy_rows(alloc: Global, rows: &[Interval]) -> Result<Vec<Interval>, Memory>
     ensures { IfOk result (λ copies. copies.items ≡ rows.now) }
 {
-    let mut copies = Vec::with_capacity(alloc, rows.len())?;
+    let mut copies = Vec::with_capacity(alloc, rows.len().saturating_add(1))?;
     for row in rows {
         copies.push(copy_row(alloc, row)?)?;
     }

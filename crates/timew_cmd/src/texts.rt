@@ -89,7 +89,8 @@ pub fn shown_text(alloc: Global, at: u64, zone: &Zone) -> Result<String, Memory>
 {
     let day = print_day(at, zone);
     let clock = clock_bytes(clock_of(at, zone));
-    let mut text = String::from_str(alloc, str::from_utf8(&day).unwrap())?;
+    let mut text = String::with_capacity(alloc, 19)?;
+    text.push_str(str::from_utf8(&day).unwrap())?;
     text.push(' ')?;
     text.push_str(str::from_utf8(&clock).unwrap())?;
     Ok(text)

@@ -4,7 +4,7 @@ ghost use Rattle.timew_store.specs.Placing.{spanning};
 ghost use Rattle.timew_cmd.specs.Planned.{Answers, is_past, open_of, with_ended, begins_after, begun, stopped, cancelled, continued, tracked};
 
 use crate::error::TimewError;
-use crate::kept::{open_of, place, row_at};
+use crate::kept::{open_of, place, place_among, row_at};
 use crate::rows::{copy_rows, moment_or, spanning};
 use std::alloc::Global;
 use timew_store::{Interval, Texts};
@@ -83,7 +83,7 @@ pub fn begin(
         tags: tags.copy(alloc)?,
         annotation: Text::from_str(alloc, "")?,
     };
-    place(alloc, adjust, new, &ended, &[])
+    place_among(alloc, adjust, new, ended)
 }
 
 pub fn stop(

@@ -10,6 +10,7 @@ pub mod Again
 pub mod Placed
 pub mod Tags
 pub mod TailBack
+pub mod BareTags
 pub mod Lines
 pub mod LineBack
 pub mod ReadRows
@@ -33,4 +34,5 @@ pub mod Loads
 pub mod RisingMonths
 pub mod MonthsAfter
 pub mod Prepares
+pub mod Walks
 pub mod Undoes

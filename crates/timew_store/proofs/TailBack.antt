@@ -28,11 +28,11 @@ plain r b is = not_so (nat_lt b 32 || (b == 127)) is
     not_so true is = absurd (cc)
     not_so false is = refl
 
-both : (a b : Bool) → a && b ≡ true → (a ≡ true) × (b ≡ true)
+pub both : (a b : Bool) → a && b ≡ true → (a ≡ true) × (b ≡ true)
 both true b is = (refl, is)
 both false b is = absurd (cc)
 
-neither : (a b : Bool) → a || b ≡ false → (a ≡ false) × (b ≡ false)
+pub neither : (a b : Bool) → a || b ≡ false → (a ≡ false) × (b ≡ false)
 neither true b is = absurd (cc)
 neither false b is = (refl, is)
 
@@ -57,7 +57,7 @@ bare_more (b ∷ t) x tags print none =
     ∙ ap (λ (l : List ℕ). let r : Reading = record { mode = Bare; text = l; tags = tags } in r) (pushed x t b)
 
 -- a tag without quotes
-bare_tag : (t : List ℕ) (tags : List (List ℕ)) → is_tag t ≡ true → list_any is_special t ≡ false → fold stepped (record { mode = Ahead; text = []; tags = tags }) t ≡ record { mode = Bare; text = t; tags = tags }
+pub bare_tag : (t : List ℕ) (tags : List (List ℕ)) → is_tag t ≡ true → list_any is_special t ≡ false → fold stepped (record { mode = Ahead; text = []; tags = tags }) t ≡ record { mode = Bare; text = t; tags = tags }
 bare_tag [] tags is none = absurd (cc)
 bare_tag (b ∷ t) tags is none =
     let here : Reading = record { mode = Ahead; text = []; tags = tags } in

@@ -13,6 +13,10 @@ use Rattle.timew_store.specs.declared.tail.Reader.{Reader}
 abbrev pub is_special : ℕ → Bool
 is_special b = (b == 32) || (b == 34) || (b == 92) || (b == 35)
 
+-- a byte that a tag without quotes may have
+abbrev pub is_bare : ℕ → Bool
+is_bare b = not (is_special b || (nat_lt b 32 || (b == 127)))
+
 -- a quotation mark or a backslash
 abbrev pub is_escaped : ℕ → Bool
 is_escaped b = (b == 34) || (b == 92)

@@ -4,6 +4,7 @@
 #![tactic(auto)]
 
 mod after;
+mod bare;
 mod body;
 mod changes;
 mod error;

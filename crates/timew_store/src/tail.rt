@@ -6,6 +6,7 @@ ghost use Rattle.tw_world.specs.Folder.{bytes_cmp};
 ghost use Rattle.tw_world.specs.Folder.{add_name as add_tag};
 ghost use Rattle.timew_store.specs.Tail.{reading_of, stepped, moved, failed, ended, marked, is_special, is_escaped, start, with_tag, with_byte, with_last, with_note};
 
+use crate::bare::bare_tags;
 use crate::interval::Texts;
 use std::alloc::Global;
 use std::cmp::Ordering;
@@ -56,7 +57,7 @@ pub fn is_escaped(byte: u8) -> bool
     byte == b'"' || byte == b'\\'
 }
 
-fn is_control(byte: u8) -> bool
+pub fn is_control(byte: u8) -> bool
     ensures { result ≡ (nat_lt byte 32 || (byte == 127)) }
 {
     byte < b' ' || byte == 127
@@ -95,10 +96,10 @@ pub fn add_tag(alloc: Global, tags: &mut Vec<Text>, tag: &str) -> Result<(), Mem
     Ok(())
 }
 
-// The bytes as a text, where they are UTF-8.
-fn as_text(bytes: &Vec<u8>) -> Option<&str>
-    ensures utf8 { result ≡ None → is_utf8 bytes.now.items ≡ false }
-    ensures text { IfSome result (λ text. (is_utf8 bytes.now.items ≡ true) × (text.now ≡ bytes.now.items)) }
+/// The bytes as a text, where they are UTF-8.
+pub fn as_text(bytes: &[u8]) -> Option<&str>
+    ensures utf8 { result ≡ None → is_utf8 bytes.now ≡ false }
+    ensures text { IfSome result (λ text. (is_utf8 bytes.now ≡ true) × (text.now ≡ bytes.now)) }
 {
     match std::str::from_utf8(bytes) {
         Ok(text) => Some(text),
@@ -107,14 +108,15 @@ fn as_text(bytes: &Vec<u8>) -> Option<&str>
 }
 
 impl Reader {
-    pub fn new(alloc: Global) -> Reader
-        ensures { reading_of result ≡ start }
+    /// A reader of at most so many bytes, which are one text or some.
+    pub fn new(alloc: Global, len: usize) -> Result<Reader, Memory>
+        ensures { IfOk result (λ reader. reading_of reader ≡ start) }
     {
-        Reader {
+        Ok(Reader {
             mode: Mode::Ahead,
-            text: Vec::new(alloc),
-            tags: Vec::new(alloc),
-        }
+            text: Vec::with_capacity(alloc, len)?,
+            tags: Vec::with_capacity(alloc, 2)?,
+        })
     }
 
     fn put(&mut self, mode: Mode, byte: u8) -> Result<(), Memory>
@@ -294,14 +296,23 @@ impl Reader {
     }
 }
 
-/// The tags and the annotation behind ` # `.
 #[tactic(auto, unfolding(crate::specs::Tail::marked))]
-pub fn marked(alloc: Global, bytes: &[u8]) -> Result<Option<(Texts, Text)>, Memory>
+fn marked_by_steps(alloc: Global, bytes: &[u8]) -> Result<Option<(Texts, Text)>, Memory>
     ensures { IfOk result (λ read. read ≡ marked bytes.now) }
 {
-    let mut reader = Reader::new(alloc);
+    let mut reader = Reader::new(alloc, bytes.len())?;
     for byte in bytes {
         reader.step(alloc, *byte)?;
     }
     reader.end(alloc)
+}
+
+/// The tags and the annotation behind ` # `.
+pub fn marked(alloc: Global, bytes: &[u8]) -> Result<Option<(Texts, Text)>, Memory>
+    ensures { IfOk result (λ read. read ≡ marked bytes.now) }
+{
+    match bare_tags(alloc, bytes)? {
+        Some(tags) => Ok(Some((tags, Text::from_str(alloc, "")?))),
+        None => marked_by_steps(alloc, bytes),
+    }
 }

@@ -8,23 +8,22 @@ use crate::store::{folder, journal_path};
 use crate::zone::zone;
 use std::alloc::Global;
 use std::io::ErrorKind;
-use tw_cli::{link_address, task_run};
+use tw_cli::{link_address, needs_store, task_run};
 use tw_files::{Busy, Stream, StreamSource, open_disk};
 use tw_time::Zone;
-use tw_world::{Disk, FailingDisk, IdWords, MemorySink, MemorySource, Moment};
+use tw_world::{Disk, FailingDisk, IdWords, Moment};
 
 /// Does what the words behind `task` ask for, and gives the program's status. Nothing is opened or made for bad words or
-/// settings; the zone is judged before both. Where the journal's file can't be opened, it works on a disk whose every call fails.
+/// settings, or for `_generate`; the zone is judged before. Where the journal's file isn't opened, it works on a disk whose every call fails.
 pub fn run_task(rt: &HostRuntime, alloc: Global, words: &Vec<String>) -> Result<u8, StartError> {
     let zone = zone(rt)?;
     let settings = settings(rt, alloc)?;
     let folder = folder(rt, alloc, &settings)?;
     let path = journal_path(alloc, folder.as_str())?;
     let now = moment(rt)?;
-    let seed = seed(rt)?;
-    let mut ids = IdWords::from_seed(seed);
+    let mut ids = IdWords::from_seed(seed(rt)?);
     let mut broken = FailingDisk::new();
-    if are_refused(alloc, words, &settings, now, &zone, seed)? {
+    if !needs_store(alloc, words, &settings, now, &zone)? {
         return run_over(
             rt,
             alloc,
@@ -51,36 +50,6 @@ pub fn run_task(rt: &HostRuntime, alloc: Global, words: &Vec<String>) -> Result<
             &mut broken,
         ),
     }
-}
-
-// Whether words or settings are refused. They are judged before the disk is asked for anything, so a run over a disk whose
-// every call fails refuses them as a run over any other does, with status 2, and ends otherwise where they are good. It has an input
-// of its own, so that the next run finds the whole of the program's.
-fn are_refused(
-    alloc: Global,
-    words: &Vec<String>,
-    settings: &Vec<u8>,
-    now: Moment,
-    zone: &Zone,
-    seed: [u8; 32],
-) -> Result<bool, StartError> {
-    let mut none = MemorySource::new(alloc, Vec::new(alloc), Vec::new(alloc))?;
-    let mut out = MemorySink::new(alloc, Vec::new(alloc), Vec::new(alloc))?;
-    let mut err = MemorySink::new(alloc, Vec::new(alloc), Vec::new(alloc))?;
-    let outcome = task_run(
-        alloc,
-        words,
-        settings,
-        now,
-        zone,
-        &mut IdWords::from_seed(seed),
-        &mut FailingDisk::new(),
-        &mut FailingLink::new(),
-        &mut none,
-        &mut out,
-        &mut err,
-    );
-    Ok(outcome.status == 2)
 }
 
 // Carries the words out over a disk. Where the settings name no server, each exchange fails.

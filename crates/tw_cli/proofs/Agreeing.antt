@@ -12,7 +12,7 @@ use Rattle.tw_replica.specs.State.{State}
 use Rattle.tw_replica.specs.Replica.{magic, OpensTo, OpensToEither}
 use Rattle.tw_sync.specs.Answers.{IsLinkKept}
 use Rattle.tw_sync.specs.Fold.{Agrees}
-use Rattle.tw_sync.specs.Sync.{told, IsEndIn}
+use Rattle.tw_sync.specs.Sync.{server_chain, IsEndIn}
 use Rattle.tw_sync.specs.declared.report.SyncReport.{SyncReport}
 use Rattle.tw_sync.proofs.Folds.{agrees_is_kept}
 use Rattle.tw_replica.proofs.Commits.{changes_are_group}
@@ -39,9 +39,9 @@ use Rattle.tw_cli.specs.Syncing.{Synced}
 use Rattle.tw_cli.specs.Whole.{went, RunGives, RunLeaves, IsHonestFor, IsRun}
 use Rattle.tw_cli.specs.Agreement.{OpensAgreeing, AllAgree, AgreementStays}
 use Rattle.tw_cli.specs.declared.asked.Job.{Job}
-use Rattle.tw_cli.specs.declared.asked.Job.TheVariants.{Here, Sync}
+use Rattle.tw_cli.specs.declared.asked.Job.TheVariants.{Here, Sync, Generate}
 use Rattle.tw_cli.specs.declared.asked.LineError.{LineError}
-use Rattle.tw_words.specs.declared.server.Server.{Server}
+use Rattle.tw_words.specs.declared.server.ServerSettings.{ServerSettings}
 use Rattle.tw_cli.specs.declared.cause.Cause.{Cause}
 use Rattle.tw_cli.specs.declared.cause.Cause.TheVariants.{Done, OutFault}
 use Rattle.tw_cli.proofs.Openings.{opens_one, leaves_either}
@@ -90,9 +90,9 @@ module _ {D L : Type 0} (m : DiskModel D) (links : LinkModel L) (d0 d1 : D) (l0 
   whole_chain : (client : List ℕ) → ((link : L) → IsChainOf links link) → IsLinkKept links l0 l1 → IsHonest links l0 client → IsServedChain (links.chain l1)
   whole_chain client tells_chain kept h = tells_chain l1 (record { honest = subst IsTrue (sym kept.honest) h.honest; tells = subst IsTrue (sym kept.tells_chain) h.tells })
 
-  end_agrees : (server : Server) (state : State) (next : Option State) → IsServedChain (links.chain l1) → Agrees state (links.chain l0) → IsEndIn state (told links l0) (told links l1) next → LeadsAgreeing (links.chain l1) next
+  end_agrees : (server : ServerSettings) (state : State) (next : Option State) → IsServedChain (links.chain l1) → Agrees state (links.chain l0) → IsEndIn state (server_chain links l0) (server_chain links l1) next → LeadsAgreeing (links.chain l1) next
   end_agrees server state None chain a end = λ s e. absurd (no_state s e)
-  end_agrees server state (Some next) chain a end = λ s e. subst (λ t. Agrees t (links.chain l1)) (some_is next s e) (sync_end_agrees state next (told links l0) (told links l1) end.0 chain.whole a end.1)
+  end_agrees server state (Some next) chain a end = λ s e. subst (λ t. Agrees t (links.chain l1)) (some_is next s e) (sync_end_agrees state next (server_chain links l0) (server_chain links l1) end.0 chain.whole a end.1)
 
   module _ (here : OpensAgreeing (links.chain l0) (m.seen d0)) (grows : Grows (links.chain l0) (links.chain l1)) where
     still : Agrees here.0 (links.chain l1)
@@ -128,6 +128,7 @@ module _ {D L : Type 0} (m : DiskModel D) (links : LinkModel L) (d0 d1 : D) (l0 
     unsettled tells_chain kept sources i0 i1 s o0 o1 (Ok (Sync server)) ids cause run tells honest =
         let r : LeavesOneEnd m links server d0 d1 l0 l1 cause = run tells in
         by_cause (λ state. r.next) (end_agrees server here.0 r.next (whole_chain server.client tells_chain kept honest) here.2 (r.end honest here.0 here.1)) cause r.leaves tells
+    unsettled tells_chain kept sources i0 i1 s o0 o1 (Ok (Generate request)) ids cause run tells honest = records_agree run tells
     unsettled tells_chain kept sources i0 i1 s o0 o1 (Err error) ids cause run tells honest = records_agree run tells
 
   -- the records that a run has left stand for a state that agrees with the chain
@@ -141,12 +142,12 @@ module _ {D L : Type 0} (m : DiskModel D) (links : LinkModel L) (d0 d1 : D) (l0 
       more_agrees (step_bodies run.carried.step) here.0 run.old run.carried.new here.1 here.2 (run.disk tells).0
       (λ a. subst (λ l. Agrees run.carried.new (links.chain l)) (sym same) (carried_agrees request ids run.old run.carried (links.chain l0) run.is a))
 
-  synced_agrees : ((link : L) → IsChainOf links link) → IsLinkKept links l0 l1 → (server : Server) (report : SyncReport) → Synced m links server d0 d1 l0 l1 report → Tells m d0 → IsHonest links l0 server.client
+  synced_agrees : ((link : L) → IsChainOf links link) → IsLinkKept links l0 l1 → (server : ServerSettings) (report : SyncReport) → Synced m links server d0 d1 l0 l1 report → Tells m d0 → IsHonest links l0 server.client
       → OpensAgreeing (links.chain l0) (m.seen d0) → OpensAgreeing (links.chain l1) (m.seen d1)
   synced_agrees tells_chain kept server report run tells honest here =
       let has = run.disk tells in
       more_agrees has.bodies here.0 run.old run.new here.1 here.2 has.more
-      (λ a. sync_end_agrees run.old run.new (told links l0) (told links l1) report (whole_chain server.client tells_chain kept honest).whole a (run.ended honest))
+      (λ a. sync_end_agrees run.old run.new (server_chain links l0) (server_chain links l1) report (whole_chain server.client tells_chain kept honest).whole a (run.ended honest))
 
   done_agrees : {S O : Type 0} (sources : SourceModel S) (i0 i1 : S) (s : SinkModel O) (o0 o1 : O) → ((link : L) → IsChainOf links link) → IsLinkKept links l0 l1 → (asked : Result Job LineError) (ids : IdWords) (cause : Cause) → RunGives m sources s links asked ids (went d0 d1 i0 i1 o0 o1 l0 l1) cause → Tells m d0 → IsHonestFor links asked l0
       → (cause ≡ Done) ⊎ (cause ≡ OutFault) → OpensAgreeing (links.chain l0) (m.seen d0) → OpensAgreeing (links.chain l1) (m.seen d1)
@@ -158,11 +159,13 @@ module _ {D L : Type 0} (m : DiskModel D) (links : LinkModel L) (d0 d1 : D) (l0 
       at_done : (asked : Result Job LineError) → RunGives m sources s links asked ids (went d0 d1 i0 i1 o0 o1 l0 l1) Done → IsHonestFor links asked l0 → OpensAgreeing (links.chain l1) (m.seen d1)
       at_done (Ok (Here request)) run h = carried_out_agrees (with_input request run.0.0) ids run.0.2.0 run.1 tells here
       at_done (Ok (Sync server)) run h = synced_agrees tells_chain kept server run.0 run.1 tells h here
+      at_done (Ok (Generate request)) run h = nothing run.1 run.3
       at_done (Err error) run h = nothing run.1 run.4
 
       at_fault : (asked : Result Job LineError) → RunGives m sources s links asked ids (went d0 d1 i0 i1 o0 o1 l0 l1) OutFault → IsHonestFor links asked l0 → OpensAgreeing (links.chain l1) (m.seen d1)
       at_fault (Ok (Here request)) run h = carried_out_agrees (with_input request run.0.0.0) ids run.0.0.2.0 run.1 tells here
       at_fault (Ok (Sync server)) run h = synced_agrees tells_chain kept server run.0.0 run.0.1 tells h here
+      at_fault (Ok (Generate request)) run h = nothing run.1 run.3
       at_fault (Err error) run h = nothing run.1 run.4
 
   pub agreement_stays : {S O : Type 0} (sources : SourceModel S) (i0 i1 : S) (s : SinkModel O) (o0 o1 : O) → ((disk : D) → Tells m disk → m.leaves disk (m.seen disk)) → CountsNow m → ((link : L) → IsChainOf links link) → (asked : Result Job LineError) (old new : IdWords) (cause : Cause)

@@ -16,7 +16,7 @@ use Rattle.tw_cli.specs.Cause.{end_of, open_cause, input_cause, refusal_cause, c
 use Rattle.tw_cli.specs.Cause.End.{Failed}
 use Rattle.tw_cli.specs.Run.{NotCarried, GivesBy, Gives, EndsPrinting, IsDoneOrWant}
 use Rattle.tw_cli.specs.Syncing.{NotSynced, SyncGivesBy, SyncGives}
-use Rattle.tw_words.specs.declared.server.Server.{Server}
+use Rattle.tw_words.specs.declared.server.ServerSettings.{ServerSettings}
 use Rattle.tw_replica.specs.declared.error.OpenError.{OpenError}
 use Rattle.tw_replica.specs.declared.error.OpenError.TheVariants as opening
 use Rattle.tw_cli.specs.declared.input.InputError.{InputError}
@@ -84,7 +84,7 @@ pub failed_gives : {D S O : Type 0} (m : DiskModel D) (sources : SourceModel S) 
 failed_gives m sources request ids d0 d1 i0 i1 s o e cause is why =
     subst (Gives m sources request ids d0 d1 i0 i1 s o o) (sym is) (subst (GivesBy m sources request ids d0 d1 i0 i1 s o o (carry_cause e)) (sym (carry_fails e)) (e, refl, why, refl))
 
-pub failed_sync_gives : {D O L : Type 0} (m : DiskModel D) (s : SinkModel O) (links : LinkModel L) (server : Server) (d0 d1 : D) (o : O) (l0 l1 : L) (e : SyncFailure) (cause : Cause) → cause ≡ failure_cause e → NotSynced m links server d0 d1 l0 l1 e → SyncGives m s links server d0 d1 o o l0 l1 cause
+pub failed_sync_gives : {D O L : Type 0} (m : DiskModel D) (s : SinkModel O) (links : LinkModel L) (server : ServerSettings) (d0 d1 : D) (o : O) (l0 l1 : L) (e : SyncFailure) (cause : Cause) → cause ≡ failure_cause e → NotSynced m links server d0 d1 l0 l1 e → SyncGives m s links server d0 d1 o o l0 l1 cause
 failed_sync_gives m s links server d0 d1 o l0 l1 e cause is why =
     subst (SyncGives m s links server d0 d1 o o l0 l1) (sym is) (subst (SyncGivesBy m s links server d0 d1 o o l0 l1 (failure_cause e)) (sym (failure_fails e)) (e, refl, why, refl))
 

@@ -16,8 +16,9 @@ use Rattle.tw_commands.specs.declared.request.Request.{Request}
 use Rattle.tw_cli.specs.Input.{IsInputKept}
 use Rattle.tw_cli.specs.Run.{Gives, CanEnd, Draws, IsDoneOrWant}
 use Rattle.tw_cli.specs.Syncing.{SyncGives, CanBeSynced}
+use Rattle.tw_cli.specs.Generating.{GenerateGives}
 use Rattle.tw_cli.specs.Crash.{LeavesCommand, LeavesSync}
-use Rattle.tw_words.specs.declared.server.Server.{Server}
+use Rattle.tw_words.specs.declared.server.ServerSettings.{ServerSettings}
 use Rattle.tw_cli.specs.Asked.{IsAsked}
 use Rattle.tw_cli.specs.Cause.{line_cause}
 use Rattle.tw_cli.specs.Whole.{went, IsRun}
@@ -25,7 +26,7 @@ use Rattle.tw_cli.specs.declared.carry.CarryError.TheVariants as carry
 use Rattle.tw_replica.specs.declared.error.OpenError.TheVariants as opening
 use Rattle.tw_cli.specs.declared.syncing.SyncFailure.TheVariants as failure
 use Rattle.tw_cli.specs.declared.asked.Job.{Job}
-use Rattle.tw_cli.specs.declared.asked.Job.TheVariants.{Here, Sync}
+use Rattle.tw_cli.specs.declared.asked.Job.TheVariants.{Here, Sync, Generate}
 use Rattle.tw_cli.specs.declared.asked.LineError.{LineError}
 use Rattle.tw_cli.specs.declared.asked.LineError.TheVariants.{Words}
 use Rattle.tw_cli.specs.declared.cause.Cause.{Cause}
@@ -59,6 +60,16 @@ module _ {D S O L : Type 0} (m : DiskModel D) (sources : SourceModel S) (s : Sin
     gives = (failure.Open opening.Memory, refl, (tt, refl), refl);
     complete = λ can well. inl (inr refl);
     any_moment = λ tells. record { next = None; end = λ honest state opens. tt; leaves = leaves_as_it_was m only_now d };
+    grows = λ honest. grows_same (links.chain l);
+    ids = refl;
+    input_kept = refl;
+    kept = disk_same d;
+    link_kept = link_same l;
+  }
+  want_is_run only_now (Ok (Generate request)) ids d i o l = record {
+    gives = ((refl, refl), refl, refl, refl);
+    complete = λ well. inr refl;
+    any_moment = leaves_as_it_was m only_now d;
     grows = λ honest. grows_same (links.chain l);
     ids = refl;
     input_kept = refl;
@@ -110,7 +121,7 @@ module _ {D S O L : Type 0} (m : DiskModel D) (sources : SourceModel S) (s : Sin
   })
 
   -- a sync is asked for
-  pub sync_is_run : (asked : Result Job LineError) (server : Server) (ids : IdWords) (d0 d1 : D) (i : S) (o0 o1 : O) (l0 l1 : L) (cause : Cause) → asked ≡ Ok (Sync server)
+  pub sync_is_run : (asked : Result Job LineError) (server : ServerSettings) (ids : IdWords) (d0 d1 : D) (i : S) (o0 o1 : O) (l0 l1 : L) (cause : Cause) → asked ≡ Ok (Sync server)
       → SyncGives m s links server d0 d1 o0 o1 l0 l1 cause → (CanBeSynced m links server d0 d1 l0 l1 → (Rose (s.faults o0) (s.faults o1) → ⊥) → IsDoneOrWant cause ⊎ (cause ≡ BadReply (Status 500)))
       → LeavesSync m links server d0 d1 l0 l1 cause → (IsHonest links l0 server.client → Grows (links.chain l0) (links.chain l1)) → Kept m d0 d1 → IsLinkKept links l0 l1
       → IsRun m sources s links asked ids ids (went d0 d1 i i o0 o1 l0 l1) cause
@@ -123,4 +134,19 @@ module _ {D S O L : Type 0} (m : DiskModel D) (sources : SourceModel S) (s : Sin
     input_kept = refl;
     kept = kept;
     link_kept = link_kept;
+  })
+
+  -- a large world is asked for
+  pub generate_is_run : OnlyNow m → (asked : Result Job LineError) (request : Request) (ids : IdWords) (d : D) (i : S) (o0 o1 : O) (l : L) (cause : Cause) → asked ≡ Ok (Generate request)
+      → GenerateGives s request o0 o1 cause → ((Rose (s.faults o0) (s.faults o1) → ⊥) → IsDoneOrWant cause)
+      → IsRun m sources s links asked ids ids (went d d i i o0 o1 l l) cause
+  generate_is_run only_now asked request ids d i o0 o1 l cause there gives complete = subst (λ (a : Result Job LineError). IsRun m sources s links a ids ids (went d d i i o0 o1 l l) cause) (sym there) (record {
+    gives = (gives, refl, refl, refl);
+    complete = complete;
+    any_moment = leaves_as_it_was m only_now d;
+    grows = λ honest. grows_same (links.chain l);
+    ids = refl;
+    input_kept = refl;
+    kept = disk_same d;
+    link_kept = link_same l;
   })

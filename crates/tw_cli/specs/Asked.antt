@@ -1,5 +1,5 @@
 -- What a command line asks for, in the order of the checks: the settings, the words that need no task, then the server.
-use Rattle.std.specs.Prelude.{◌≡◌, ◌⊎◌, ℕ, List, [], map, string_bytes, String, Option, Some, None, Result, Ok, Err}
+use Rattle.std.specs.Prelude.{◌≡◌, ◌⊎◌, ◌≤◌, ℕ, Bool, true, false, List, [], map, string_bytes, String, Option, Some, None, Result, Ok, Err}
 use Rattle.std.specs.Global.{Vec, Global}
 use Rattle.std.specs.Borrow.{Bor}
 use Rattle.tw_world.specs.declared.Moment.{Moment}
@@ -9,26 +9,27 @@ use Rattle.tw_filter.specs.declared.token.Token.{Token}
 use Rattle.tw_words.specs.Lines.{Parts, parts_of_line}
 use Rattle.tw_words.specs.Settings.{Pair, settings_in}
 use Rattle.tw_words.specs.Servers.{server_set}
-use Rattle.tw_words.specs.Faults.{judged}
-use Rattle.tw_words.specs.declared.server.Server.{Server}
+use Rattle.tw_words.specs.Faults.{judged, number_behind}
+use Rattle.tw_words.specs.declared.server.ServerSettings.{ServerSettings}
 use Rattle.tw_words.specs.declared.command.Command.{Command}
 use Rattle.tw_words.specs.declared.command.Command.TheVariants as command
 use Rattle.tw_words.specs.declared.word_error.WordError.{WordError}
 use Rattle.tw_words.specs.declared.word_error.WordError.TheVariants as wrong
 use Rattle.tw_commands.specs.declared.request.Request.{Request}
 use Rattle.tw_cli.specs.declared.asked.Job.{Job}
-use Rattle.tw_cli.specs.declared.asked.Job.TheVariants.{Here, Sync}
+use Rattle.tw_cli.specs.declared.asked.Job.TheVariants.{Here, Sync, Generate}
 use Rattle.tw_cli.specs.declared.asked.LineError.{LineError}
 use Rattle.tw_cli.specs.declared.asked.LineError.TheVariants.{Words, NoServer}
 
 -- a sync, where a server is known
-abbrev pub syncing : Option Server → Result Job LineError
+abbrev pub syncing : Option ServerSettings → Result Job LineError
 syncing None = Err NoServer
 syncing (Some server) = Ok (Sync server)
 
--- what a request asks for, by its command: `sync` is with the server that its settings name, and every other command stays here
+-- what a request asks for, by its command: `sync` is with the server that its settings name, `_generate` is in memory, and every other command is over the store
 abbrev pub job_by : Command → Request → Result Job LineError
 job_by command.Sync request = syncing (server_set request.settings)
+job_by command.Generate request = Ok (Generate request)
 job_by _ request = Ok (Here request)
 
 -- what a line asks for, once its words are judged. No input is read yet
@@ -58,4 +59,19 @@ IsAsked asked found = (found ≡ asked) ⊎ (found ≡ Err (Words wrong.Memory))
 abbrev pub HasHost : Result Job LineError → Type 0
 HasHost (Ok (Here request)) = Unit {0}
 HasHost (Ok (Sync server)) = IsHost server.host
+HasHost (Ok (Generate request)) = Unit {0}
 HasHost (Err error) = Unit {0}
+
+-- a world has at most 10,000 tasks
+abbrev pub HasFew : Result Job LineError → Type 0
+HasFew (Ok (Here request)) = Unit {0}
+HasFew (Ok (Sync server)) = Unit {0}
+HasFew (Ok (Generate request)) = number_behind request.line 0 ≤ 10000
+HasFew (Err error) = Unit {0}
+
+-- whether the store is needed
+abbrev pub needs_store : Result Job LineError → Bool
+needs_store (Ok (Here request)) = true
+needs_store (Ok (Sync server)) = true
+needs_store (Ok (Generate request)) = false
+needs_store (Err error) = false

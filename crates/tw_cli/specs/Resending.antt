@@ -6,7 +6,7 @@ use Rattle.tw_model.specs.declared.SyncOp.{SyncOp}
 use Rattle.tw_protocol.specs.Chain.{Version, Grows}
 use Rattle.tw_replica.specs.State.{State, committed}
 use Rattle.tw_replica.specs.Sound.{start_of}
-use Rattle.tw_sync.specs.End.{Told, AddedOne}
+use Rattle.tw_sync.specs.End.{ServerChain, AddedOne}
 use Rattle.tw_sync.specs.Resuming.{WasAdded}
 
 -- operations were appended to what is pending: the base and the tasks without what is pending stay
@@ -17,7 +17,7 @@ pub record HasAppended (old new : State) (later : List SyncOp) : Type 0 where
 
 -- where a refused sync added a version, and operations were appended since, it is the version of which a sync that ends sends nothing again
 abbrev pub AddedIsNotSentAgain : Type 0
-AddedIsNotSentAgain = (old new : State) (before after : Told) (chain : List Version) (later : List SyncOp) (added : AddedOne old before after) → Grows after.chain chain → HasAppended old new later
+AddedIsNotSentAgain = (old new : State) (before after : ServerChain) (chain : List Version) (later : List SyncOp) (added : AddedOne old before after) → Grows after.chain chain → HasAppended old new later
     → (was : WasAdded new chain (plain old.pending) later) × (was.v ≡ added.v)
 
 -- a commit appends its operations

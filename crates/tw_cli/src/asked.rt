@@ -1,10 +1,11 @@
 // What a command line asks for.
-ghost use Rattle.tw_cli.specs.Asked.{job_by, asked_by, IsAsked};
+ghost use Rattle.std.specs.Prelude.{◌≡◌, IfOk};
+ghost use Rattle.tw_cli.specs.Asked.{job_by, asked_by, needs_store, IsAsked};
 
 use std::alloc::Global;
 use tw_commands::{Input, Request};
 use tw_time::Zone;
-use tw_words::{Command, Server, WordError, cut_words, judge_line, read_settings};
+use tw_words::{Command, ServerSettings, WordError, cut_words, judge_line, read_settings};
 use tw_world::{Memory, Moment};
 
 /// What is to be done.
@@ -13,7 +14,9 @@ pub(crate) enum Job<'a> {
     /// A command that stays on this machine.
     Here(Request<'a>),
     /// A sync with a server.
-    Sync(Server),
+    Sync(ServerSettings),
+    /// A large world in memory, which takes and leaves nothing outside.
+    Generate(Request<'a>),
 }
 
 /// Why nothing is to be done.
@@ -57,6 +60,7 @@ fn job_by<'a>(alloc: Global, request: Request<'a>) -> Result<Job<'a>, LineError>
             Some(server) => Ok(Job::Sync(server)),
             None => Err(LineError::NoServer),
         },
+        Command::Generate => Ok(Job::Generate(request)),
         _ => Ok(Job::Here(request)),
     }
 }
@@ -84,4 +88,22 @@ pub(crate) fn asked<'a>(
         input: Input::none(alloc),
     };
     job_by(alloc, request)
+}
+
+/// Whether the words ask for something that the store is needed for: not where they or the settings are wrong, nor for `_generate`.
+pub fn needs_store(
+    alloc: Global,
+    words: &Vec<String>,
+    settings: &Vec<u8>,
+    now: Moment,
+    zone: &Zone,
+) -> Result<bool, Memory>
+    ensures { IfOk result (λ needs. needs ≡ needs_store (asked_by words.now settings.now now zone.entry)) }
+{
+    match asked(alloc, words, settings, now, zone) {
+        Ok(Job::Here(_) | Job::Sync(_)) => Ok(true),
+        Ok(Job::Generate(_)) => Ok(false),
+        Err(LineError::Words(WordError::Memory)) => Err(Memory),
+        Err(_) => Ok(false),
+    }
 }

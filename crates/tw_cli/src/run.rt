@@ -11,6 +11,7 @@ use crate::asked::{Job, asked};
 use crate::carry::run_command;
 use crate::cause::{Cause, Outcome, status_of};
 use crate::fault::tell;
+use crate::generating::run_generate;
 use crate::syncing::run_sync;
 use std::alloc::Global;
 use tw_http::Link;
@@ -36,6 +37,7 @@ fn run_words<D: Disk, L: Link, S: Source, O: Sink>(
     match asked(alloc, words, settings, now, zone) {
         Ok(Job::Here(request)) => run_command(alloc, request, ids, disk, input, out),
         Ok(Job::Sync(server)) => run_sync(alloc, &server, disk, link, out),
+        Ok(Job::Generate(request)) => run_generate(alloc, &request, out),
         Err(error) => Cause::from(error),
     }
 }
@@ -43,7 +45,7 @@ fn run_words<D: Disk, L: Link, S: Source, O: Sink>(
 /// Does what `tw task` does with these words and settings, at this moment in this zone: reads the settings, with the overrides
 /// among the words, and judges the words, opens the replica that the disk holds, writes at most one record, prints to `out`, and
 /// tells of any other end than `Done` on `err`. The record is written before anything is printed. Only `sync` uses the link, and only
-/// `import` the input, of which it reads at most 67,108,864 bytes and one more.
+/// `import` the input, of which it reads at most 67,108,864 bytes and one more. `_generate` is in memory, and leaves the disk as it was.
 pub fn task_run<D: Disk, L: Link, S: Source, O: Sink, E: Sink>(
     alloc: Global,
     words: &Vec<String>,

@@ -74,7 +74,7 @@ editing deed request state =
 abbrev pub undoing : Plan
 undoing = record { work = TakeBack; show = TakenBack }
 
--- what a command is to do; a command that is not built is refused at its word
+-- what a command is to do; one that has no plan over tasks, as `sync`, is refused at its word
 abbrev pub plan_by : Command → Request → IdWords → State → Result Plan Refusal
 plan_by command.Add request ids state = adding request ids state
 plan_by command.Log request ids state = logging request ids state

@@ -10,7 +10,7 @@ pub enum Refusal {
     NoMatch,
     /// Nothing is pending that an undo can take back.
     NothingToUndo,
-    /// The word with this number names no task, or is of a command that is not built.
+    /// The word with this number names no task, or is of a command that has no plan over tasks.
     BadWords { word: u64, kind: WordKind },
     /// This uuid was drawn for a task, and has one already.
     IdTaken { uuid: Uuid },

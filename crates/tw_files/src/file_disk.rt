@@ -196,6 +196,7 @@ impl<F: PlacedFile> Disk for FileDisk<F> {
 #[cfg(test)]
 mod tests {
     use super::*;
+    use std::fs;
     use std::fs::OpenOptions;
     use std::test::Fail;
 
@@ -228,6 +229,7 @@ mod tests {
         assert!(rt; short.len == 6);
         assert_eq!(rt; short.read_at(0, &mut bytes), Err(DiskError::Failed));
         assert_eq!(rt; short.faults, 2);
+        fs::remove_file(&rt, path)?;
         Ok(())
     }
 }

@@ -1,13 +1,14 @@
 // A folder of the system.
-ghost use Rattle.std.specs.Prelude.{◌≡◌, ◌≤◌, List, ℕ, Some, option_map, string_bytes, IfOk, IfErr, OnOk};
+ghost use Rattle.std.specs.Prelude.{◌≡◌, ◌≤◌, List, ℕ, Some, true, option_map, string_bytes, IfOk, IfErr, OnOk};
 ghost use Rattle.std.specs.FinMap.{insert};
 ghost use Rattle.tw_world.specs.Disk.{Rose};
 ghost use Rattle.tw_world.specs.Crash.{Tells, Settled, Steps};
 ghost use Rattle.tw_world.specs.Folder.{Replaced};
+ghost use Rattle.tw_files.specs.FileFolder.{folder_system};
 ghost use Rattle.tw_files.specs.FolderFiles.{HasBytes, path_in};
+ghost use Rattle.tw_files.specs.Folders.{EachOnWay};
 
 use crate::file_disk::{read_whole, write_whole};
-use crate::folder_files::FolderFiles;
 use crate::folders::{Folders, settle_way};
 use crate::placed_file::PlacedFile;
 use std::alloc::{AllocError, Global};
@@ -22,7 +23,7 @@ const TEMPORARY: &str = ".new";
 
 /// A folder of the system, by its path, and how often it has failed. It tells nothing of what it holds.
 #[derive(Drop)]
-pub struct FileFolder<S: FolderFiles> {
+pub struct FileFolder<S: Folders> {
     alloc: Global,
     system: S,
     path: String,
@@ -53,17 +54,18 @@ fn bytes_of<F: PlacedFile>(alloc: Global, file: &F) -> io::Result<Vec<u8>>
     Ok(bytes)
 }
 
-impl<S: FolderFiles> FileFolder<S> {
+impl<S: Folders> FileFolder<S> {
     /// The folder of a path, which is there. Its names are made stable: an earlier run may have ended before it did that.
     pub fn open(alloc: Global, system: S, path: &str) -> io::Result<FileFolder<S>>
     where
         S: Drop,
         ensures settled { IfOk result (λ folder. S.is_settled folder.system path.now) }
+        ensures kept { IfOk result (λ folder. (other : List ℕ) → S.is_settled system other → S.is_settled folder.system other) }
         ensures path { IfOk result (λ folder. string_bytes folder.path ≡ path.now) }
     {
         let mut system = system;
         let owned = String::from_str(alloc, path)?;
-        system.settle_names(path)?;
+        system.settle(path)?;
         Ok(FileFolder {
             alloc,
             system,
@@ -91,7 +93,7 @@ impl<S: FolderFiles> FileFolder<S> {
         ensures faults { self.new.faults ≡ self.old.faults }
     {
         let path = path_in(alloc, self.path.as_str(), name)?;
-        match self.system.open(path.as_str())? {
+        match self.system.find(path.as_str())? {
             None => Ok(None),
             Some(file) => Ok(Some(bytes_of(alloc, &file)?)),
         }
@@ -115,11 +117,11 @@ impl<S: FolderFiles> FileFolder<S> {
         }
         file.stabilize()?;
         self.system.rename(file, from, to)?;
-        self.system.settle_names(self.path.as_str())
+        self.system.settle(self.path.as_str())
     }
 }
 
-impl<S: FolderFiles> Folder for FileFolder<S> {
+impl<S: Folders> Folder for FileFolder<S> {
     ghost use Rattle.tw_files.specs.FileFolder.{folder_model};
     ghost use Rattle.tw_files.specs.FileDisk.{none_told};
 
@@ -172,9 +174,11 @@ impl<S: FolderFiles> Folder for FileFolder<S> {
 }
 
 // Whether a folder has no file yet. It is made, with those on the way to it, where it is not there.
-fn is_new<S: Folders + FolderFiles>(alloc: Global, system: &mut S, path: &str) -> io::Result<bool> {
+fn is_new<S: Folders>(alloc: Global, system: &mut S, path: &str) -> io::Result<bool>
+    ensures { S.is_new system.old path.now → IfOk result (λ new. new ≡ true) }
+{
     match system.list(alloc, path) {
-        Ok(names) => Ok(names.is_empty()),
+        Ok(names) => Ok(names.len() == 0),
         Err(error) if error.kind() == io::ErrorKind::NotFound => {
             system.make_folder(path)?;
             Ok(true)
@@ -183,13 +187,17 @@ fn is_new<S: Folders + FolderFiles>(alloc: Global, system: &mut S, path: &str) -
     }
 }
 
-/// Opens a folder, which is made, with those on the way to it, where it is not there. Where it has no file yet, all of them are
-/// made stable, since the run that made them may have ended before it did that.
-pub fn open_folder<S: Folders + FolderFiles + Drop>(
+/// Opens a folder, which is made, with those on the way to it, where it is not there. The names in it are stable then. Where it
+/// has no file yet, so are the names in each folder on the way to it, since the run that made them may have ended before it made
+/// them stable.
+pub fn open_folder<S: Folders + Drop>(
     alloc: Global,
     system: S,
     path: &str,
-) -> io::Result<FileFolder<S>> {
+) -> io::Result<FileFolder<S>>
+    ensures settled { IfOk result (λ folder. S.is_settled (folder_system folder) path.now) }
+    ensures way { S.is_new system path.now → IfOk result (λ folder. EachOnWay (S.is_settled (folder_system folder)) path.now) }
+{
     let mut system = system;
     if is_new(alloc, &mut system, path)? {
         settle_way(&mut system, path)?;
@@ -200,6 +208,7 @@ pub fn open_folder<S: Folders + FolderFiles + Drop>(
 #[cfg(test)]
 mod tests {
     use super::*;
+    use std::fs;
     use std::test::Fail;
 
     #[test]
@@ -232,6 +241,11 @@ mod tests {
             Ok(_) => assert!(rt; false),
         }
         assert_eq!(rt; folder.faults, 1);
+        fs::remove_file(&rt, "a_folder/deep/a")?;
+        fs::remove_file(&rt, "a_folder/deep/b")?;
+        for made in ["a_folder/deep/d", "a_folder/deep", "a_folder"] {
+            fs::remove_dir(&rt, made)?;
+        }
         Ok(())
     }
 }

@@ -71,7 +71,10 @@ mod tests {
             drop(disk);
             let mut again = open_disk(&mut system, path, Busy::Fail)?;
             assert_eq!(rt; again.size(), Ok(3));
+            fs::remove_file(&rt, path)?;
         }
+        fs::remove_dir(&rt, "two/deep")?;
+        fs::remove_dir(&rt, "two")?;
         Ok(())
     }
 }

@@ -2,6 +2,7 @@ mod filters;
 mod modifiers;
 
 use super::*;
+use crate::named::are_names;
 use std::alloc::Global;
 use std::test::Fail;
 use tw_model::{TaskMap, Tasks};
@@ -117,7 +118,12 @@ fn holds_alone(filter: &Filter, view: &View<'_>, uuid: Uuid) -> bool {
 fn digits_of(alloc: Global, filter: &Filter, view: &View<'_>) -> Result<String, Fail> {
     let mut looks = Looks::new();
     let uuids = select(alloc, filter, view, &mut looks)?;
-    if looks.taken() != u128::from(view.tasks.len()) {
+    let looked = if are_names(&filter.tokens) {
+        uuids.len() as u128
+    } else {
+        u128::from(view.tasks.len())
+    };
+    if looks.taken() != looked {
         return Err("another count of looks")?;
     }
     let chosen = chosen_of(alloc, &uuids)?;

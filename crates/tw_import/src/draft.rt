@@ -57,16 +57,23 @@ impl Draft {
     pub(crate) fn put(&mut self, alloc: Global, name: &str, value: &str) -> Result<(), Memory>
         ensures { OnOk result (self.new ≡ map.insert self.old name.now value.now) }
     {
-        let key = Text::from_str(alloc, name)?;
-        let text = Text::from_str(alloc, value)?;
-        put_entry(&mut self.entries, key, text)
+        let name = Text::from_str(alloc, name)?;
+        let value = Text::from_str(alloc, value)?;
+        self.put_text(name, value)
+    }
+
+    /// Sets a property to a value, both of which it takes.
+    pub(crate) fn put_text(&mut self, name: Text, value: Text) -> Result<(), Memory>
+        ensures { OnOk result (self.new ≡ map.insert self.old name value) }
+    {
+        put_entry(&mut self.entries, name, value)
     }
 
     /// The task.
-    pub(crate) fn to_task(&self, alloc: Global) -> Result<TaskMap, Memory>
-        ensures { IfOk result (λ task. task ≡ self.now) }
+    pub(crate) fn into_task(self, alloc: Global) -> Result<TaskMap, Memory>
+        ensures { IfOk result (λ task. task ≡ self) }
     {
-        let pairs = pairs_of(alloc, &self.entries)?;
+        let pairs = pairs_of(alloc, self.entries)?;
         Ok(TaskMap::from_pairs(pairs).unwrap())
     }
 }
@@ -80,15 +87,13 @@ fn put_entry(entries: &mut BTreeMap<Text, Text>, key: Text, value: Text) -> Resu
     Ok(())
 }
 
-fn pairs_of(alloc: Global, entries: &BTreeMap<Text, Text>) -> Result<Vec<(Text, Text)>, Memory>
-    ensures { IfOk result (λ pairs. pairs.items ≡ entries.now.entries) }
+// The entries of a map, which lets go of each as it is taken.
+fn pairs_of(alloc: Global, entries: BTreeMap<Text, Text>) -> Result<Vec<(Text, Text)>, Memory>
+    ensures { IfOk result (λ pairs. pairs.items ≡ entries.entries) }
 {
-    let mut pairs = Vec::new(alloc);
-    for (name, value) in entries {
-        pairs.push((
-            Text::from_str(alloc, name.as_str())?,
-            Text::from_str(alloc, value.as_str())?,
-        ))?;
+    let mut pairs = Vec::with_capacity(alloc, entries.len())?;
+    for entry in entries {
+        pairs.push(entry)?;
     }
     Ok(pairs)
 }

@@ -3,8 +3,9 @@ ghost use Rattle.std.specs.Prelude.{◌≡◌, ◌++◌, [], codes, IfOk, OnOk};
 ghost use Rattle.std.specs.Option.{option_copied};
 ghost use Rattle.std.specs.FinMap as map;
 ghost use Rattle.uuid.specs.Text.{hyphenated_text, lower};
-ghost use Rattle.tw_import.specs.Import.{is_bad, is_value, first_bad, has_description, lesser, offending, uuid_of, with_value, with_values, with_item, with_items, with_list, with_lists, with_default, with_defaults, annotation_at, free_second, task_of, made};
-ghost use Rattle.tw_import.specs.Held.{item_in, items_in, told_in, fields_in};
+ghost use Rattle.tw_import.specs.Import.{is_bad, is_value, first_bad, has_description, lesser, offending, uuid_of, with_values, with_item, with_items, with_lists, with_default, with_defaults, annotation_at, free_second, task_of, made};
+ghost use Rattle.tw_model.specs.Ops.{TaskValue};
+ghost use Rattle.tw_import.specs.Held.{item_in, items_in, told_in, fields_in, with_each};
 ghost use Rattle.tw_import.specs.Seconds.{AreSkips};
 ghost use Rattle.tw_import.specs.Element.{IsMade};
 
@@ -89,22 +90,25 @@ fn uuid_of(fields: &BTreeMap<Text, Held>) -> Option<Uuid>
     None
 }
 
-fn put_value(alloc: Global, draft: &mut Draft, name: &str, held: &Held) -> Result<(), Memory>
-    ensures { OnOk result (draft.new ≡ with_value draft.old name.now (told_in held.now)) }
+// Puts the values of fields into a task, and gives the lists among them. Each field is let go of as it is taken.
+#[tactic(auto, using(crate::proofs::Each::with_each_push))]
+fn put_values(
+    alloc: Global,
+    draft: &mut Draft,
+    fields: BTreeMap<Text, Held>,
+) -> Result<Vec<Vec<HeldItem>>, Memory>
+    ensures values { OnOk result (draft.new ≡ with_values draft.old (fields_in fields.entries)) }
+    ensures lists { IfOk result (λ lists. (task : TaskValue) → with_each task lists.items ≡ with_lists task (fields_in fields.entries)) }
 {
-    match held {
-        Held::Value(value) => draft.put(alloc, name, value.as_str()),
-        _ => Ok(()),
-    }
-}
-
-fn put_values(alloc: Global, draft: &mut Draft, fields: &BTreeMap<Text, Held>) -> Result<(), Memory>
-    ensures { OnOk result (draft.new ≡ with_values draft.old (fields_in fields.now.entries)) }
-{
+    let mut lists = Vec::new(alloc);
     for (name, held) in fields {
-        put_value(alloc, draft, name.as_str(), held)?;
+        match held {
+            Held::Value(value) => draft.put_text(name, value)?,
+            Held::Items(items) => lists.push(items)?,
+            _ => {}
+        }
     }
-    Ok(())
+    Ok(lists)
 }
 
 fn put_tag(alloc: Global, draft: &mut Draft, tag: &str) -> Result<(), Memory>
@@ -166,20 +170,11 @@ fn put_items(alloc: Global, draft: &mut Draft, items: &Vec<HeldItem>) -> Result<
     Ok(())
 }
 
-fn put_list(alloc: Global, draft: &mut Draft, held: &Held) -> Result<(), Memory>
-    ensures { OnOk result (draft.new ≡ with_list draft.old (told_in held.now)) }
+fn put_lists(alloc: Global, draft: &mut Draft, lists: &Vec<Vec<HeldItem>>) -> Result<(), Memory>
+    ensures { OnOk result (draft.new ≡ with_each draft.old lists.now.items) }
 {
-    match held {
-        Held::Items(items) => put_items(alloc, draft, items),
-        _ => Ok(()),
-    }
-}
-
-fn put_lists(alloc: Global, draft: &mut Draft, fields: &BTreeMap<Text, Held>) -> Result<(), Memory>
-    ensures { OnOk result (draft.new ≡ with_lists draft.old (fields_in fields.now.entries)) }
-{
-    for (_, held) in fields {
-        put_list(alloc, draft, held)?;
+    for items in lists {
+        put_items(alloc, draft, items)?;
     }
     Ok(())
 }
@@ -202,14 +197,14 @@ fn put_defaults(alloc: Global, draft: &mut Draft, now: u64) -> Result<(), Memory
     put_default(alloc, draft, "modified", digits.as_str())
 }
 
-fn task_of(alloc: Global, now: u64, fields: &BTreeMap<Text, Held>) -> Result<TaskMap, Memory>
-    ensures { IfOk result (λ task. task ≡ task_of now (fields_in fields.now.entries)) }
+fn task_of(alloc: Global, now: u64, fields: BTreeMap<Text, Held>) -> Result<TaskMap, Memory>
+    ensures { IfOk result (λ task. task ≡ task_of now (fields_in fields.entries)) }
 {
     let mut draft = Draft::new(alloc);
-    put_values(alloc, &mut draft, fields)?;
-    put_lists(alloc, &mut draft, fields)?;
+    let lists = put_values(alloc, &mut draft, fields)?;
+    put_lists(alloc, &mut draft, &lists)?;
     put_defaults(alloc, &mut draft, now)?;
-    draft.to_task(alloc)
+    draft.into_task(alloc)
 }
 
 /// Why an element is no task: its first offending key, or no memory.
@@ -234,15 +229,15 @@ impl From<Memory> for NoTask {
 pub(crate) fn made(
     alloc: Global,
     now: u64,
-    fields: &BTreeMap<Text, Held>,
+    fields: BTreeMap<Text, Held>,
 ) -> Result<Imported, NoTask>
-    ensures { IsMade result (made now (fields_in fields.now.entries)) }
+    ensures { IsMade result (made now (fields_in fields.entries)) }
 {
-    if let Some(name) = offending(fields) {
+    if let Some(name) = offending(&fields) {
         return Err(NoTask::Key(Text::from_str(alloc, name)?));
     }
     Ok(Imported {
-        uuid: uuid_of(fields),
+        uuid: uuid_of(&fields),
         map: task_of(alloc, now, fields)?,
     })
 }

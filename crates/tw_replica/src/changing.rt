@@ -14,7 +14,8 @@ ghost use Rattle.tw_replica.specs.Settled.{IsSettledIn, IsReadyFor};
 ghost use Rattle.tw_replica.specs.Prepared.{ChangedAmong, bodies_in, step_bodies};
 
 use crate::about::touched_uuids;
-use crate::held::{Core, is_idle, places_for, take_back_from};
+use crate::held::{Core, is_idle, take_back_from};
+use crate::scan::renew_places;
 use crate::writing::commit_body;
 use std::alloc::Global;
 use std::collections::BTreeSet;
@@ -97,7 +98,7 @@ pub(crate) fn commit_core(
         return Ok(None);
     }
     let body = commit_body(alloc, &group, renumber)?;
-    core.numbers = places_for(alloc, &core.numbers, &core.tasks, touched, renumber)?;
+    renew_places(alloc, &mut core.numbers, &core.tasks, touched, renumber)?;
     put_behind(&mut core.pending, group)?;
     Ok(Some(body))
 }
@@ -114,7 +115,7 @@ pub(crate) fn take_back_core(alloc: Global, core: &mut Core, point: usize) -> Re
 {
     let touched = touched_uuids(alloc, &core.pending, point + 1)?;
     take_back_from(alloc, &mut core.tasks, &core.pending, point + 1)?;
-    core.numbers = places_for(alloc, &core.numbers, &core.tasks, &touched, false)?;
+    renew_places(alloc, &mut core.numbers, &core.tasks, &touched, false)?;
     core.pending.truncate(point);
     Ok(())
 }

@@ -1,5 +1,5 @@
 -- What a text is made of: tasks, their numbers, a moment, a zone and the weights of urgency.
-use Rattle.std.specs.Prelude.{◌≡◌, ◌<◌, ℕ, List, ℤ, pos, neg_ℤ, ◌≤ℤ◌}
+use Rattle.std.specs.Prelude.{◌≡◌, ◌<◌, ℕ, List, Option, Some, None, ℤ, pos, neg_ℤ, ◌≤ℤ◌}
 use Rattle.std.specs.BTreeSet as set
 use Rattle.jiff.specs.Types.{TimeZone}
 use Rattle.tw_world.specs.declared.moment.TheConstants.{MOMENT_LIMIT}
@@ -9,7 +9,7 @@ use Rattle.tw_model.specs.Places.{Places}
 use Rattle.tw_urgency.specs.Dependencies.{blocking}
 use Rattle.tw_urgency.specs.Urgency.{AreWeights}
 use Rattle.tw_urgency.specs.declared.coefficients.Coefficients.{Coefficients}
-use Rattle.tw_report.specs.Ids.{IsIds}
+use Rattle.tw_report.specs.Ids.{AreIds}
 use Rattle.tw_filter.specs.declared.view.View.{View}
 use Rattle.tw_report.specs.declared.look.Look.{Look}
 
@@ -33,10 +33,14 @@ sight_of view weights = record {
 abbrev pub sight_in : Look → Sight
 sight_in look = sight_of look.view.now look.weights.now
 
+abbrev pub AreBlocking : Option (set.BTreeSet (List ℕ)) → TasksValue → Type 0
+AreBlocking None tasks = Unit {0}
+AreBlocking (Some uuids) tasks = (u : List ℕ) → set.contains bytes_cmp uuids u ≡ blocking tasks u
+
 -- what was found of many tasks at once is right
 pub record IsLook (look : Look) : Type 0 where
-  pub ids : IsIds look.ids look.view.now.numbers.now.items
-  pub blocking : (u : List ℕ) → set.contains bytes_cmp look.blocking u ≡ blocking look.view.now.tasks.now u
+  pub ids : AreIds look.ids look.view.now.numbers.now.items
+  pub blocking : AreBlocking look.blocking look.view.now.tasks.now
   pub weights : AreWeights look.weights.now
   pub second : look.view.now.now.seconds < MOMENT_LIMIT
 

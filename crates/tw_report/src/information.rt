@@ -26,7 +26,7 @@ pub fn information_text(
     requires { AreWeights weights.now }
     ensures { IfOk result (λ text. text.items ≡ information_text rows.now.items (sight_of view.entry.now weights.now)) }
 {
-    let look = look_at(alloc, view, weights)?;
+    let look = look_at(alloc, view, weights, rows.len(), true)?;
     let chosen = chosen_of(alloc, rows)?;
     let mut text = Vec::new(alloc);
     let mut is_first = true;

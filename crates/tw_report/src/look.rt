@@ -3,6 +3,7 @@ ghost use Rattle.std.specs.Prelude.{◌≡◌, IfOk};
 ghost use Rattle.std.specs.BTreeMap as tree;
 ghost use Rattle.tw_model.specs.Maps.{bytes_cmp};
 ghost use Rattle.tw_model.specs.Places.{id_of};
+ghost use Rattle.tw_urgency.specs.Dependencies.{blocking as is_blocking_in};
 ghost use Rattle.tw_urgency.specs.Urgency.{urgency, AreWeights};
 ghost use Rattle.tw_report.specs.Sight.{IsLook, IsModest, sight_in, sight_of};
 
@@ -10,34 +11,52 @@ use crate::ids::ids_of;
 use std::alloc::Global;
 use std::collections::{BTreeMap, BTreeSet};
 use tw_filter::View;
-use tw_urgency::{Coefficients, all_blocking, task_urgency};
+use tw_model::id_of;
+use tw_urgency::{Coefficients, all_blocking, blocking, task_urgency};
 use tw_world::Memory;
 use uuid::Uuid;
 
-/// A view, and what is found in it for many tasks at once.
+/// A view, and what is found in it for many tasks at once, where that is worth it.
 #[derive(Drop)]
 pub(crate) struct Look<'a> {
     pub(crate) view: &'a View<'a>,
     pub(crate) weights: &'a Coefficients,
-    pub(crate) ids: BTreeMap<Uuid, u64>,
-    pub(crate) blocking: BTreeSet<Uuid>,
+    /// The numbers of all tasks.
+    pub(crate) ids: Option<BTreeMap<Uuid, u64>>,
+    /// The tasks that are blocking.
+    pub(crate) blocking: Option<BTreeSet<Uuid>>,
 }
 
-/// Finds what is asked of many tasks.
+// A task's number is found by one look at each place; for more rows than these, all numbers are found at once.
+const FEW_ROWS: usize = 32;
+
+/// Finds what is asked of so many rows, and for their urgency, where that is asked for.
 pub(crate) fn look_at<'a>(
     alloc: Global,
     view: &'a View<'a>,
     weights: &'a Coefficients,
+    rows: usize,
+    has_urgency: bool,
 ) -> Result<Look<'a>, Memory>
     requires { AreWeights weights.now }
     ensures found { IfOk result (λ look. IsLook look) }
     ensures sight { IfOk result (λ look. sight_in look ≡ sight_of view.entry.now weights.now) }
 {
+    let ids = if rows > FEW_ROWS {
+        Some(ids_of(alloc, view.numbers)?)
+    } else {
+        None
+    };
+    let blocking = if has_urgency {
+        Some(all_blocking(alloc, view.tasks)?)
+    } else {
+        None
+    };
     Ok(Look {
         view,
         weights,
-        ids: ids_of(alloc, view.numbers)?,
-        blocking: all_blocking(alloc, view.tasks)?,
+        ids,
+        blocking,
     })
 }
 
@@ -46,7 +65,20 @@ pub(crate) fn id_in(look: &Look<'_>, uuid: Uuid) -> Option<u64>
     requires { IsLook look.now }
     ensures { result ≡ id_of uuid (sight_in look.now).numbers }
 {
-    look.ids.get(&uuid).copied()
+    match &look.ids {
+        Some(ids) => ids.get(&uuid).copied(),
+        None => id_of(look.view.numbers, uuid),
+    }
+}
+
+fn is_blocking(look: &Look<'_>, uuid: Uuid) -> bool
+    requires { IsLook look.now }
+    ensures { result ≡ is_blocking_in (sight_in look.now).tasks uuid }
+{
+    match &look.blocking {
+        Some(uuids) => uuids.contains(&uuid),
+        None => blocking(look.view.tasks, uuid),
+    }
 }
 
 /// How urgent a task is.
@@ -60,7 +92,7 @@ pub(crate) fn urgency_in(look: &Look<'_>, uuid: Uuid) -> i64
         Some(task) => task_urgency(
             look.view.tasks,
             task,
-            look.blocking.contains(&uuid),
+            is_blocking(look, uuid),
             look.view.now.seconds,
             look.weights,
         ),

@@ -48,9 +48,14 @@ pub fn report_text(
     requires { AreWeights weights.now }
     ensures { IfOk result (λ text. text.items ≡ report_text report rows.now.items (sight_of view.entry.now weights.now)) }
 {
-    let look = look_at(alloc, view, weights)?;
+    let look = look_at(alloc, view, weights, rows.len(), has_urgency(report))?;
     let ranks = ranks_of(alloc, report, rows, &look)?;
     ranked_text(alloc, report, &ranks, &look)
+}
+
+// Whether a report shows or sorts by urgency.
+fn has_urgency(report: Report) -> bool {
+    matches!(report, Report::Next)
 }
 
 fn ranked_text(

@@ -67,10 +67,28 @@ fn a_task_is_added(rt: HostRuntime) -> Result<(), Fail> {
 }
 
 #[test]
+fn a_large_world_leaves_the_disk_as_it_was(rt: HostRuntime) -> Result<(), Fail> {
+    let alloc = rt.alloc();
+    let mut disk = empty_disk(alloc, &[])?;
+    let ended = run(alloc, "_generate|1|0", &mut disk)?;
+    assert_eq!(rt;
+        ended.outcome,
+        Outcome {
+            status: 0,
+            cause: Cause::Done
+        }
+    );
+    let told = b"tasks 1, first segment 1206 bytes, dropped 1, pushed 0, exports equal\n";
+    assert_eq!(rt; ended.out.bytes(), told.as_slice());
+    assert_eq!(rt; disk.bytes(), b"".as_slice());
+    Ok(())
+}
+
+#[test]
 fn words_outside_the_grammar_are_told(rt: HostRuntime) -> Result<(), Fail> {
     let alloc = rt.alloc();
     let rows = [
-        ("_generate|1|0", 0, WordKind::Unbuilt),
+        ("_generate|0|0", 1, WordKind::Value),
         ("add", 0, WordKind::Missing),
         ("add|", 1, WordKind::Value),
         ("done", 0, WordKind::NoFilter),

@@ -1,4 +1,4 @@
--- What is left at a place is sent.
+-- What is left at a cursor is sent.
 use Rattle.std.proofs.Common.{◌≡◌, ℕ, ◌+◌, ◌*◌, ◌≤◌, inl, inr, length, List, [], ◌∷◌, ◌++◌, Ok, refl, sym, ap, subst, ◌∙◌, arith}
 use Rattle.uuid.specs.Parts.{zero_bytes}
 use Rattle.tw_protocol.specs.Chain.{Version, IsBetween, Grows, HoldsAll}
@@ -13,12 +13,12 @@ use Rattle.tw_sync.specs.End.{IsPulled, AddedOne}
 use Rattle.tw_sync.specs.Heard.{Heard, Hears, HearsUntil, conflicts, most_exchanges}
 use Rattle.tw_sync.specs.Answers.{GrowsOn, IsAddedOne, add_heard, HeardUnasked, NoReply, AddRefused}
 use Rattle.tw_sync.specs.Refused.{EndedBy, GoesOnFrom, HeardRefused, MayAdd}
-use Rattle.tw_sync.specs.Sync.{told, IsLastReply}
+use Rattle.tw_sync.specs.Sync.{server_chain, IsLastReply}
 use Rattle.tw_sync.specs.Honest.{HonestRefused}
 use Rattle.tw_sync.specs.Progress.{HeardSoFar, IsUpToDate, IsAtEnd, HasPulled, HeardAll, IsMet, IsCause, HeardToStop, StopsTruly, IsStopped}
 use Rattle.tw_sync.specs.Sending.{IsUnsent}
 use Rattle.tw_sync.specs.declared.ask.AddAnswer.TheVariants.{Added}
-use Rattle.tw_sync.specs.declared.place.Place.{Place}
+use Rattle.tw_sync.specs.declared.cursor.Cursor.{Cursor}
 use Rattle.tw_sync.specs.Causes.{of_ask, of_send}
 use Rattle.tw_sync.specs.declared.error.AskError.{AskError}
 use Rattle.tw_sync.specs.declared.error.SendError.{SendError}
@@ -34,7 +34,7 @@ use Rattle.tw_sync.proofs.Turns.{IsAsked, IsUnasked, cause_on, no_reply_says, st
 
 -- ---- nothing is left
 
-at_end_holds : {L : Type 0} (m : LinkModel L) (client : List ℕ) (state : State) (first now : L) (p : Place) → IsAtEnd m client state first now p → HoldsAll (m.chain first) (m.chain now) p.at
+at_end_holds : {L : Type 0} (m : LinkModel L) (client : List ℕ) (state : State) (first now : L) (p : Cursor) → IsAtEnd m client state first now p → HoldsAll (m.chain first) (m.chain now) p.at
 at_end_holds m client state first now p e = record { front = e.front; back = e.given.after.more; cut = record { split = e.given.after.joined; at = e.last }; holds = e.given.before }
 
 holds_grown : (old now later : List Version) (v : List ℕ) → HoldsAll old now v → Grows now later → HoldsAll old later v
@@ -44,7 +44,7 @@ holds_grown old now later v h g = record { front = h.front; back = h.back ++ g.m
 few_at_end : (first now versions conflicts more : ℕ) → now ≤ first + (versions + 2 * conflicts + more) → more ≤ 2 → conflicts ≤ versions → conflicts ≤ 15 → now ≤ first + most_exchanges versions
 few_at_end first now versions conflicts more le two late tries = omega (arith, le, two, late, tries)
 
-pub nothing_left : {L : Type 0} (m : LinkModel L) (client host : List ℕ) (state : State) (first now : L) (p : Place) → HasPulled m client host state first now p → p.left.items ≡ [] → IsMet m client host state first now p 0
+pub nothing_left : {L : Type 0} (m : LinkModel L) (client host : List ℕ) (state : State) (first now : L) (p : Cursor) → HasPulled m client host state first now p → p.left.items ≡ [] → IsMet m client host state first now p 0
 nothing_left m client host state first now p s none = record {
   fewer = omega arith;
   kept = s.asked.kept;
@@ -61,7 +61,7 @@ nothing_left m client host state first now p s none = record {
 -- ---- a version is added
 
 -- the version that was added stands behind what was pulled
-module _ {L : Type 0} (m : LinkModel L) (client : List ℕ) (state : State) (first a b : L) (p : Place) (id segment : List ℕ) (e : IsAtEnd m client state first a p) (on : GrowsOn m a b client) (one : IsAddedOne m a b (version id p.at segment)) where
+module _ {L : Type 0} (m : LinkModel L) (client : List ℕ) (state : State) (first a b : L) (p : Cursor) (id segment : List ℕ) (e : IsAtEnd m client state first a p) (on : GrowsOn m a b client) (one : IsAddedOne m a b (version id p.at segment)) where
   abbrev pub v : Version
   v = version id p.at segment
 
@@ -88,7 +88,7 @@ module _ {L : Type 0} (m : LinkModel L) (client : List ℕ) (state : State) (fir
   pub sent_mine : m.own b ≡ m.own first ++ v ∷ []
   sent_mine = one.mine ∙ ap (λ vs. vs ++ v ∷ []) e.mine
 
-  pub added_one : ¬ (p.left.items ≡ []) → segment ≡ segment_text p.left.items → IsSegment segment p.left.items → length segment ≤ max_len → AddedOne state (told m first) (told m b)
+  pub added_one : ¬ (p.left.items ≡ []) → segment ≡ segment_text p.left.items → IsSegment segment p.left.items → length segment ≤ max_len → AddedOne state (server_chain m first) (server_chain m b)
   added_one some text back within = record {
     v = v;
     versions = e.stands.versions;
@@ -105,7 +105,7 @@ module _ {L : Type 0} (m : LinkModel L) (client : List ℕ) (state : State) (fir
   }
 
 -- where it was added the sync has ended
-pub added : {L : Type 0} (m : LinkModel L) (client host : List ℕ) (state : State) (first a b : L) (p q : Place) (id segment : List ℕ) (sent : ℕ) → HasPulled m client host state first a p → IsAsked m client host a b (add_heard client p.at segment (Added id))
+pub added : {L : Type 0} (m : LinkModel L) (client host : List ℕ) (state : State) (first a b : L) (p q : Cursor) (id segment : List ℕ) (sent : ℕ) → HasPulled m client host state first a p → IsAsked m client host a b (add_heard client p.at segment (Added id))
     → (IsHonest m a client → GrowsOn m a b client) → (IsHonest m a client → IsAddedOne m a b (version id p.at segment)) → ¬ (p.left.items ≡ []) → segment ≡ segment_text p.left.items → IsSegment segment p.left.items → length segment ≤ max_len
     → q.at ≡ id → q.remote.items ≡ p.remote.items ++ p.left.items → q.versions ≡ p.versions → sent ≡ length p.left.items → IsMet m client host state first b q sent
 added m client host state first a b p q id segment sent s asked grows one some text back within at remote versions count = record {
@@ -156,10 +156,10 @@ added m client host state first a b p q id segment sent s asked grows one some t
 -- ---- a refusal
 
 -- what is left is not sent
-pub unsent : {L : Type 0} (m : LinkModel L) (client host : List ℕ) (state : State) (first now : L) (p : Place) (e : SendError) → HasPulled m client host state first now p → IsUnsent p.left.items e → IsStopped m client host state first now (of_send e)
+pub unsent : {L : Type 0} (m : LinkModel L) (client host : List ℕ) (state : State) (first now : L) (p : Cursor) (e : SendError) → HasPulled m client host state first now p → IsUnsent p.left.items e → IsStopped m client host state first now (of_send e)
 unsent m client host state first now p e s not = by e not
   where
-    stop : (x : SyncError) → IsCause m first now x → ((hs : List Heard) → GoesOnFrom hs → HeardRefused client hs x) → (IsHonest m first client → HonestRefused state (told m first) (told m now) x) → IsStopped m client host state first now x
+    stop : (x : SyncError) → IsCause m first now x → ((hs : List Heard) → GoesOnFrom hs → HeardRefused client hs x) → (IsHonest m first client → HonestRefused state (server_chain m first) (server_chain m now) x) → IsStopped m client host state first now x
     stop x cause refused says = record {
       kept = s.asked.kept;
       cause = cause;
@@ -186,7 +186,7 @@ may_add e (inl is) = subst (λ x. MayAdd (of_ask x)) (sym is) tt
 may_add e (inr is) = subst (λ x. MayAdd (of_ask x)) (sym is) tt
 
 -- the question was refused
-pub unadded : {L : Type 0} (m : LinkModel L) (client host : List ℕ) (state : State) (first a b : L) (p : Place) (segment : List ℕ) (e : AskError) → HasPulled m client host state first a p → IsUnasked m client host a b e → (IsHonest m a client → GrowsOn m a b client)
+pub unadded : {L : Type 0} (m : LinkModel L) (client host : List ℕ) (state : State) (first a b : L) (p : Cursor) (segment : List ℕ) (e : AskError) → HasPulled m client host state first a p → IsUnasked m client host a b e → (IsHonest m a client → GrowsOn m a b client)
     → (IsHonest m a client → AddRefused m a b p.at segment e) → ¬ (p.left.items ≡ []) → segment ≡ segment_text p.left.items → IsSegment segment p.left.items → length segment ≤ max_len → IsStopped m client host state first b (of_ask e)
 unadded m client host state first a b p segment e s un grows refused some text back within = record {
   kept = kept_on m first a b s.asked.kept un.kept;
@@ -211,18 +211,18 @@ unadded m client host state first a b p segment e s un grows refused some text b
     }
 
     by : IsAtEnd m client state first a p → GrowsOn m a b client → AddRefused m a b p.at segment e → StopsTruly m state first b (of_ask e)
-    by c on (inl (none, inl same)) = stops_here m client state first a b (of_ask e) c.on c.mine on same (no_reply_says state (told m first) (told m b) e none)
+    by c on (inl (none, inl same)) = stops_here m client state first a b (of_ask e) c.on c.mine on same (no_reply_says state (server_chain m first) (server_chain m b) e none)
     by c on (inl (none, inr (id, one))) = record {
       whole = on.whole;
       grows = grows_on (m.chain first) (m.chain a) (m.chain b) c.on.grows on.grows;
-      refused = no_reply_says state (told m first) (told m b) e none;
+      refused = no_reply_says state (server_chain m first) (server_chain m b) e none;
       added = inr (added_one m client state first a b p id segment c on one some text back within);
       added_only = inl (may_add e none);
     }
-    by c on (inr (is, same)) = stops_here m client state first a b (of_ask e) c.on c.mine on same (subst (λ x. HonestRefused state (told m first) (told m b) (of_ask x)) (sym is) refl)
+    by c on (inr (is, same)) = stops_here m client state first a b (of_ask e) c.on c.mine on same (subst (λ x. HonestRefused state (server_chain m first) (server_chain m b) (of_ask x)) (sym is) refl)
 
 -- the version was added, and there was no memory for what follows
-pub added_unkept : {L : Type 0} (m : LinkModel L) (client host : List ℕ) (state : State) (first a b : L) (p : Place) (id segment : List ℕ) → HasPulled m client host state first a p → IsAsked m client host a b (add_heard client p.at segment (Added id))
+pub added_unkept : {L : Type 0} (m : LinkModel L) (client host : List ℕ) (state : State) (first a b : L) (p : Cursor) (id segment : List ℕ) → HasPulled m client host state first a p → IsAsked m client host a b (add_heard client p.at segment (Added id))
     → (IsHonest m a client → GrowsOn m a b client) → (IsHonest m a client → IsAddedOne m a b (version id p.at segment)) → ¬ (p.left.items ≡ []) → segment ≡ segment_text p.left.items → IsSegment segment p.left.items → length segment ≤ max_len → IsStopped m client host state first b errors.Memory
 added_unkept m client host state first a b p id segment s asked grows one some text back within = record {
   kept = kept_on m first a b s.asked.kept asked.kept;

@@ -7,9 +7,9 @@ use Rattle.tw_model.specs.declared.Op.{Op}
 use Rattle.tw_model.specs.declared.SyncOp.{SyncOp}
 use Rattle.tw_http.specs.Link.{LinkModel, IsChainOf}
 use Rattle.tw_replica.specs.State.{State}
-use Rattle.tw_sync.specs.Place.{IsAtStart}
+use Rattle.tw_sync.specs.Cursor.{IsAtStart}
 use Rattle.tw_sync.specs.Progress.{IsPulling}
-use Rattle.tw_sync.specs.declared.place.Place.{Place}
+use Rattle.tw_sync.specs.declared.cursor.Cursor.{Cursor}
 use Rattle.tw_sync.proofs.Steps.{back-append}
 use Rattle.tw_sync.proofs.Served.{grows_same}
 use Rattle.tw_sync.proofs.Hearing.{hears_none, kept_same}
@@ -40,8 +40,8 @@ take_back_turn tasks new ops at op some le e is =
 
 -- ---- the first step
 
-pub starts : {L : Type 0} (m : LinkModel L) (client host : List ℕ) (state : State) (link : L) (place : Place) → IsChainOf m link → IsAtStart state place → IsPulling m client host state link link place
-starts m client host state link place whole s = record {
+pub starts : {L : Type 0} (m : LinkModel L) (client host : List ℕ) (state : State) (link : L) (cursor : Cursor) → IsChainOf m link → IsAtStart state cursor → IsPulling m client host state link link cursor
+starts m client host state link cursor whole s = record {
   fewer = (let e = ap length s.left in omega (arith, e));
   tries = (let e = s.conflicts in omega (arith, e));
   asked = record {

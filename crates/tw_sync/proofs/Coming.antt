@@ -10,17 +10,17 @@ use Rattle.tw_http.specs.Link.{LinkModel}
 use Rattle.tw_replica.specs.State.{State}
 use Rattle.tw_sync.specs.Fold.{Agrees}
 use Rattle.tw_sync.specs.Answers.{GrowsOn, IsChildAnswer}
-use Rattle.tw_sync.specs.Place.{TakesVersion, StandsIn, Stands, GoesFurther}
+use Rattle.tw_sync.specs.Cursor.{TakesVersion, StandsIn, Stands, GoesFurther}
 use Rattle.tw_sync.specs.Progress.{HasCome, IsAtEnd}
 use Rattle.tw_sync.specs.declared.ask.ChildAnswer.TheVariants.{Found, UpToDate, Gone}
-use Rattle.tw_sync.specs.declared.place.Place.{Place}
+use Rattle.tw_sync.specs.declared.cursor.Cursor.{Cursor}
 use Rattle.tw_sync.proofs.Served.{grows_on}
 use Rattle.tw_sync.proofs.Hearing.{growing_on}
 use Rattle.tw_sync.proofs.Standing.{grown_longer, cut_grows, between_grows, cut_before, cut_behind, stands_grown, stands_at_cut, stands_on}
 
-stands_further : (state : State) (old new : List Version) (place : Place) → Stands state old place → Grows old new → Stands state new place
-stands_further state old new place (inl s) g = inl s
-stands_further state old new place (inr s) g = inr (stands_grown state old new place s g)
+stands_further : (state : State) (old new : List Version) (cursor : Cursor) → Stands state old cursor → Grows old new → Stands state new cursor
+stands_further state old new cursor (inl s) g = inl s
+stands_further state old new cursor (inr s) g = inr (stands_grown state old new cursor s g)
 
 -- no version stands behind the last of a chain that was longer
 not_further : (a at b : List Version) (v : List ℕ) → IsChain b → Grows a at → Grows at b → GoesFurther a v → latest at ≡ v → ⊥
@@ -38,8 +38,8 @@ not_further a at b v whole f g further last =
     none [] e = refl
     none (x ∷ xs) e = absurd (omega (arith, e))
 
--- the version that an answer brings stands behind the place
-pub found_behind : {L : Type 0} (m : LinkModel L) (client : List ℕ) (state : State) (first a b : L) (p : Place) (id segment : List ℕ) → HasCome m client state first a p → GrowsOn m a b client → IsChildAnswer m a b p.at (Found id segment)
+-- the version that an answer brings stands behind the cursor
+pub found_behind : {L : Type 0} (m : LinkModel L) (client : List ℕ) (state : State) (first a b : L) (p : Cursor) (id segment : List ℕ) → HasCome m client state first a p → GrowsOn m a b client → IsChildAnswer m a b p.at (Found id segment)
     → StandsIn state (m.chain b) p × IsBetween (m.chain b) p.at id (version id p.at segment ∷ [])
 found_behind m client state first a b p id segment h on answer =
     let v : Version = version id p.at segment in
@@ -47,7 +47,7 @@ found_behind m client state first a b p id segment h on answer =
     (stands_at_cut state (m.chain b) p next.front (v ∷ [] ++ next.back) (cut_before (m.chain b) p.at id (v ∷ []) next) (stands_further state (m.chain a) (m.chain b) p h.stands on.grows), next)
 
 -- it is taken
-pub come_found : {L : Type 0} (m : LinkModel L) (client : List ℕ) (state : State) (first a b : L) (p q : Place) (id segment : List ℕ) → HasCome m client state first a p → GrowsOn m a b client → m.own b ≡ m.own a → IsChildAnswer m a b p.at (Found id segment) → TakesVersion p q id segment → HasCome m client state first b q
+pub come_found : {L : Type 0} (m : LinkModel L) (client : List ℕ) (state : State) (first a b : L) (p q : Cursor) (id segment : List ℕ) → HasCome m client state first a p → GrowsOn m a b client → m.own b ≡ m.own a → IsChildAnswer m a b p.at (Found id segment) → TakesVersion p q id segment → HasCome m client state first b q
 come_found m client state first a b p q id segment h on own answer t =
     let v : Version = version id p.at segment in
     let found = found_behind m client state first a b p id segment h on answer in
@@ -64,8 +64,8 @@ come_found m client state first a b p q id segment h on own answer t =
     fewer (inl le) = let c = t.conflicts in let n = t.versions in omega (arith, le, c, n)
     fewer (inr (le, further)) = let c = t.conflicts in let n = t.versions in omega (arith, le, c, n)
 
--- there is no version behind the place
-pub come_to_end : {L : Type 0} (m : LinkModel L) (client : List ℕ) (state : State) (first a b : L) (p : Place) → HasCome m client state first a p → GrowsOn m a b client → m.own b ≡ m.own a → IsChildAnswer m a b p.at UpToDate → IsAtEnd m client state first b p
+-- there is no version behind the cursor
+pub come_to_end : {L : Type 0} (m : LinkModel L) (client : List ℕ) (state : State) (first a b : L) (p : Cursor) → HasCome m client state first a p → GrowsOn m a b client → m.own b ≡ m.own a → IsChildAnswer m a b p.at UpToDate → IsAtEnd m client state first b p
 come_to_end m client state first a b p h on own answer =
     let here : IsCut (m.chain b) p.at answer.at answer.given.after.more = record { split = answer.given.after.joined; at = answer.says } in
     let longer = grown_longer (m.chain a) answer.at answer.given.before in
@@ -84,8 +84,8 @@ come_to_end m client state first a b p h on own answer =
     fewer (inl le) = le
     fewer (inr (le, further)) = absurd (not_further (m.chain a) answer.at (m.chain b) p.at on.whole answer.given.before answer.given.after further answer.says)
 
--- where a version came too late, there is one behind the place
-pub late_goes_on : {L : Type 0} (m : LinkModel L) (client : List ℕ) (a b : L) (p : Place) → GoesFurther (m.chain a) p.at → GrowsOn m a b client → IsChildAnswer m a b p.at UpToDate → ⊥
+-- where a version came too late, there is one behind the cursor
+pub late_goes_on : {L : Type 0} (m : LinkModel L) (client : List ℕ) (a b : L) (p : Cursor) → GoesFurther (m.chain a) p.at → GrowsOn m a b client → IsChildAnswer m a b p.at UpToDate → ⊥
 late_goes_on m client a b p further on answer = not_further (m.chain a) answer.at (m.chain b) p.at on.whole answer.given.before answer.given.after further answer.says
 
 -- ---- the base is known
@@ -102,7 +102,7 @@ cut_known : (chain : List Version) (v : List ℕ) (front back : List Version) �
 cut_known chain v front back cut = subst (λ c. IsKnown zero_bytes c v) (sym cut.split) (known_behind zero_bytes front back v cut.at)
 
 -- the server knows the base of a replica that agrees with its chain
-pub never_gone : {L : Type 0} (m : LinkModel L) (client : List ℕ) (state : State) (first a b : L) (p : Place) → HasCome m client state first a p → IsChildAnswer m a b p.at Gone → ¬ (Agrees state (m.chain first))
+pub never_gone : {L : Type 0} (m : LinkModel L) (client : List ℕ) (state : State) (first a b : L) (p : Cursor) → HasCome m client state first a p → IsChildAnswer m a b p.at Gone → ¬ (Agrees state (m.chain first))
 never_gone m client state first a b p h answer = λ agrees. answer.says (known h.stands agrees)
   where
     known : Stands state (m.chain a) p → Agrees state (m.chain first) → IsKnown zero_bytes answer.at p.at

@@ -15,7 +15,7 @@ use Rattle.tw_segment.specs.declared.error.SegmentError.TheVariants as segments
 use Rattle.tw_replica.specs.Core.{state_of}
 use Rattle.tw_replica.specs.declared.replica.Replica.{Replica}
 use Rattle.tw_sync.specs.Refused.{SyncRefused}
-use Rattle.tw_sync.specs.Sync.{told}
+use Rattle.tw_sync.specs.Sync.{server_chain}
 use Rattle.tw_sync.specs.Honest.{HonestRefused, CanSync, IsWant}
 use Rattle.tw_sync.specs.declared.error.SyncError.{SyncError}
 use Rattle.tw_sync.specs.declared.error.SyncError.TheVariants as errors
@@ -35,7 +35,7 @@ only_memory bytes (segments.Shape index) ops u within s = (the_only {V = List Sy
 only_memory bytes segments.Memory ops u within s = refl
 
 pub can_sync : {D L : Type 0} (m : DiskModel D) (links : LinkModel L) (old new : Replica) (before after : D) (first last : L) (client : List ℕ) (e : SyncError) → CanSync m links old before after first last client
-    → SyncRefused m links old new before after first last e → HonestRefused (state_of old.core) (told links first) (told links last) e → IsWant e
+    → SyncRefused m links old new before after first last e → HonestRefused (state_of old.core) (server_chain links first) (server_chain links last) e → IsWant e
 can_sync m links old new before after first last client errors.Memory can r h = inl refl
 can_sync m links old new before after first last client (errors.Reply kind) can r h = inr (ap (λ k. errors.Reply k) h)
 can_sync m links old new before after first last client errors.Link can r h = absurd (can.link_works r.0)

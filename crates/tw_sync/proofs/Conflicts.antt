@@ -1,4 +1,4 @@
--- What is left at a place came too late, and what others added is pulled.
+-- What is left at a cursor came too late, and what others added is pulled.
 use Rattle.std.proofs.Common.{◌≡◌, ℕ, ◌+◌, ◌≤◌, inr, length, List, [], ◌∷◌, ◌++◌, refl, sym, ap, subst, ◌∙◌, arith, length-append}
 use Rattle.std.proofs.lemmas.List.{append-nil, append_assoc}
 use Rattle.tw_model.specs.Ops.{apply_all}
@@ -11,11 +11,11 @@ use Rattle.tw_sync.specs.End.{IsPulled}
 use Rattle.tw_sync.specs.Heard.{Heard, Hears}
 use Rattle.tw_sync.specs.Answers.{GrowsOn, IsRefusedOne, add_heard, child_heard}
 use Rattle.tw_sync.specs.Refused.{EndedBy, IsConflict, IsOutOfSync}
-use Rattle.tw_sync.specs.Place.{StandsIn, GoesFurther}
+use Rattle.tw_sync.specs.Cursor.{StandsIn, GoesFurther}
 use Rattle.tw_sync.specs.Progress.{HeardSoFar, IsPulling, IsAtEnd, HasPulled, IsLate, HeardToStop, IsStopped}
 use Rattle.tw_sync.specs.declared.ask.ChildAnswer.TheVariants.{UpToDate}
 use Rattle.tw_sync.specs.declared.ask.AddAnswer.TheVariants.{Conflict}
-use Rattle.tw_sync.specs.declared.place.Place.{Place}
+use Rattle.tw_sync.specs.declared.cursor.Cursor.{Cursor}
 use Rattle.tw_sync.specs.declared.error.SyncError.TheVariants as errors
 use Rattle.tw_sync.proofs.Standing.{cut_grows, stands_grown}
 use Rattle.tw_sync.proofs.Coming.{late_goes_on}
@@ -25,8 +25,8 @@ use Rattle.tw_sync.proofs.Results.{ended_by}
 use Rattle.tw_sync.proofs.Served.{grows_on}
 use Rattle.tw_sync.proofs.Turns.{IsAsked, IsTold, asked_on}
 
--- the place with one conflict more
-pub record IsLater (p q : Place) : Type 0 where
+-- the cursor with one conflict more
+pub record IsLater (p q : Cursor) : Type 0 where
   pub at : q.at ≡ p.at
   pub left : q.left.items ≡ p.left.items
   pub tasks : q.tasks ≡ p.tasks
@@ -35,7 +35,7 @@ pub record IsLater (p q : Place) : Type 0 where
   pub bytes : q.bytes ≡ p.bytes
   pub conflicts : q.conflicts ≡ p.conflicts + 1
 
-later_stands : (state : State) (chain : List Version) (p q : Place) → IsLater p q → StandsIn state chain p → StandsIn state chain q
+later_stands : (state : State) (chain : List Version) (p q : Cursor) → IsLater p q → StandsIn state chain p → StandsIn state chain q
 later_stands state chain p q same s = record {
   versions = s.versions;
   pulled = subst (λ h. IsPulled state chain h s.versions q.remote.items q.left.items) (sym same.at) (subst (λ r. IsPulled state chain p.at s.versions r q.left.items) (sym same.remote) (subst (λ l. IsPulled state chain p.at s.versions p.remote.items l) (sym same.left) s.pulled));
@@ -55,8 +55,8 @@ none_of_both : {A : Type 0} (xs ys : List A) → ¬ (xs ≡ []) → ¬ (xs ++ ys
 none_of_both [] ys some = λ e. some refl
 none_of_both (x ∷ xs) ys some = λ e. cc
 
--- versions of others stand behind the place
-module _ {L : Type 0} (m : LinkModel L) (client : List ℕ) (state : State) (first a b : L) (p : Place) (last : List ℕ) (e : IsAtEnd m client state first a p) (on : GrowsOn m a b client) (one : IsRefusedOne m a b p.at last) where
+-- versions of others stand behind the cursor
+module _ {L : Type 0} (m : LinkModel L) (client : List ℕ) (state : State) (first a b : L) (p : Cursor) (last : List ℕ) (e : IsAtEnd m client state first a p) (on : GrowsOn m a b client) (one : IsRefusedOne m a b p.at last) where
   to_there : Grows e.front one.at
   to_there = grows_on e.front (m.chain a) one.at e.given.after one.given.before
 
@@ -81,7 +81,7 @@ module _ {L : Type 0} (m : LinkModel L) (client : List ℕ) (state : State) (fir
       let o = e.others in
       omega (arith, x, y, z, w, n, o)
 
-pub came_late : {L : Type 0} (m : LinkModel L) (client host : List ℕ) (state : State) (first a b : L) (p q : Place) (segment last : List ℕ) → HasPulled m client host state first a p → IsAsked m client host a b (add_heard client p.at segment (Conflict last))
+pub came_late : {L : Type 0} (m : LinkModel L) (client host : List ℕ) (state : State) (first a b : L) (p q : Cursor) (segment last : List ℕ) → HasPulled m client host state first a p → IsAsked m client host a b (add_heard client p.at segment (Conflict last))
     → (IsHonest m a client → GrowsOn m a b client) → (IsHonest m a client → IsRefusedOne m a b p.at last) → IsLater p q → IsLate m client host state first b q last
 came_late m client host state first a b p q segment last s asked grows one same = record {
   fewer = (let n = s.fewer in let e = ap length same.left in omega (arith, n, e));
@@ -107,7 +107,7 @@ came_late m client host state first a b p q segment last s asked grows one same 
 
 -- ---- what follows a conflict
 
-pub late_pulls : {L : Type 0} (m : LinkModel L) (client host : List ℕ) (state : State) (first now : L) (p : Place) (last : List ℕ) → IsLate m client host state first now p last → p.conflicts ≤ 15 → IsPulling m client host state first now p
+pub late_pulls : {L : Type 0} (m : LinkModel L) (client host : List ℕ) (state : State) (first now : L) (p : Cursor) (last : List ℕ) → IsLate m client host state first now p last → p.conflicts ≤ 15 → IsPulling m client host state first now p
 late_pulls m client host state first now p last s few = record {
   fewer = s.fewer;
   tries = few;
@@ -115,8 +115,8 @@ late_pulls m client host state first now p last s few = record {
   come = s.come;
 }
 
--- there is no version behind the place, where one came before what was left
-pub late_alone : {L : Type 0} (m : LinkModel L) (client host : List ℕ) (state : State) (first a b : L) (p : Place) (last : List ℕ) → IsLate m client host state first a p last → p.conflicts ≤ 15 → IsAsked m client host a b (child_heard client p.at UpToDate)
+-- there is no version behind the cursor, where one came before what was left
+pub late_alone : {L : Type 0} (m : LinkModel L) (client host : List ℕ) (state : State) (first a b : L) (p : Cursor) (last : List ℕ) → IsLate m client host state first a p last → p.conflicts ≤ 15 → IsAsked m client host a b (child_heard client p.at UpToDate)
     → (IsHonest m a client → IsTold m client a b p.at UpToDate) → IsStopped m client host state first b (errors.OutOfSync p.at last)
 late_alone m client host state first a b p last s tries asked tells = record {
   kept = kept_on m first a b s.asked.kept asked.kept;

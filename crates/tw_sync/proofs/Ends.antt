@@ -11,11 +11,11 @@ use Rattle.tw_replica.specs.Sound.{IsSound, start_of}
 use Rattle.tw_replica.proofs.Touched.{settled_in}
 use Rattle.tw_replica.proofs.Soundness as replica
 use Rattle.tw_sync.specs.Fold.{IsFold, Agrees}
-use Rattle.tw_sync.specs.End.{Told, IsLeft, IsPushed, stands_at}
+use Rattle.tw_sync.specs.End.{ServerChain, IsLeft, IsPushed, stands_at}
 use Rattle.tw_sync.specs.Laws.{NewReplicaAgrees, AddedVersionCancels, SyncEndAgrees}
 use Rattle.tw_sync.specs.declared.report.SyncReport.{SyncReport}
 use Rattle.tw_sync.proofs.Reading.{reads-append, reads_last}
-use Rattle.tw_sync.proofs.Places.{own_versions_cancel_at}
+use Rattle.tw_sync.proofs.PositionLemmas.{own_versions_cancel_at}
 use Rattle.tw_sync.proofs.Folds.{agrees_is_kept, fold_on}
 
 pub new_replica_agrees : NewReplicaAgrees
@@ -31,12 +31,12 @@ stands_sound old v tasks sound = record { begins = tt; fits = tt; tasks = refl; 
 stands_agrees : (old new : State) (chain : List Version) (v : List ℕ) (tasks : TasksValue) → IsSound old → IsFold chain v tasks → new ≡ stands_at old v tasks → Agrees new chain
 stands_agrees old new chain v tasks sound f e = subst (λ s. Agrees s chain) (sym e) (record { sound = stands_sound old v tasks sound; folded = f })
 
-left_agrees : (old new : State) (before after : Told) (report : SyncReport) → IsChain after.chain → Agrees old after.chain → IsLeft old new before after report → Agrees new after.chain
+left_agrees : (old new : State) (before after : ServerChain) (report : SyncReport) → IsChain after.chain → Agrees old after.chain → IsLeft old new before after report → Agrees new after.chain
 left_agrees old new before after report whole a l =
     let there : IsFold after.chain new.base (apply_all (start_of old) l.ops) = fold_on after.chain old.base new.base (start_of old) l.versions l.ops whole a.folded l.pulled.between l.pulled.reads in
     stands_agrees old new after.chain new.base (apply_all (start_of old) l.ops) a.sound there l.state
 
-pushed_agrees : (old new : State) (before after : Told) (report : SyncReport) → IsChain after.chain → Agrees old after.chain → IsPushed old new before after report → Agrees new after.chain
+pushed_agrees : (old new : State) (before after : ServerChain) (report : SyncReport) → IsChain after.chain → Agrees old after.chain → IsPushed old new before after report → Agrees new after.chain
 pushed_agrees old new before after report whole a p =
     let all : List SyncOp = p.ops ++ p.left in
     let tasks : TasksValue = apply_all (apply_all (start_of old) p.ops) p.left in

@@ -4,12 +4,12 @@ use Rattle.std.proofs.lemmas.List.{append_assoc, drop_more}
 use Rattle.tw_model.specs.Ops.{TasksValue, apply, apply_all, fit_part}
 use Rattle.tw_model.specs.declared.SyncOp.{SyncOp}
 use Rattle.tw_transform.specs.Grid.{table, put_if, carry, grid}
-use Rattle.tw_sync.specs.Place.{TakesVersion}
-use Rattle.tw_sync.specs.declared.place.Place.{Place}
-use Rattle.tw_sync.proofs.Places.{fit_part-append}
+use Rattle.tw_sync.specs.Cursor.{TakesVersion}
+use Rattle.tw_sync.specs.declared.cursor.Cursor.{Cursor}
+use Rattle.tw_sync.proofs.PositionLemmas.{fit_part-append}
 
-at_place : (xs : List SyncOp) (at : ℕ) (x : SyncOp) → at < length xs → x ≡ get_or xs at x → drop at xs ≡ x ∷ drop (at + 1) xs
-at_place xs at x h e = drop_more xs at x h ∙ ap (λ y. y ∷ drop (at + 1) xs) (sym e)
+at_cursor : (xs : List SyncOp) (at : ℕ) (x : SyncOp) → at < length xs → x ≡ get_or xs at x → drop at xs ≡ x ∷ drop (at + 1) xs
+at_cursor xs at x h e = drop_more xs at x h ∙ ap (λ y. y ∷ drop (at + 1) xs) (sym e)
 
 pub fit_turn : (t : TasksValue) (fit more : List SyncOp) (ops : List SyncOp) (at : ℕ) (op : SyncOp) → at < length ops → op ≡ get_or ops at op → more ≡ fit ++ fit_part t (op ∷ [])
     → more ++ fit_part (apply t op) (drop (at + 1) ops) ≡ fit ++ fit_part t (drop at ops)
@@ -17,10 +17,10 @@ fit_turn t fit more ops at op h e f =
     ap (λ xs. xs ++ fit_part (apply t op) (drop (at + 1) ops)) f
     ∙ append_assoc fit (fit_part t (op ∷ [])) (fit_part (apply t op) (drop (at + 1) ops))
     ∙ ap (λ xs. fit ++ xs) (sym (fit_part-append t (op ∷ []) (drop (at + 1) ops)))
-    ∙ ap (λ xs. fit ++ fit_part t xs) (sym (at_place ops at op h e))
+    ∙ ap (λ xs. fit ++ fit_part t xs) (sym (at_cursor ops at op h e))
 
 pub apply_turn : (t : TasksValue) (ops : List SyncOp) (at : ℕ) (op : SyncOp) → at < length ops → op ≡ get_or ops at op → apply_all (apply t op) (drop (at + 1) ops) ≡ apply_all t (drop at ops)
-apply_turn t ops at op h e = ap (apply_all t) (sym (at_place ops at op h e))
+apply_turn t ops at op h e = ap (apply_all t) (sym (at_cursor ops at op h e))
 
 grid_of_none : (ss : List SyncOp) → (grid ss []).1 ≡ []
 grid_of_none [] = refl
@@ -54,5 +54,5 @@ grid_shorter : (ss ls : List SyncOp) → length (grid ss ls).1 ≤ length ls
 grid_shorter [] ls = omega arith
 grid_shorter (s ∷ ss) ls = let a = carry_shorter s ls in let b = grid_shorter ss (carry s ls).1 in omega (arith, a, b)
 
-pub left_shorter : (p q : Place) (id segment : List ℕ) → TakesVersion p q id segment → length q.left.items ≤ length p.left.items
+pub left_shorter : (p q : Cursor) (id segment : List ℕ) → TakesVersion p q id segment → length q.left.items ≤ length p.left.items
 left_shorter p q id segment t = let e = ap length t.left in let n = grid_shorter (fit_part p.tasks t.ops) p.left.items in omega (arith, e, n)

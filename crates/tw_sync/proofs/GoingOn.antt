@@ -7,7 +7,7 @@ use Rattle.tw_sync.specs.Heard.{Heard, is_conflict, brought_bytes, pulled_bytes,
 use Rattle.tw_sync.specs.Refused.{max_pull, EndedBy, IsWelcome, IsConflict, GoesOnFrom, GoesOnToLast, HeardRefused}
 use Rattle.tw_sync.specs.Answers.{HeardUnasked, AskRefused}
 use Rattle.tw_sync.specs.Progress.{HeardSoFar}
-use Rattle.tw_sync.specs.declared.place.Place.{Place}
+use Rattle.tw_sync.specs.declared.cursor.Cursor.{Cursor}
 use Rattle.tw_sync.specs.Causes.{of_ask}
 use Rattle.tw_sync.specs.declared.error.AskError.{AskError}
 use Rattle.tw_sync.specs.declared.error.AskError.TheVariants as asking
@@ -34,7 +34,7 @@ pub goes_to_last : (hs : List Heard) (h : Heard) → GoesOnFrom hs → GoesOnToL
 goes_to_last hs h g = (h, record { earlier = hs; split = refl }, g)
 
 -- what was heard so far
-pub goes_on_so_far : {L : Type 0} (m : LinkModel L) (client host : List ℕ) (first now : L) (p : Place) (Q : List Heard → Type 0) → (t : HeardSoFar m client host first now p Q) → p.conflicts ≤ 15 → GoesOnFrom t.hs
+pub goes_on_so_far : {L : Type 0} (m : LinkModel L) (client host : List ℕ) (first now : L) (p : Cursor) (Q : List Heard → Type 0) → (t : HeardSoFar m client host first now p Q) → p.conflicts ≤ 15 → GoesOnFrom t.hs
 goes_on_so_far m client host first now p Q t tries = record {
   welcome = t.welcome;
   within = (let b = t.bytes_are in let w = p.within in omega (arith, b, w));

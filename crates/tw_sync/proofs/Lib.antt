@@ -1,6 +1,6 @@
 pub mod Reading
 pub mod Folds
-pub mod Places
+pub mod PositionLemmas
 pub mod Fitting
 pub mod Alike
 pub mod Standing

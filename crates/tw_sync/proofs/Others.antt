@@ -8,12 +8,12 @@ use Rattle.uuid.specs.Parts.{zero_bytes}
 use Rattle.tw_protocol.specs.Chain.{Version, same_id, has_id, Differ, IsChain, Grows}
 use Rattle.tw_http.specs.Link.{LinkModel, OwnAreOfChain}
 use Rattle.tw_replica.specs.State.{State}
-use Rattle.tw_sync.specs.Sync.{told}
+use Rattle.tw_sync.specs.Sync.{server_chain}
 use Rattle.tw_sync.specs.Heard.{conflicts}
 use Rattle.tw_sync.specs.Honest.{OthersAdded}
 use Rattle.tw_sync.specs.Progress.{HeardSoFar, IsLate, HeardToStop, IsStopped}
 use Rattle.tw_sync.specs.Refused.{EndedBy, IsConflict}
-use Rattle.tw_sync.specs.declared.place.Place.{Place}
+use Rattle.tw_sync.specs.declared.cursor.Cursor.{Cursor}
 use Rattle.tw_sync.specs.declared.error.SyncError.TheVariants as errors
 use Rattle.tw_sync.proofs.Hearing.{hears_until}
 use Rattle.tw_sync.proofs.GoingOn.{goes_on_to_conflict}
@@ -56,7 +56,7 @@ not_twice h (x ∷ xs) more v d at again =
 
 -- where no own version was added, what the chain grew by is of others
 pub others_added : {L : Type 0} (m : LinkModel L) (first now : L) (least : ℕ) → IsChain (m.chain now) → (g : Grows (m.chain first) (m.chain now)) → All (λ v. Contains (m.chain first) v) (m.own first) → m.own now ≡ m.own first
-    → length (m.chain first) + least ≤ length (m.chain now) → OthersAdded (told m first) (told m now) least
+    → length (m.chain first) + least ≤ length (m.chain now) → OthersAdded (server_chain m first) (server_chain m now) least
 others_added m first now least whole g own mine long = record {
   more = g.more;
   joined = g.joined;
@@ -67,7 +67,7 @@ others_added m first now least whole g own mine long = record {
 }
 
 -- the sixteenth conflict ends the sync
-pub busy : {L : Type 0} (m : LinkModel L) (client host : List ℕ) (state : State) (first now : L) (p : Place) (last : List ℕ) → OwnAreOfChain m first → IsLate m client host state first now p last → 15 < p.conflicts → IsStopped m client host state first now (errors.Busy last)
+pub busy : {L : Type 0} (m : LinkModel L) (client host : List ℕ) (state : State) (first now : L) (p : Cursor) (last : List ℕ) → OwnAreOfChain m first → IsLate m client host state first now p last → 15 < p.conflicts → IsStopped m client host state first now (errors.Busy last)
 busy m client host state first now p last own s over = record {
   kept = s.asked.kept;
   cause = tt;

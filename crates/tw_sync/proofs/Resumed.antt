@@ -15,12 +15,12 @@ use Rattle.tw_replica.specs.State.{State}
 use Rattle.tw_replica.specs.Sound.{IsSound, start_of}
 use Rattle.tw_sync.specs.Fold.{Reads}
 use Rattle.tw_sync.specs.End.{IsPulled}
-use Rattle.tw_sync.specs.Sync.{told}
+use Rattle.tw_sync.specs.Sync.{server_chain}
 use Rattle.tw_sync.specs.Resuming.{WasAdded, left_of_later, SendsLater}
 use Rattle.tw_sync.specs.Progress.{HasNothingLeft, HasSent, HasMet}
-use Rattle.tw_sync.specs.declared.place.Place.{Place}
+use Rattle.tw_sync.specs.declared.cursor.Cursor.{Cursor}
 use Rattle.tw_sync.proofs.Reading.{reads_one, reads-append, reads_last}
-use Rattle.tw_sync.proofs.Places.{own_versions_cancel_at}
+use Rattle.tw_sync.proofs.PositionLemmas.{own_versions_cancel_at}
 use Rattle.tw_sync.proofs.Standing.{cut_before, cut_behind}
 use Rattle.tw_sync.proofs.Moved.{made_report}
 
@@ -100,15 +100,15 @@ leaves_later state before now h versions ops left mine later was sound whole p h
     let mine_at : IsPosition base (mine ++ later) ((was.pulled ++ was.sent) ++ read.second) left = subst (λ xs. IsPosition base xs ((was.pulled ++ was.sent) ++ read.second) left) was.pending (subst (λ xs. IsPosition base (plain state.pending) xs left) ops_is p.position) in
     record { versions = cut.more; behind = cut.behind; more = read.second; reads = read.reads_second; left_is = sym mine_at ∙ at }
 
-pub sends_later : {L : Type 0} (m : LinkModel L) (client : List ℕ) (state : State) (first now : L) (place : Place) (dropped sent : ℕ) (mine later : List SyncOp) (was : WasAdded state (m.chain first) mine later) → IsSound state → HasMet m client state first now place sent
-    → SendsLater state (told m first) (told m now) (made_report place dropped sent) mine later was
-sends_later m client state first now place dropped sent mine later was sound met = by met.end
+pub sends_later : {L : Type 0} (m : LinkModel L) (client : List ℕ) (state : State) (first now : L) (cursor : Cursor) (dropped sent : ℕ) (mine later : List SyncOp) (was : WasAdded state (m.chain first) mine later) → IsSound state → HasMet m client state first now cursor sent
+    → SendsLater state (server_chain m first) (server_chain m now) (made_report cursor dropped sent) mine later was
+sends_later m client state first now cursor dropped sent mine later was sound met = by met.end
   where
-    by : HasNothingLeft m state first now place sent ⊎ HasSent m state first now place sent → SendsLater state (told m first) (told m now) (made_report place dropped sent) mine later was
+    by : HasNothingLeft m state first now cursor sent ⊎ HasSent m state first now cursor sent → SendsLater state (server_chain m first) (server_chain m now) (made_report cursor dropped sent) mine later was
     by (inl e) =
-        let l : LeavesLater state (m.chain first) (m.chain now) place.at place.left.items mine later was = leaves_later state (m.chain first) (m.chain now) place.at e.stands.versions place.remote.items place.left.items mine later was sound met.on.whole e.stands.pulled e.last in
+        let l : LeavesLater state (m.chain first) (m.chain now) cursor.at cursor.left.items mine later was = leaves_later state (m.chain first) (m.chain now) cursor.at e.stands.versions cursor.remote.items cursor.left.items mine later was sound met.on.whole e.stands.pulled e.last in
         let none : left_of_later (start_of state) mine later was.pulled was.sent l.more ≡ [] = sym l.left_is ∙ e.none in
-        record { h = place.at; versions = l.versions; behind = l.behind; more = l.more; reads = l.reads; pushed = e.sent_is ∙ sym (ap length none); sent = inl (e.mine, none) }
+        record { h = cursor.at; versions = l.versions; behind = l.behind; more = l.more; reads = l.reads; pushed = e.sent_is ∙ sym (ap length none); sent = inl (e.mine, none) }
     by (inr e) =
         let l : LeavesLater state (m.chain first) (m.chain now) e.v.parent e.left mine later was = leaves_later state (m.chain first) (m.chain now) e.v.parent e.versions e.ops e.left mine later was sound met.on.whole e.pulled e.pulled_last in
         record { h = e.v.parent; versions = l.versions; behind = l.behind; more = l.more; reads = l.reads; pushed = e.sent_is ∙ ap length l.left_is; sent = inr (e.v, e.mine, refl, e.segment ∙ ap segment_text l.left_is) }

@@ -15,9 +15,9 @@ use Rattle.tw_replica.specs.Sound.{start_of}
 use Rattle.tw_sync.specs.Fold.{Reads}
 use Rattle.tw_sync.specs.Alike.{SameFor}
 use Rattle.tw_sync.specs.End.{IsPulled}
-use Rattle.tw_sync.specs.Place.{TakesVersion, IsAtStart, StandsIn, Stands}
+use Rattle.tw_sync.specs.Cursor.{TakesVersion, IsAtStart, StandsIn, Stands}
 use Rattle.tw_sync.specs.Honest.{segments_len}
-use Rattle.tw_sync.specs.declared.place.Place.{Place}
+use Rattle.tw_sync.specs.declared.cursor.Cursor.{Cursor}
 use Rattle.tw_sync.proofs.Reading.{reads-append, reads_last}
 use Rattle.tw_sync.proofs.Fitting.{none_left}
 use Rattle.tw_sync.proofs.Alike.{grid_same, apply_all_same, grid_alike}
@@ -55,38 +55,38 @@ cut_before chain v w versions b = record { split = b.split ∙ append_assoc b.fr
 pub cut_behind : (chain : List Version) (v w : List ℕ) (versions : List Version) (b : IsBetween chain v w versions) → IsCut chain w (b.front ++ versions) b.back
 cut_behind chain v w versions b = record { split = b.split; at = b.to }
 
--- ---- the place
+-- ---- the cursor
 
 pub pulled_grows : (state : State) (old new : List Version) (h : List ℕ) (versions : List Version) (ops left : List SyncOp) → IsPulled state old h versions ops left → Grows old new → IsPulled state new h versions ops left
 pulled_grows state old new h versions ops left p g = record { between = between_grows old new state.base h versions p.between g; reads = p.reads; position = p.position }
 
 -- it stands in the chain when that has grown
-pub stands_grown : (state : State) (old new : List Version) (place : Place) → StandsIn state old place → Grows old new → StandsIn state new place
-stands_grown state old new place s g = record {
+pub stands_grown : (state : State) (old new : List Version) (cursor : Cursor) → StandsIn state old cursor → Grows old new → StandsIn state new cursor
+stands_grown state old new cursor s g = record {
   versions = s.versions;
-  pulled = pulled_grows state old new place.at s.versions place.remote.items place.left.items s.pulled g;
+  pulled = pulled_grows state old new cursor.at s.versions cursor.remote.items cursor.left.items s.pulled g;
   tasks = s.tasks;
   count = s.count;
   bytes = s.bytes;
 }
 
 -- where the chain knows its base, the start stands in the chain
-pub start_stands : (state : State) (chain : List Version) (place : Place) (front back : List Version) → IsAtStart state place → IsCut chain place.at front back → StandsIn state chain place
-start_stands state chain place front back s cut = record {
+pub start_stands : (state : State) (chain : List Version) (cursor : Cursor) (front back : List Version) → IsAtStart state cursor → IsCut chain cursor.at front back → StandsIn state chain cursor
+start_stands state chain cursor front back s cut = record {
   versions = [];
   pulled = record {
-    between = subst (λ b. IsBetween chain b place.at []) s.at (between_none chain place.at front back cut);
+    between = subst (λ b. IsBetween chain b cursor.at []) s.at (between_none chain cursor.at front back cut);
     reads = s.remote;
-    position = subst (λ ops. IsPosition (start_of state) (plain state.pending) ops place.left.items) (sym s.remote) (sym s.left);
+    position = subst (λ ops. IsPosition (start_of state) (plain state.pending) ops cursor.left.items) (sym s.remote) (sym s.left);
   };
-  tasks = subst (λ ops. SameFor place.left.items place.tasks (apply_all (start_of state) ops)) (sym s.remote) s.tasks;
+  tasks = subst (λ ops. SameFor cursor.left.items cursor.tasks (apply_all (start_of state) ops)) (sym s.remote) s.tasks;
   count = s.versions;
   bytes = s.bytes;
 }
 
-pub stands_at_cut : (state : State) (chain : List Version) (place : Place) (front back : List Version) → IsCut chain place.at front back → Stands state chain place → StandsIn state chain place
-stands_at_cut state chain place front back cut (inl start) = start_stands state chain place front back start cut
-stands_at_cut state chain place front back cut (inr s) = s
+pub stands_at_cut : (state : State) (chain : List Version) (cursor : Cursor) (front back : List Version) → IsCut chain cursor.at front back → Stands state chain cursor → StandsIn state chain cursor
+stands_at_cut state chain cursor front back cut (inl start) = start_stands state chain cursor front back start cut
+stands_at_cut state chain cursor front back cut (inr s) = s
 
 pub segments_len-append : (us vs : List Version) → segments_len (us ++ vs) ≡ segments_len us + segments_len vs
 segments_len-append [] vs = omega arith
@@ -99,7 +99,7 @@ same_left (l ∷ ls) ops old new there made s =
     subst (λ w. SameFor (grid (fit_part old ops) (l ∷ ls)).1 w (apply_all there ops)) (sym (made (λ e. cc))) (grid_same (fit_part old ops) (l ∷ ls) (apply_all old ops) (apply_all there ops) (apply_all_same ops (l ∷ ls) old there s))
 
 -- it goes on to the child of the version where it stood
-pub stands_on : (state : State) (chain : List Version) (v : Version) (old new : Place) → IsChain chain → IsBetween chain old.at v.id (v ∷ []) → StandsIn state chain old → TakesVersion old new v.id v.segment → StandsIn state chain new
+pub stands_on : (state : State) (chain : List Version) (v : Version) (old new : Cursor) → IsChain chain → IsBetween chain old.at v.id (v ∷ []) → StandsIn state chain old → TakesVersion old new v.id v.segment → StandsIn state chain new
 stands_on state chain v old new whole next s t =
     let base : TasksValue = start_of state in
     let mine : List SyncOp = plain state.pending in

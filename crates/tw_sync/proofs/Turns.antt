@@ -1,4 +1,4 @@
--- A sync asks for what stands behind its place.
+-- A sync asks for what stands behind its cursor.
 use Rattle.std.proofs.Common.{◌≡◌, ◌⊎◌, ℕ, ◌+◌, ◌*◌, ◌≤◌, inl, inr, length, IsTrue, List, [], ◌∷◌, ◌++◌, Ok, refl, sym, ap, subst, ◌∙◌, arith}
 use Rattle.tw_world.specs.Disk.{Rose}
 use Rattle.tw_protocol.specs.Chain.{Version, IsChain, IsBetween}
@@ -7,17 +7,17 @@ use Rattle.tw_protocol.proofs.Between.{between_joins}
 use Rattle.tw_http.specs.Link.{LinkModel, IsHonest}
 use Rattle.tw_http.specs.declared.message.Response.TheVariants as replies
 use Rattle.tw_replica.specs.State.{State}
-use Rattle.tw_sync.specs.End.{Told}
+use Rattle.tw_sync.specs.End.{ServerChain}
 use Rattle.tw_sync.specs.Heard.{Heard, Hears, HearsUntil, is_child, is_conflict, brought_bytes, brought, pulled_bytes, conflicts, most_exchanges}
 use Rattle.tw_sync.specs.Answers.{IsLinkKept, GrowsOn, IsChildAnswer, child_heard, HeardUnasked, AskRefused, NoReply}
 use Rattle.tw_sync.specs.Refused.{max_pull, IsWelcome, IsBadSegment, GoesOnFrom, HeardRefused}
-use Rattle.tw_sync.specs.Sync.{told}
+use Rattle.tw_sync.specs.Sync.{server_chain}
 use Rattle.tw_sync.specs.Honest.{HonestRefused, IsLongPull, IsUnreadIn}
-use Rattle.tw_sync.specs.Place.{TakesVersion, IsNotTaken, IsUnreadable, StandsIn}
+use Rattle.tw_sync.specs.Cursor.{TakesVersion, IsNotTaken, IsUnreadable, StandsIn}
 use Rattle.tw_sync.specs.Progress.{HeardSoFar, HasAsked, IsUpToDate, IsPulling, HasPulled, IsCause, HeardToStop, StopsTruly, IsStopped}
 use Rattle.tw_sync.specs.declared.ask.ChildAnswer.{ChildAnswer}
 use Rattle.tw_sync.specs.declared.ask.ChildAnswer.TheVariants.{Found, UpToDate, Gone}
-use Rattle.tw_sync.specs.declared.place.Place.{Place}
+use Rattle.tw_sync.specs.declared.cursor.Cursor.{Cursor}
 use Rattle.tw_sync.specs.Causes.{of_ask, of_take}
 use Rattle.tw_sync.specs.declared.error.AskError.{AskError}
 use Rattle.tw_sync.specs.declared.error.AskError.TheVariants as asking
@@ -55,13 +55,13 @@ pub record IsUnasked {L : Type 0} (m : LinkModel L) (client host : List ℕ) (a 
   pub refused : AskRefused m a b e
   pub heard : IsTrue (m.tells_list a) → (hs : List Heard) × HearsUntil m client host a b hs (of_ask e) × HeardUnasked hs e
 
--- the counts of one reply go to those of the place
-pub record IsCounted (p q : Place) (h : Heard) : Type 0 where
+-- the counts of one reply go to those of the cursor
+pub record IsCounted (p q : Cursor) (h : Heard) : Type 0 where
   pub versions : q.versions ≡ p.versions + is_child h.reply
   pub bytes : q.bytes ≡ p.bytes + length (brought_bytes h.reply)
   pub conflicts : q.conflicts ≡ p.conflicts + is_conflict h.reply
 
-pub heard_on : {L : Type 0} (m : LinkModel L) (client host : List ℕ) (first a b : L) (p q : Place) (Q R : List Heard → Type 0) (h : Heard) → HeardSoFar m client host first a p Q → Hears m client host a b (h ∷ []) → IsWelcome h → IsCounted p q h → ((hs : List Heard) → Q hs → R (hs ++ h ∷ []))
+pub heard_on : {L : Type 0} (m : LinkModel L) (client host : List ℕ) (first a b : L) (p q : Cursor) (Q R : List Heard → Type 0) (h : Heard) → HeardSoFar m client host first a p Q → Hears m client host a b (h ∷ []) → IsWelcome h → IsCounted p q h → ((hs : List Heard) → Q hs → R (hs ++ h ∷ []))
     → HeardSoFar m client host first b q R
 heard_on m client host first a b p q Q R h s more welcome counted then = record {
   hs = s.hs ++ h ∷ [];
@@ -73,7 +73,7 @@ heard_on m client host first a b p q Q R h s more welcome counted then = record 
   so = then s.hs s.so;
 }
 
-pub asked_on : {L : Type 0} (m : LinkModel L) (client host : List ℕ) (first a b : L) (p q : Place) (besides more : ℕ) (Q R : List Heard → Type 0) (h : Heard) → HasAsked m client host first a p besides Q → IsAsked m client host a b h → IsCounted p q h
+pub asked_on : {L : Type 0} (m : LinkModel L) (client host : List ℕ) (first a b : L) (p q : Cursor) (besides more : ℕ) (Q R : List Heard → Type 0) (h : Heard) → HasAsked m client host first a p besides Q → IsAsked m client host a b h → IsCounted p q h
     → p.versions + 2 * p.conflicts + besides + 1 ≤ q.versions + 2 * q.conflicts + more → ((hs : List Heard) → Q hs → R (hs ++ h ∷ [])) → HasAsked m client host first b q more R
 asked_on m client host first a b p q besides more Q R h s asked counted room then = record {
   kept = kept_on m first a b s.kept asked.kept;
@@ -81,10 +81,10 @@ asked_on m client host first a b p q besides more Q R h s asked counted room the
   heard = λ tells. heard_on m client host first a b p q Q R h (s.heard tells) (asked.heard (s.kept.tells_list ∙ tells)) asked.welcome counted then;
 }
 
--- ---- the version behind the place
+-- ---- the version behind the cursor
 
 -- it is taken
-pub pulling_on : {L : Type 0} (m : LinkModel L) (client host : List ℕ) (state : State) (first a b : L) (p q : Place) (id segment : List ℕ) → IsPulling m client host state first a p → IsAsked m client host a b (child_heard client p.at (Found id segment))
+pub pulling_on : {L : Type 0} (m : LinkModel L) (client host : List ℕ) (state : State) (first a b : L) (p q : Cursor) (id segment : List ℕ) → IsPulling m client host state first a p → IsAsked m client host a b (child_heard client p.at (Found id segment))
     → (IsHonest m a client → IsTold m client a b p.at (Found id segment)) → TakesVersion p q id segment → IsPulling m client host state first b q
 pulling_on m client host state first a b p q id segment s asked tells t = record {
   fewer = (let n = s.fewer in let o : length q.left.items ≤ length p.left.items = left_shorter p q id segment t in omega (arith, n, o));
@@ -95,7 +95,7 @@ pulling_on m client host state first a b p q id segment s asked tells t = record
 }
 
 -- there is none
-pub pulled_up : {L : Type 0} (m : LinkModel L) (client host : List ℕ) (state : State) (first a b : L) (p : Place) → IsPulling m client host state first a p → IsAsked m client host a b (child_heard client p.at UpToDate)
+pub pulled_up : {L : Type 0} (m : LinkModel L) (client host : List ℕ) (state : State) (first a b : L) (p : Cursor) → IsPulling m client host state first a p → IsAsked m client host a b (child_heard client p.at UpToDate)
     → (IsHonest m a client → IsTold m client a b p.at UpToDate) → HasPulled m client host state first b p
 pulled_up m client host state first a b p s asked tells = record {
   fewer = s.fewer;
@@ -116,7 +116,7 @@ late_by_one conflicts versions (inl le) = omega (arith, le)
 late_by_one conflicts versions (inr (le, p)) = le
 
 -- a refusal that adds nothing
-pub stops_here : {L : Type 0} (m : LinkModel L) (client : List ℕ) (state : State) (first a b : L) (e : SyncError) → GrowsOn m first a client → m.own a ≡ m.own first → GrowsOn m a b client → m.own b ≡ m.own a → HonestRefused state (told m first) (told m b) e → StopsTruly m state first b e
+pub stops_here : {L : Type 0} (m : LinkModel L) (client : List ℕ) (state : State) (first a b : L) (e : SyncError) → GrowsOn m first a client → m.own a ≡ m.own first → GrowsOn m a b client → m.own b ≡ m.own a → HonestRefused state (server_chain m first) (server_chain m b) e → StopsTruly m state first b e
 stops_here m client state first a b e before mine on same refused = record {
   whole = on.whole;
   grows = grows_on (m.chain first) (m.chain a) (m.chain b) before.grows on.grows;
@@ -133,18 +133,18 @@ cause_on m first a b asking.Link kept r = rose_later (m.faults first) (m.faults 
 cause_on m first a b asking.Memory kept r = tt
 cause_on m first a b (asking.Reply kind) kept r = tt
 
-pub no_reply_says : (state : State) (before after : Told) (e : AskError) → NoReply e → HonestRefused state before after (of_ask e)
+pub no_reply_says : (state : State) (before after : ServerChain) (e : AskError) → NoReply e → HonestRefused state before after (of_ask e)
 no_reply_says state before after e (inl is) = subst (λ x. HonestRefused state before after (of_ask x)) (sym is) tt
 no_reply_says state before after e (inr is) = subst (λ x. HonestRefused state before after (of_ask x)) (sym is) tt
 
 -- the question was refused
-pub pulling_unasked : {L : Type 0} (m : LinkModel L) (client host : List ℕ) (state : State) (first a b : L) (p : Place) (e : AskError) → IsPulling m client host state first a p → IsUnasked m client host a b e
+pub pulling_unasked : {L : Type 0} (m : LinkModel L) (client host : List ℕ) (state : State) (first a b : L) (p : Cursor) (e : AskError) → IsPulling m client host state first a p → IsUnasked m client host a b e
     → (IsHonest m a client → GrowsOn m a b client) → (IsHonest m a client → m.own b ≡ m.own a) → (IsHonest m a client → NoReply e) → IsStopped m client host state first b (of_ask e)
 pulling_unasked m client host state first a b p e s un on mine reply = record {
   kept = kept_on m first a b s.asked.kept un.kept;
   cause = cause_on m first a b e s.asked.kept un.refused;
   heard = λ tells. to_stop (s.asked.heard tells) (un.heard (s.asked.kept.tells_list ∙ tells));
-  come = λ honest. (let h = s.come honest in let now = h.on.honest in stops_here m client state first a b (of_ask e) h.on h.mine (on now) (mine now) (no_reply_says state (told m first) (told m b) e (reply now)));
+  come = λ honest. (let h = s.come honest in let now = h.on.honest in stops_here m client state first a b (of_ask e) h.on h.mine (on now) (mine now) (no_reply_says state (server_chain m first) (server_chain m b) e (reply now)));
 }
   where
     to_stop : HeardSoFar m client host first a p (λ hs. Unit {0}) → (hs : List Heard) × HearsUntil m client host a b hs (of_ask e) × HeardUnasked hs e → HeardToStop m client host first b (of_ask e)
@@ -161,7 +161,7 @@ pulling_unasked m client host state first a b p e s un on mine reply = record {
     }
 
 -- one reply was read, and is refused
-pub stopped_at : {L : Type 0} (m : LinkModel L) (client host : List ℕ) (state : State) (first a b : L) (p : Place) (h : Heard) (e : SyncError) → IsPulling m client host state first a p → IsAsked m client host a b h → IsCause m first b e
+pub stopped_at : {L : Type 0} (m : LinkModel L) (client host : List ℕ) (state : State) (first a b : L) (p : Cursor) (h : Heard) (e : SyncError) → IsPulling m client host state first a p → IsAsked m client host a b h → IsCause m first b e
     → ((hs : List Heard) → pulled_bytes hs ≡ p.bytes → GoesOnFrom hs → HeardRefused client (hs ++ h ∷ []) e) → (IsHonest m first client → StopsTruly m state first b e) → IsStopped m client host state first b e
 stopped_at m client host state first a b p h e s asked cause refused come = record {
   kept = kept_on m first a b s.asked.kept asked.kept;
@@ -183,15 +183,15 @@ stopped_at m client host state first a b p h e s asked cause refused come = reco
           few_while_pulling (m.exchanges first) (m.exchanges b) p.versions p.conflicts (brought (t.hs ++ h ∷ [])) (omega (arith, n, o)) (omega (arith, f, g)) (late_by_one p.conflicts p.versions (s.come honest).late) s.tries);
     }
 
--- the server does not know the place
-pub pulling_gone : {L : Type 0} (m : LinkModel L) (client host : List ℕ) (state : State) (first a b : L) (p : Place) → IsPulling m client host state first a p → IsAsked m client host a b (child_heard client p.at Gone)
+-- the server does not know the cursor
+pub pulling_gone : {L : Type 0} (m : LinkModel L) (client host : List ℕ) (state : State) (first a b : L) (p : Cursor) → IsPulling m client host state first a p → IsAsked m client host a b (child_heard client p.at Gone)
     → (IsHonest m a client → IsTold m client a b p.at Gone) → IsStopped m client host state first b (errors.Gone p.at)
 pulling_gone m client host state first a b p s asked tells =
     stopped_at m client host state first a b p (child_heard client p.at Gone) (errors.Gone p.at) s asked tt
     (λ hs n g. record { cause = ended_by hs (child_heard client p.at Gone) _ (refl, refl); until = goes_on_past hs (child_heard client p.at Gone) g asked.welcome refl refl })
     (λ honest. (let h = s.come honest in let r = tells h.on.honest in stops_here m client state first a b (errors.Gone p.at) h.on h.mine r.on r.mine (never_gone m client state first a b p h r.says)))
 
-long_pull : (state : State) (chain : List Version) (p : Place) (id segment : List ℕ) (bytes : ℕ) → IsChain chain → StandsIn state chain p → IsBetween chain p.at id (version id p.at segment ∷ []) → bytes ≡ p.bytes + length segment → IsLongPull state chain bytes
+long_pull : (state : State) (chain : List Version) (p : Cursor) (id segment : List ℕ) (bytes : ℕ) → IsChain chain → StandsIn state chain p → IsBetween chain p.at id (version id p.at segment ∷ []) → bytes ≡ p.bytes + length segment → IsLongPull state chain bytes
 long_pull state chain p id segment bytes whole there next e =
     let v : Version = version id p.at segment in
     record {
@@ -201,7 +201,7 @@ long_pull state chain p id segment bytes whole there next e =
       len = (let f = segments_len-append there.versions (v ∷ []) in let o = there.bytes in omega (arith, e, f, o));
     }
 
-unread_in : (state : State) (chain : List Version) (p : Place) (id segment version_is : List ℕ) → IsChain chain → StandsIn state chain p → IsBetween chain p.at id (version id p.at segment ∷ []) → version_is ≡ id → IsUnreadable segment → IsUnreadIn state chain version_is
+unread_in : (state : State) (chain : List Version) (p : Cursor) (id segment version_is : List ℕ) → IsChain chain → StandsIn state chain p → IsBetween chain p.at id (version id p.at segment ∷ []) → version_is ≡ id → IsUnreadable segment → IsUnreadIn state chain version_is
 unread_in state chain p id segment version_is whole there next same un =
     let v : Version = version id p.at segment in
     record {
@@ -215,15 +215,15 @@ unread_in state chain p id segment version_is whole there next same un =
       other = un.other;
     }
 
--- the version behind the place is not taken
-pub pulling_untaken : {L : Type 0} (m : LinkModel L) (client host : List ℕ) (state : State) (first a b : L) (p : Place) (id segment : List ℕ) (e : TakeError) → IsPulling m client host state first a p → IsAsked m client host a b (child_heard client p.at (Found id segment))
+-- the version behind the cursor is not taken
+pub pulling_untaken : {L : Type 0} (m : LinkModel L) (client host : List ℕ) (state : State) (first a b : L) (p : Cursor) (id segment : List ℕ) (e : TakeError) → IsPulling m client host state first a p → IsAsked m client host a b (child_heard client p.at (Found id segment))
     → (IsHonest m a client → IsTold m client a b p.at (Found id segment)) → IsNotTaken p id segment e → IsStopped m client host state first b (of_take e)
 pulling_untaken m client host state first a b p id segment e s asked tells not = by e not
   where
     h : Heard
     h = child_heard client p.at (Found id segment)
 
-    at_honest : (x : SyncError) → (IsChain (m.chain b) → StandsIn state (m.chain b) p → IsBetween (m.chain b) p.at id (version id p.at segment ∷ []) → HonestRefused state (told m first) (told m b) x) → IsHonest m first client → StopsTruly m state first b x
+    at_honest : (x : SyncError) → (IsChain (m.chain b) → StandsIn state (m.chain b) p → IsBetween (m.chain b) p.at id (version id p.at segment ∷ []) → HonestRefused state (server_chain m first) (server_chain m b) x) → IsHonest m first client → StopsTruly m state first b x
     at_honest x says honest =
         let c = s.come honest in
         let r = tells c.on.honest in

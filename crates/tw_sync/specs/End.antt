@@ -12,8 +12,8 @@ use Rattle.tw_replica.specs.Sound.{start_of}
 use Rattle.tw_sync.specs.Fold.{Reads}
 use Rattle.tw_sync.specs.declared.report.SyncReport.{SyncReport}
 
--- what is told of a server's chain: its versions, and those of them that this replica's exchanges added
-pub record Told : Type 0 where
+-- what a link shows of a server's chain: its versions, and those of them that this replica's exchanges added
+pub record ServerChain : Type 0 where
   pub chain : List Version
   pub own : List Version
 
@@ -31,7 +31,7 @@ abbrev pub report_of : (pulled dropped pushed : ℕ) → List ℕ → SyncReport
 report_of pulled dropped pushed base = record { pulled = pulled; dropped = dropped; pushed = pushed; base = base }
 
 -- nothing is pending, and there is nothing to pull
-pub record IsIdle (old new : State) (before after : Told) (report : SyncReport) : Type 0 where
+pub record IsIdle (old new : State) (before after : ServerChain) (report : SyncReport) : Type 0 where
   pub nothing : plain old.pending ≡ []
   pub same : new ≡ old
   pub last : HoldsAll before.chain after.chain old.base
@@ -39,7 +39,7 @@ pub record IsIdle (old new : State) (before after : Told) (report : SyncReport) 
   pub report_is : report ≡ report_of 0 0 0 old.base
 
 -- what was pulled leaves nothing to send
-pub record IsLeft (old new : State) (before after : Told) (report : SyncReport) : Type 0 where
+pub record IsLeft (old new : State) (before after : ServerChain) (report : SyncReport) : Type 0 where
   pub moved : new.base ≡ old.base → ⊥
   pub versions : List Version
   pub ops : List SyncOp
@@ -50,7 +50,7 @@ pub record IsLeft (old new : State) (before after : Told) (report : SyncReport) 
   pub report_is : report ≡ report_of (length versions) (length (plain old.pending)) 0 new.base
 
 -- what was left is sent, and stands behind what was pulled. All that the chain held before is pulled
-pub record IsPushed (old new : State) (before after : Told) (report : SyncReport) : Type 0 where
+pub record IsPushed (old new : State) (before after : ServerChain) (report : SyncReport) : Type 0 where
   pub versions : List Version
   pub ops : List SyncOp
   pub left : List SyncOp
@@ -70,11 +70,11 @@ pub record IsPushed (old new : State) (before after : Told) (report : SyncReport
   pub report_is : report ≡ report_of (length versions) dropped (length left) v.id
 
 -- the end of a sync that is not refused
-abbrev pub SyncEnd : (old new : State) (before after : Told) (report : SyncReport) → Type 0
+abbrev pub SyncEnd : (old new : State) (before after : ServerChain) (report : SyncReport) → Type 0
 SyncEnd old new before after report = Grows before.chain after.chain × (IsIdle old new before after report ⊎ IsLeft old new before after report ⊎ IsPushed old new before after report)
 
 -- one version was added behind all that the chain held before: what was left of what is pending at its parent
-pub record AddedOne (old : State) (before after : Told) : Type 0 where
+pub record AddedOne (old : State) (before after : ServerChain) : Type 0 where
   pub v : Version
   pub versions : List Version
   pub ops : List SyncOp
@@ -89,5 +89,5 @@ pub record AddedOne (old : State) (before after : Told) : Type 0 where
   pub mine : after.own ≡ before.own ++ v ∷ []
 
 -- a refused sync has added no version, or one
-abbrev pub MayHaveAdded : (old : State) (before after : Told) → Type 0
+abbrev pub MayHaveAdded : (old : State) (before after : ServerChain) → Type 0
 MayHaveAdded old before after = (after.own ≡ before.own) ⊎ AddedOne old before after

@@ -14,15 +14,15 @@ use Rattle.tw_replica.specs.Core.{state_of}
 use Rattle.tw_replica.specs.State.{State}
 use Rattle.tw_replica.specs.declared.replica.Replica.{Replica}
 use Rattle.tw_sync.specs.Fold.{Reads, Agrees}
-use Rattle.tw_sync.specs.End.{Told, IsPulled}
+use Rattle.tw_sync.specs.End.{ServerChain, IsPulled}
 use Rattle.tw_sync.specs.Refused.{max_pull}
-use Rattle.tw_sync.specs.Sync.{told, record_size}
+use Rattle.tw_sync.specs.Sync.{server_chain, record_size}
 use Rattle.tw_sync.specs.declared.error.ReplyKind.TheVariants.{Status}
 use Rattle.tw_sync.specs.declared.error.SyncError.{SyncError}
 use Rattle.tw_sync.specs.declared.error.SyncError.TheVariants as errors
 
 -- others added at least so many versions
-pub record OthersAdded (before after : Told) (least : ℕ) : Type 0 where
+pub record OthersAdded (before after : ServerChain) (least : ℕ) : Type 0 where
   pub more : List Version
   pub joined : after.chain ≡ before.chain ++ more
   pub many : least ≤ length more
@@ -70,7 +70,7 @@ pub record IsLongRecord (old : State) (chain : List Version) (bytes : ℕ) : Typ
   pub len : bytes ≡ record_size h ops
 
 -- what a refusal says of the chain, over an honest link
-abbrev pub HonestRefused : (old : State) (before after : Told) → SyncError → Type 0
+abbrev pub HonestRefused : (old : State) (before after : ServerChain) → SyncError → Type 0
 HonestRefused old before after (errors.Reply kind) = kind ≡ Status 500
 HonestRefused old before after (errors.Gone base) = ¬ (Agrees old before.chain)
 HonestRefused old before after (errors.Busy parent) = OthersAdded before after 16
@@ -100,7 +100,7 @@ pub record CanSync {D L : Type 0} (m : DiskModel D) (links : LinkModel L) (old :
   pub link_works : ¬ (Rose (links.faults first) (links.faults last))
   pub honest : IsHonest links first client
   pub agrees : Agrees (state_of old.core) (links.chain first)
-  pub few : ¬ (OthersAdded (told links first) (told links last) 16)
+  pub few : ¬ (OthersAdded (server_chain links first) (server_chain links last) 16)
   pub within : (h : List ℕ) (versions : List Version) → IsBetween (links.chain last) old.core.base h versions → AreWithin (state_of old.core) (links.chain last) h versions
 
 -- where a sync can be done, it is refused only for want of memory, or since the server drew an id that is taken

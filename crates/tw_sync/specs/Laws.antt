@@ -9,7 +9,7 @@ use Rattle.tw_replica.specs.State.{State, start}
 use Rattle.tw_replica.specs.Sound.{start_of}
 use Rattle.tw_sync.specs.Fold.{IsFold, Agrees}
 use Rattle.tw_sync.specs.Positions.{IsPositionIn}
-use Rattle.tw_sync.specs.End.{Told, SyncEnd, AddedOne}
+use Rattle.tw_sync.specs.End.{ServerChain, SyncEnd, AddedOne}
 use Rattle.tw_sync.specs.declared.report.SyncReport.{SyncReport}
 
 -- nothing is pending of no tasks, and nothing is up to nil
@@ -35,9 +35,9 @@ AgreeingReplicasAreEqual = (one other : State) (chain : List Version) → IsChai
 
 -- the version that a refused sync added is pulled, and later operations were appended: only what is left of these is left
 abbrev pub AddedVersionCancels : Type 0
-AddedVersionCancels = (old : State) (before after : Told) (later : List SyncOp) → Agrees old after.chain → (added : AddedOne old before after)
+AddedVersionCancels = (old : State) (before after : ServerChain) (later : List SyncOp) → Agrees old after.chain → (added : AddedOne old before after)
     → IsPositionIn after.chain old.base (plain old.pending ++ later) added.v.id (grid (grid (fit_part (start_of old) added.ops) (plain old.pending)).0 later).1
 
 -- a sync of a replica that agrees with the chain ends in one that agrees with it
 abbrev pub SyncEndAgrees : Type 0
-SyncEndAgrees = (old new : State) (before after : Told) (report : SyncReport) → IsChain after.chain → Agrees old before.chain → SyncEnd old new before after report → Agrees new after.chain
+SyncEndAgrees = (old new : State) (before after : ServerChain) (report : SyncReport) → IsChain after.chain → Agrees old before.chain → SyncEnd old new before after report → Agrees new after.chain

@@ -10,7 +10,7 @@ pub mod Refused
 pub mod Sync
 pub mod Honest
 pub mod Alike
-pub mod Place
+pub mod Cursor
 pub mod Progress
 pub mod Resuming
 pub mod Sending

@@ -14,30 +14,30 @@ use Rattle.tw_sync.specs.End.{IsPulled, MayHaveAdded}
 use Rattle.tw_sync.specs.Heard.{Heard, Hears, HearsUntil, brought, pulled_bytes, conflicts, most_exchanges}
 use Rattle.tw_sync.specs.Answers.{IsLinkKept, GrowsOn, AnsweredAt}
 use Rattle.tw_sync.specs.Refused.{EndedBy, IsWelcome, IsConflict, GoesOnFrom, HeardRefused, MayAdd, max_pull}
-use Rattle.tw_sync.specs.Sync.{told, IsLastReply}
+use Rattle.tw_sync.specs.Sync.{server_chain, IsLastReply}
 use Rattle.tw_sync.specs.Honest.{HonestRefused}
-use Rattle.tw_sync.specs.Place.{Stands, StandsIn, GoesFurther}
-use Rattle.tw_sync.specs.declared.place.Place.{Place}
+use Rattle.tw_sync.specs.Cursor.{Stands, StandsIn, GoesFurther}
+use Rattle.tw_sync.specs.declared.cursor.Cursor.{Cursor}
 use Rattle.tw_sync.specs.declared.error.SyncError.{SyncError}
 use Rattle.tw_sync.specs.declared.error.SyncError.TheVariants as errors
 
 -- ---- what was asked
 
--- what was heard since a sync began counts what the place counts, and is so
-pub record HeardSoFar {L : Type 0} (m : LinkModel L) (client host : List ℕ) (first now : L) (place : Place) (Q : List Heard → Type 0) : Type 0 where
+-- what was heard since a sync began counts what the cursor counts, and is so
+pub record HeardSoFar {L : Type 0} (m : LinkModel L) (client host : List ℕ) (first now : L) (cursor : Cursor) (Q : List Heard → Type 0) : Type 0 where
   pub hs : List Heard
   pub hears : Hears m client host first now hs
-  pub brought_is : brought hs ≡ place.versions
-  pub bytes_are : pulled_bytes hs ≡ place.bytes
-  pub conflicts_are : conflicts hs ≡ place.conflicts
+  pub brought_is : brought hs ≡ cursor.versions
+  pub bytes_are : pulled_bytes hs ≡ cursor.bytes
+  pub conflicts_are : conflicts hs ≡ cursor.conflicts
   pub welcome : AllByRecursion IsWelcome hs
   pub so : Q hs
 
 -- there were exchanges for the versions, two for each conflict, and so many besides
-pub record HasAsked {L : Type 0} (m : LinkModel L) (client host : List ℕ) (first now : L) (place : Place) (besides : ℕ) (Q : List Heard → Type 0) : Type 0 where
+pub record HasAsked {L : Type 0} (m : LinkModel L) (client host : List ℕ) (first now : L) (cursor : Cursor) (besides : ℕ) (Q : List Heard → Type 0) : Type 0 where
   pub kept : IsLinkKept m first now
-  pub count : m.exchanges now ≤ m.exchanges first + (place.versions + 2 * place.conflicts + besides)
-  pub heard : IsTrue (m.tells_list first) → HeardSoFar m client host first now place Q
+  pub count : m.exchanges now ≤ m.exchanges first + (cursor.versions + 2 * cursor.conflicts + besides)
+  pub heard : IsTrue (m.tells_list first) → HeardSoFar m client host first now cursor Q
 
 -- there is no version behind the one asked for
 abbrev pub IsUpToDate : (client base : List ℕ) → Heard → Type 0
@@ -46,57 +46,57 @@ IsUpToDate client base heard = (heard.asked ≡ asks.Child client base) × (hear
 -- ---- how far it has come over an honest link
 
 -- it has added nothing, for each conflict others have added a version, and after each but the last one was pulled
-pub record HasCome {L : Type 0} (m : LinkModel L) (client : List ℕ) (state : State) (first now : L) (place : Place) : Type 0 where
+pub record HasCome {L : Type 0} (m : LinkModel L) (client : List ℕ) (state : State) (first now : L) (cursor : Cursor) : Type 0 where
   pub on : GrowsOn m first now client
   pub mine : m.own now ≡ m.own first
-  pub stands : Stands state (m.chain now) place
-  pub others : length (m.chain first) + place.conflicts ≤ length (m.chain now)
-  pub late : (place.conflicts ≤ place.versions) ⊎ ((place.conflicts ≤ place.versions + 1) × GoesFurther (m.chain now) place.at)
+  pub stands : Stands state (m.chain now) cursor
+  pub others : length (m.chain first) + cursor.conflicts ≤ length (m.chain now)
+  pub late : (cursor.conflicts ≤ cursor.versions) ⊎ ((cursor.conflicts ≤ cursor.versions + 1) × GoesFurther (m.chain now) cursor.at)
 
 -- it has added nothing, and stands where the chain ended when it asked
-pub record IsAtEnd {L : Type 0} (m : LinkModel L) (client : List ℕ) (state : State) (first now : L) (place : Place) : Type 0 where
+pub record IsAtEnd {L : Type 0} (m : LinkModel L) (client : List ℕ) (state : State) (first now : L) (cursor : Cursor) : Type 0 where
   pub on : GrowsOn m first now client
   pub mine : m.own now ≡ m.own first
-  pub stands : StandsIn state (m.chain now) place
+  pub stands : StandsIn state (m.chain now) cursor
   pub front : List Version
   pub given : AnsweredAt m first now front
-  pub last : latest front ≡ place.at
-  pub others : length (m.chain first) + place.conflicts ≤ length front
-  pub late : place.conflicts ≤ place.versions
+  pub last : latest front ≡ cursor.at
+  pub others : length (m.chain first) + cursor.conflicts ≤ length front
+  pub late : cursor.conflicts ≤ cursor.versions
 
 -- ---- its steps
 
--- a sync that began at this state and this link asks for what stands behind its place
-pub record IsPulling {L : Type 0} (m : LinkModel L) (client host : List ℕ) (state : State) (first now : L) (place : Place) : Type 0 where
-  pub fewer : length place.left.items ≤ length (plain state.pending)
-  pub tries : place.conflicts ≤ 15
-  pub asked : HasAsked m client host first now place 0 (λ hs. Unit {0})
-  pub come : IsHonest m first client → HasCome m client state first now place
+-- a sync that began at this state and this link asks for what stands behind its cursor
+pub record IsPulling {L : Type 0} (m : LinkModel L) (client host : List ℕ) (state : State) (first now : L) (cursor : Cursor) : Type 0 where
+  pub fewer : length cursor.left.items ≤ length (plain state.pending)
+  pub tries : cursor.conflicts ≤ 15
+  pub asked : HasAsked m client host first now cursor 0 (λ hs. Unit {0})
+  pub come : IsHonest m first client → HasCome m client state first now cursor
 
 -- it was told that nothing does
-pub record HasPulled {L : Type 0} (m : LinkModel L) (client host : List ℕ) (state : State) (first now : L) (place : Place) : Type 0 where
-  pub fewer : length place.left.items ≤ length (plain state.pending)
-  pub tries : place.conflicts ≤ 15
-  pub asked : HasAsked m client host first now place 1 (λ hs. EndedBy hs (IsUpToDate client place.at))
-  pub come : IsHonest m first client → IsAtEnd m client state first now place
+pub record HasPulled {L : Type 0} (m : LinkModel L) (client host : List ℕ) (state : State) (first now : L) (cursor : Cursor) : Type 0 where
+  pub fewer : length cursor.left.items ≤ length (plain state.pending)
+  pub tries : cursor.conflicts ≤ 15
+  pub asked : HasAsked m client host first now cursor 1 (λ hs. EndedBy hs (IsUpToDate client cursor.at))
+  pub come : IsHonest m first client → IsAtEnd m client state first now cursor
 
 -- whether it goes on pulling
-abbrev pub PullsOn : {L : Type 0} → Bool → LinkModel L → (client host : List ℕ) → State → (first now : L) → Place → Type 0
-PullsOn true m client host state first now place = IsPulling m client host state first now place
-PullsOn false m client host state first now place = HasPulled m client host state first now place
+abbrev pub PullsOn : {L : Type 0} → Bool → LinkModel L → (client host : List ℕ) → State → (first now : L) → Cursor → Type 0
+PullsOn true m client host state first now cursor = IsPulling m client host state first now cursor
+PullsOn false m client host state first now cursor = HasPulled m client host state first now cursor
 
 -- what was left came too late
-pub record IsLate {L : Type 0} (m : LinkModel L) (client host : List ℕ) (state : State) (first now : L) (place : Place) (last : List ℕ) : Type 0 where
-  pub fewer : length place.left.items ≤ length (plain state.pending)
-  pub tries : place.conflicts ≤ 16
-  pub asked : HasAsked m client host first now place 0 (λ hs. EndedBy hs (IsConflict last))
-  pub come : IsHonest m first client → HasCome m client state first now place
-  pub behind : IsHonest m first client → GoesFurther (m.chain now) place.at
+pub record IsLate {L : Type 0} (m : LinkModel L) (client host : List ℕ) (state : State) (first now : L) (cursor : Cursor) (last : List ℕ) : Type 0 where
+  pub fewer : length cursor.left.items ≤ length (plain state.pending)
+  pub tries : cursor.conflicts ≤ 16
+  pub asked : HasAsked m client host first now cursor 0 (λ hs. EndedBy hs (IsConflict last))
+  pub come : IsHonest m first client → HasCome m client state first now cursor
+  pub behind : IsHonest m first client → GoesFurther (m.chain now) cursor.at
 
 -- ---- its end
 
 -- what was left was added behind what was pulled
-pub record HasSent {L : Type 0} (m : LinkModel L) (state : State) (first now : L) (place : Place) (sent : ℕ) : Type 0 where
+pub record HasSent {L : Type 0} (m : LinkModel L) (state : State) (first now : L) (cursor : Cursor) (sent : ℕ) : Type 0 where
   pub versions : List Version
   pub ops : List SyncOp
   pub left : List SyncOp
@@ -110,39 +110,39 @@ pub record HasSent {L : Type 0} (m : LinkModel L) (state : State) (first now : L
   pub behind : IsBetween (m.chain now) state.base v.id (versions ++ v ∷ [])
   pub last : HoldsAll (m.chain first) (m.chain now) v.id
   pub mine : m.own now ≡ m.own first ++ v ∷ []
-  pub at : place.at ≡ v.id
-  pub remote : place.remote.items ≡ ops ++ left
-  pub count : place.versions ≡ length versions
+  pub at : cursor.at ≡ v.id
+  pub remote : cursor.remote.items ≡ ops ++ left
+  pub count : cursor.versions ≡ length versions
   pub sent_is : sent ≡ length left
 
 -- nothing was left
-pub record HasNothingLeft {L : Type 0} (m : LinkModel L) (state : State) (first now : L) (place : Place) (sent : ℕ) : Type 0 where
-  pub none : place.left.items ≡ []
-  pub stands : StandsIn state (m.chain now) place
-  pub last : HoldsAll (m.chain first) (m.chain now) place.at
+pub record HasNothingLeft {L : Type 0} (m : LinkModel L) (state : State) (first now : L) (cursor : Cursor) (sent : ℕ) : Type 0 where
+  pub none : cursor.left.items ≡ []
+  pub stands : StandsIn state (m.chain now) cursor
+  pub last : HoldsAll (m.chain first) (m.chain now) cursor.at
   pub mine : m.own now ≡ m.own first
   pub sent_is : sent ≡ 0
 
 -- where it ended over an honest link
-pub record HasMet {L : Type 0} (m : LinkModel L) (client : List ℕ) (state : State) (first now : L) (place : Place) (sent : ℕ) : Type 0 where
+pub record HasMet {L : Type 0} (m : LinkModel L) (client : List ℕ) (state : State) (first now : L) (cursor : Cursor) (sent : ℕ) : Type 0 where
   pub on : GrowsOn m first now client
-  pub few : m.exchanges now ≤ m.exchanges first + most_exchanges place.versions
-  pub end : HasNothingLeft m state first now place sent ⊎ HasSent m state first now place sent
+  pub few : m.exchanges now ≤ m.exchanges first + most_exchanges cursor.versions
+  pub end : HasNothingLeft m state first now cursor sent ⊎ HasSent m state first now cursor sent
 
 -- what was heard up to the end
-pub record HeardAll {L : Type 0} (m : LinkModel L) (client host : List ℕ) (first now : L) (place : Place) : Type 0 where
+pub record HeardAll {L : Type 0} (m : LinkModel L) (client host : List ℕ) (first now : L) (cursor : Cursor) : Type 0 where
   pub hs : List Heard
   pub hears : Hears m client host first now hs
-  pub ended : EndedBy hs (IsLastReply client place.at)
-  pub brought_is : brought hs ≡ place.versions
+  pub ended : EndedBy hs (IsLastReply client cursor.at)
+  pub brought_is : brought hs ≡ cursor.versions
   pub goes_on : GoesOnFrom hs
 
 -- it has met the server's chain, and so many operations were sent
-pub record IsMet {L : Type 0} (m : LinkModel L) (client host : List ℕ) (state : State) (first now : L) (place : Place) (sent : ℕ) : Type 0 where
+pub record IsMet {L : Type 0} (m : LinkModel L) (client host : List ℕ) (state : State) (first now : L) (cursor : Cursor) (sent : ℕ) : Type 0 where
   pub fewer : sent ≤ length (plain state.pending)
   pub kept : IsLinkKept m first now
-  pub heard : IsTrue (m.tells_list first) → HeardAll m client host first now place
-  pub come : IsHonest m first client → HasMet m client state first now place sent
+  pub heard : IsTrue (m.tells_list first) → HeardAll m client host first now cursor
+  pub come : IsHonest m first client → HasMet m client state first now cursor sent
 
 -- ---- its refusal
 
@@ -170,8 +170,8 @@ pub record HeardToStop {L : Type 0} (m : LinkModel L) (client host : List ℕ) (
 pub record StopsTruly {L : Type 0} (m : LinkModel L) (state : State) (first now : L) (e : SyncError) : Type 0 where
   pub whole : IsChain (m.chain now)
   pub grows : Grows (m.chain first) (m.chain now)
-  pub refused : HonestRefused state (told m first) (told m now) e
-  pub added : MayHaveAdded state (told m first) (told m now)
+  pub refused : HonestRefused state (server_chain m first) (server_chain m now) e
+  pub added : MayHaveAdded state (server_chain m first) (server_chain m now)
   pub added_only : MayAdd e ⊎ (m.own now ≡ m.own first)
 
 -- a sync that began at this state and this link is refused

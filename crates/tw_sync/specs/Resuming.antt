@@ -10,7 +10,7 @@ use Rattle.tw_transform.specs.Positions.{IsPosition}
 use Rattle.tw_replica.specs.State.{State}
 use Rattle.tw_replica.specs.Sound.{start_of}
 use Rattle.tw_sync.specs.Fold.{Reads}
-use Rattle.tw_sync.specs.End.{Told}
+use Rattle.tw_sync.specs.End.{ServerChain}
 use Rattle.tw_sync.specs.declared.report.SyncReport.{SyncReport}
 
 -- a refused sync pulled `pulled` and added a version: what was left of `mine`, to which `later` was appended since
@@ -30,7 +30,7 @@ abbrev pub left_of_later : TasksValue → (mine later pulled sent more : List Sy
 left_of_later base mine later pulled sent more = (grid (fit_part (apply_all base (pulled ++ sent)) more) (grid (grid (fit_part base pulled) mine).0 later).1).1
 
 -- a sync that ends pulls that version and more behind it, and sends what is left of the later operations alone
-pub record SendsLater (old : State) (before after : Told) (report : SyncReport) (mine later : List SyncOp) (was : WasAdded old before.chain mine later) : Type 0 where
+pub record SendsLater (old : State) (before after : ServerChain) (report : SyncReport) (mine later : List SyncOp) (was : WasAdded old before.chain mine later) : Type 0 where
   pub h : List ℕ
   pub versions : List Version
   pub behind : IsBetween after.chain was.v.id h versions

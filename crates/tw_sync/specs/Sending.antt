@@ -1,4 +1,4 @@
--- What becomes of what is left at a place.
+-- What becomes of what is left at a cursor.
 use Rattle.std.specs.Prelude.{◌≡◌, ℕ, ◌+◌, ◌<◌, List, length}
 use Rattle.tw_model.specs.declared.SyncOp.{SyncOp}
 use Rattle.tw_http.specs.Link.{LinkModel}
@@ -7,7 +7,7 @@ use Rattle.tw_replica.specs.State.{State}
 use Rattle.tw_sync.specs.Progress.{IsMet, IsLate}
 use Rattle.tw_sync.specs.declared.pushing.Sent.{Sent}
 use Rattle.tw_sync.specs.declared.pushing.Sent.TheVariants.{Added, Late}
-use Rattle.tw_sync.specs.declared.place.Place.{Place}
+use Rattle.tw_sync.specs.declared.cursor.Cursor.{Cursor}
 use Rattle.tw_sync.specs.declared.error.SendError.{SendError}
 use Rattle.tw_sync.specs.declared.error.SendError.TheVariants as sending
 
@@ -17,11 +17,11 @@ IsUnsent ops (sending.TooLong bytes) = (bytes ≡ length (segment_text ops)) × 
 IsUnsent ops sending.Memory = Unit {0}
 
 -- the sync ends where what was left is added, and goes on where it came too late
-abbrev pub Pushes : {L : Type 0} → Sent → LinkModel L → (client host : List ℕ) → State → (first now : L) → Place → Type 0
-Pushes (Added operations) m client host state first now place = IsMet m client host state first now place operations
-Pushes (Late latest) m client host state first now place = IsLate m client host state first now place latest
+abbrev pub Pushes : {L : Type 0} → Sent → LinkModel L → (client host : List ℕ) → State → (first now : L) → Cursor → Type 0
+Pushes (Added operations) m client host state first now cursor = IsMet m client host state first now cursor operations
+Pushes (Late latest) m client host state first now cursor = IsLate m client host state first now cursor latest
 
 -- a conflict is counted
-abbrev pub CountsConflict : Sent → (old new : Place) → Type 0
+abbrev pub CountsConflict : Sent → (old new : Cursor) → Type 0
 CountsConflict (Added operations) old new = Unit {0}
 CountsConflict (Late latest) old new = new.conflicts ≡ old.conflicts + 1

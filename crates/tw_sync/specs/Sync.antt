@@ -12,14 +12,14 @@ use Rattle.tw_replica.specs.State.{State}
 use Rattle.tw_replica.specs.Replica.{IsReplicaOn, IsSame, OpensToEither}
 use Rattle.tw_replica.specs.declared.replica.Replica.{Replica}
 use Rattle.tw_sync.specs.Fold.{ReadsBetween}
-use Rattle.tw_sync.specs.End.{Told, SyncEnd}
+use Rattle.tw_sync.specs.End.{ServerChain, SyncEnd}
 use Rattle.tw_sync.specs.Heard.{Heard, brought}
 use Rattle.tw_sync.specs.Refused.{EndedBy, GoesOnFrom}
 use Rattle.tw_sync.specs.declared.report.SyncReport.{SyncReport}
 
 -- what a link tells of its chain
-abbrev pub told : {L : Type 0} → LinkModel L → L → Told
-told m link = record { chain = m.chain link; own = m.own link }
+abbrev pub server_chain : {L : Type 0} → LinkModel L → L → ServerChain
+server_chain m link = record { chain = m.chain link; own = m.own link }
 
 -- the record of a sync, and how many bytes its row has
 abbrev pub record_body : List ℕ → List SyncOp → List ℕ
@@ -45,12 +45,12 @@ abbrev pub RecordsOfSync : {D : Type 0} → DiskModel D → (old new : Replica) 
 RecordsOfSync m old new before after honest chain bodies = WritesNothing m old new before after bodies ⊎ WritesOne m old new after honest chain bodies
 
 -- the end that a sync has led to, if it has come so far
-abbrev pub IsEndIn : (old : State) (before after : Told) → Option State → Type 0
+abbrev pub IsEndIn : (old : State) (before after : ServerChain) → Option State → Type 0
 IsEndIn old before after None = Unit {0}
 IsEndIn old before after (Some next) = (report : SyncReport) × SyncEnd old next before after report
 
 -- at any moment the disk opens to the state before, or to the one end of the sync
-pub record LeavesEnd {D : Type 0} (m : DiskModel D) (before after : D) (old : State) (honest : Type 0) (first last : Told) : Type 0 where
+pub record LeavesEnd {D : Type 0} (m : DiskModel D) (before after : D) (old : State) (honest : Type 0) (first last : ServerChain) : Type 0 where
   pub next : Option State
   pub end : honest → IsEndIn old first last next
   pub leaves : LeavesOnly m before after (OpensToEither old next)

@@ -13,7 +13,7 @@ ghost use Rattle.tw_sync.specs.End.{SyncEnd, MayHaveAdded};
 ghost use Rattle.tw_sync.specs.Heard.{Heard, Hears, HearsUntil, brought, most_exchanges};
 ghost use Rattle.tw_sync.specs.Answers.{IsLinkKept};
 ghost use Rattle.tw_sync.specs.Refused.{HeardRefused, SyncRefused, MayAdd};
-ghost use Rattle.tw_sync.specs.Sync.{told, RecordsOfSync, LeavesEnd, HeardEnd};
+ghost use Rattle.tw_sync.specs.Sync.{server_chain, RecordsOfSync, LeavesEnd, HeardEnd};
 ghost use Rattle.tw_sync.specs.Honest.{HonestRefused, CanSync, IsWant};
 ghost use Rattle.tw_sync.specs.Resuming.{WasAdded, SendsLater};
 ghost use Rattle.tw_model.specs.declared.SyncOp.{SyncOp};
@@ -23,7 +23,7 @@ ghost use Rattle.tw_sync.specs.declared.error.SyncError.TheVariants as errors;
 
 use crate::error::SyncError;
 use crate::meeting::meet;
-use crate::place::Place;
+use crate::cursor::Cursor;
 use crate::report::SyncReport;
 use std::alloc::Global;
 use tw_http::Link;
@@ -47,23 +47,23 @@ pub fn sync<D: Disk, L: Link>(
 ) -> Result<SyncReport, SyncError>
     requires host { IsHost host.now }
     requires length { IsLengthKept D.model replica.old disk.old }
-    ensures ended { IfOk result (λ report. IsHonest L.model link.old client → SyncEnd (state_of replica.old.core) (state_of replica.new.core) (told L.model link.old) (told L.model link.new) report) }
+    ensures ended { IfOk result (λ report. IsHonest L.model link.old client → SyncEnd (state_of replica.old.core) (state_of replica.new.core) (server_chain L.model link.old) (server_chain L.model link.new) report) }
     ensures agrees { IsHonest L.model link.old client → Agrees (state_of replica.old.core) (L.model.chain link.old) → Agrees (state_of replica.new.core) (L.model.chain link.new) }
-    ensures added { IfErr result (λ e. IsHonest L.model link.old client → MayHaveAdded (state_of replica.old.core) (told L.model link.old) (told L.model link.new)) }
+    ensures added { IfErr result (λ e. IsHonest L.model link.old client → MayHaveAdded (state_of replica.old.core) (server_chain L.model link.old) (server_chain L.model link.new)) }
     ensures added_only { IfErr result (λ e. IsHonest L.model link.old client → MayAdd e ⊎ (L.model.own link.new ≡ L.model.own link.old)) }
 
     ensures grows { IsHonest L.model link.old client → Grows (L.model.chain link.old) (L.model.chain link.new) }
 
     // What a refused sync sent is not sent again.
-    ensures cancels { IfOk result (λ report. IsHonest L.model link.old client → Agrees (state_of replica.old.core) (L.model.chain link.old) → (mine later : List SyncOp) (was : WasAdded (state_of replica.old.core) (L.model.chain link.old) mine later) → SendsLater (state_of replica.old.core) (told L.model link.old) (told L.model link.new) report mine later was) }
+    ensures cancels { IfOk result (λ report. IsHonest L.model link.old client → Agrees (state_of replica.old.core) (L.model.chain link.old) → (mine later : List SyncOp) (was : WasAdded (state_of replica.old.core) (L.model.chain link.old) mine later) → SendsLater (state_of replica.old.core) (server_chain L.model link.old) (server_chain L.model link.new) report mine later was) }
 
     ensures closed { is_closed replica.old.journal ≡ true → result ≡ Err (errors.Journal journal.Closed) }
     ensures refused { IfErr result (SyncRefused D.model L.model replica.old replica.new disk.old disk.new link.old link.new) }
-    ensures honest { IfErr result (λ e. IsHonest L.model link.old client → HonestRefused (state_of replica.old.core) (told L.model link.old) (told L.model link.new) e) }
+    ensures honest { IfErr result (λ e. IsHonest L.model link.old client → HonestRefused (state_of replica.old.core) (server_chain L.model link.old) (server_chain L.model link.new) e) }
     ensures complete { IfErr result (λ e. CanSync D.model L.model replica.old disk.old disk.new link.old link.new client → IsWant e) }
 
     ensures records { (bodies : List (List ℕ)) → IsReplicaOn D.model replica.old disk.old bodies → IfOk result (λ report. RecordsOfSync D.model replica.old replica.new disk.old disk.new (IsHonest L.model link.old client) (L.model.chain link.new) bodies) }
-    ensures any_moment { (bodies : List (List ℕ)) → IsReplicaOn D.model replica.old disk.old bodies → LeavesEnd D.model disk.old disk.new (state_of replica.old.core) (IsHonest L.model link.old client) (told L.model link.old) (told L.model link.new) }
+    ensures any_moment { (bodies : List (List ℕ)) → IsReplicaOn D.model replica.old disk.old bodies → LeavesEnd D.model disk.old disk.new (state_of replica.old.core) (IsHonest L.model link.old client) (server_chain L.model link.old) (server_chain L.model link.new) }
     ensures length { IsLengthKept D.model replica.new disk.new }
     ensures disk_kept { Kept D.model disk.old disk.new }
 
@@ -96,38 +96,38 @@ fn meet_and_move<D: Disk, L: Link>(
     ensures length { IsLengthKept D.model replica.new disk.new }
     ensures kept { Kept D.model disk.old disk.new }
 {
-    let mut place = Place::start(alloc, replica)?;
-    let pending = place.left.len() as u64;
-    let pushed = meet(alloc, link, client, host, &mut place)?;
+    let mut cursor = Cursor::start(alloc, replica)?;
+    let pending = cursor.left.len() as u64;
+    let pushed = meet(alloc, link, client, host, &mut cursor)?;
     let report = SyncReport {
-        pulled: place.versions,
+        pulled: cursor.versions,
         dropped: pending - pushed,
         pushed,
-        base: place.at,
+        base: cursor.at,
     };
-    stand_at(alloc, replica, disk, place)?;
+    stand_at(alloc, replica, disk, cursor)?;
     Ok(report)
 }
 
-// Moves the replica to a place by one record, unless its base is there.
+// Moves the replica to a cursor by one record, unless its base is there.
 fn stand_at<D: Disk>(
     alloc: Global,
     replica: &mut Replica,
     disk: &mut D,
-    place: Place,
+    cursor: Cursor,
 ) -> Result<(), RecordError>
     requires length { IsLengthKept D.model replica.old disk.old }
     requires open { is_closed replica.old.journal ≡ false }
-    ensures moved { OnOk result (IsMovedTo D.model replica.old replica.new disk.old disk.new place (moved_state place (state_of replica.old.core))) }
-    ensures any_moment { (bodies : List (List ℕ)) → IsReplicaOn D.model replica.old disk.old bodies → LeavesOnly D.model disk.old disk.new (OpensToEither (state_of replica.old.core) (moved_state place (state_of replica.old.core))) }
+    ensures moved { OnOk result (IsMovedTo D.model replica.old replica.new disk.old disk.new cursor (moved_state cursor (state_of replica.old.core))) }
+    ensures any_moment { (bodies : List (List ℕ)) → IsReplicaOn D.model replica.old disk.old bodies → LeavesOnly D.model disk.old disk.new (OpensToEither (state_of replica.old.core) (moved_state cursor (state_of replica.old.core))) }
     ensures length { IsLengthKept D.model replica.new disk.new }
-    ensures refused { IfErr result (IsNotMoved D.model replica.old replica.new disk.old disk.new place) }
+    ensures refused { IfErr result (IsNotMoved D.model replica.old replica.new disk.old disk.new cursor) }
     ensures kept { Kept D.model disk.old disk.new }
 {
-    if place.at == replica.base() {
+    if cursor.at == replica.base() {
         return Ok(());
     }
-    let base = place.at;
-    let remote = place.into_remote();
+    let base = cursor.at;
+    let remote = cursor.into_remote();
     replica.finish_sync(alloc, disk, base, remote)
 }

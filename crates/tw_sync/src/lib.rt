@@ -8,7 +8,7 @@ mod engine;
 mod error;
 pub mod laws;
 mod meeting;
-mod place;
+mod cursor;
 mod pulling;
 mod pushing;
 mod report;

@@ -5,7 +5,7 @@ ghost use Rattle.tw_replica.specs.State.{State};
 ghost use Rattle.tw_sync.specs.Progress.{IsPulling, IsMet, IsStopped};
 
 use crate::error::SyncError;
-use crate::place::Place;
+use crate::cursor::Cursor;
 use crate::pulling::{pull, pull_late};
 use crate::pushing::{Sent, push};
 use std::alloc::Global;
@@ -18,18 +18,18 @@ pub(crate) fn meet<L: Link>(
     link: &mut L,
     client: Uuid,
     host: &str,
-    place: &mut Place,
+    cursor: &mut Cursor,
 ) -> Result<u64, SyncError>
     requires host { IsHost host.now }
-    requires fresh { place.old.conflicts ≡ 0 }
-    ensures met { IfOk result (λ sent. (state : State) (first : L) → IsPulling L.model client host.now state first link.old place.old → IsMet L.model client host.now state first link.new place.new sent) }
-    ensures stopped { IfErr result (λ e. (state : State) (first : L) → IsPulling L.model client host.now state first link.old place.old → IsStopped L.model client host.now state first link.new e) }
+    requires fresh { cursor.old.conflicts ≡ 0 }
+    ensures met { IfOk result (λ sent. (state : State) (first : L) → IsPulling L.model client host.now state first link.old cursor.old → IsMet L.model client host.now state first link.new cursor.new sent) }
+    ensures stopped { IfErr result (λ e. (state : State) (first : L) → IsPulling L.model client host.now state first link.old cursor.old → IsStopped L.model client host.now state first link.new e) }
 {
-    pull(alloc, link, client, host, place)?;
-    while !place.left.is_empty() {
-        match push(alloc, link, client, host, place)? {
+    pull(alloc, link, client, host, cursor)?;
+    while !cursor.left.is_empty() {
+        match push(alloc, link, client, host, cursor)? {
             Sent::Added { operations } => return Ok(operations),
-            Sent::Late { latest } => pull_late(alloc, link, client, host, place, latest)?,
+            Sent::Late { latest } => pull_late(alloc, link, client, host, cursor, latest)?,
         }
     }
     Ok(0)

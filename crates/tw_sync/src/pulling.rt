@@ -1,4 +1,4 @@
-// Pulling what stands behind a place.
+// Pulling what stands behind a cursor.
 ghost use Rattle.std.specs.Prelude.{◌≡◌, ◌<◌, ◌≤◌, true, false, IfOk, OnOk, IfErr, List, ℕ};
 ghost use Rattle.tw_http.specs.Messages.{IsHost};
 ghost use Rattle.tw_replica.specs.State.{State};
@@ -7,7 +7,7 @@ ghost use Rattle.tw_sync.specs.declared.error.SyncError.TheVariants as errors;
 
 use crate::ask::{ChildAnswer, ask_child};
 use crate::error::SyncError;
-use crate::place::Place;
+use crate::cursor::Cursor;
 use std::alloc::Global;
 use tw_http::Link;
 use uuid::Uuid;
@@ -18,41 +18,41 @@ pub(crate) fn pull<L: Link>(
     link: &mut L,
     client: Uuid,
     host: &str,
-    place: &mut Place,
+    cursor: &mut Cursor,
 ) -> Result<(), SyncError>
     requires host { IsHost host.now }
-    ensures pulled { OnOk result ((state : State) (first : L) → IsPulling L.model client host.now state first link.old place.old → HasPulled L.model client host.now state first link.new place.new) }
-    ensures conflicts { OnOk result (place.new.conflicts ≡ place.old.conflicts) }
-    ensures stopped { IfErr result (λ e. (state : State) (first : L) → IsPulling L.model client host.now state first link.old place.old → IsStopped L.model client host.now state first link.new e) }
+    ensures pulled { OnOk result ((state : State) (first : L) → IsPulling L.model client host.now state first link.old cursor.old → HasPulled L.model client host.now state first link.new cursor.new) }
+    ensures conflicts { OnOk result (cursor.new.conflicts ≡ cursor.old.conflicts) }
+    ensures stopped { IfErr result (λ e. (state : State) (first : L) → IsPulling L.model client host.now state first link.old cursor.old → IsStopped L.model client host.now state first link.new e) }
 {
-    while pull_one(alloc, link, client, host, place)? {}
+    while pull_one(alloc, link, client, host, cursor)? {}
     Ok(())
 }
 
-// Goes on to the version behind the place, and answers whether there was one.
+// Goes on to the version behind the cursor, and answers whether there was one.
 fn pull_one<L: Link>(
     alloc: Global,
     link: &mut L,
     client: Uuid,
     host: &str,
-    place: &mut Place,
+    cursor: &mut Cursor,
 ) -> Result<bool, SyncError>
     requires host { IsHost host.now }
-    ensures goes_on { IfOk result (λ more. (state : State) (first : L) → IsPulling L.model client host.now state first link.old place.old → PullsOn more L.model client host.now state first link.new place.new) }
-    ensures farther { IfOk result (λ more. more ≡ true → place.old.bytes < place.new.bytes) }
-    ensures conflicts { OnOk result (place.new.conflicts ≡ place.old.conflicts) }
+    ensures goes_on { IfOk result (λ more. (state : State) (first : L) → IsPulling L.model client host.now state first link.old cursor.old → PullsOn more L.model client host.now state first link.new cursor.new) }
+    ensures farther { IfOk result (λ more. more ≡ true → cursor.old.bytes < cursor.new.bytes) }
+    ensures conflicts { OnOk result (cursor.new.conflicts ≡ cursor.old.conflicts) }
 
     // Where a version came too late, there is one more.
-    ensures late { IfOk result (λ more. more ≡ false → place.old.conflicts ≤ 15 → (state : State) (first : L) (last : List ℕ) → IsLate L.model client host.now state first link.old place.old last → IsStopped L.model client host.now state first link.new (errors.OutOfSync place.new.at last)) }
-    ensures stopped { IfErr result (λ e. (state : State) (first : L) → IsPulling L.model client host.now state first link.old place.old → IsStopped L.model client host.now state first link.new e) }
+    ensures late { IfOk result (λ more. more ≡ false → cursor.old.conflicts ≤ 15 → (state : State) (first : L) (last : List ℕ) → IsLate L.model client host.now state first link.old cursor.old last → IsStopped L.model client host.now state first link.new (errors.OutOfSync cursor.new.at last)) }
+    ensures stopped { IfErr result (λ e. (state : State) (first : L) → IsPulling L.model client host.now state first link.old cursor.old → IsStopped L.model client host.now state first link.new e) }
 {
-    match ask_child(alloc, link, client, host, place.at)? {
+    match ask_child(alloc, link, client, host, cursor.at)? {
         ChildAnswer::Found { id, segment } => {
-            place.take_version(alloc, id, segment.as_slice())?;
+            cursor.take_version(alloc, id, segment.as_slice())?;
             Ok(true)
         }
         ChildAnswer::UpToDate => Ok(false),
-        ChildAnswer::Gone => Err(SyncError::Gone { base: place.at }),
+        ChildAnswer::Gone => Err(SyncError::Gone { base: cursor.at }),
     }
 }
 
@@ -62,23 +62,23 @@ pub(crate) fn pull_late<L: Link>(
     link: &mut L,
     client: Uuid,
     host: &str,
-    place: &mut Place,
+    cursor: &mut Cursor,
     latest: Uuid,
 ) -> Result<(), SyncError>
     requires host { IsHost host.now }
-    ensures pulled { OnOk result ((state : State) (first : L) → IsLate L.model client host.now state first link.old place.old latest → HasPulled L.model client host.now state first link.new place.new) }
-    ensures conflicts { OnOk result (place.new.conflicts ≡ place.old.conflicts) }
-    ensures few { OnOk result (place.new.conflicts ≤ 15) }
-    ensures stopped { IfErr result (λ e. (state : State) (first : L) → IsLate L.model client host.now state first link.old place.old latest → IsStopped L.model client host.now state first link.new e) }
+    ensures pulled { OnOk result ((state : State) (first : L) → IsLate L.model client host.now state first link.old cursor.old latest → HasPulled L.model client host.now state first link.new cursor.new) }
+    ensures conflicts { OnOk result (cursor.new.conflicts ≡ cursor.old.conflicts) }
+    ensures few { OnOk result (cursor.new.conflicts ≤ 15) }
+    ensures stopped { IfErr result (λ e. (state : State) (first : L) → IsLate L.model client host.now state first link.old cursor.old latest → IsStopped L.model client host.now state first link.new e) }
 {
-    if place.conflicts > 15 {
+    if cursor.conflicts > 15 {
         return Err(SyncError::Busy { parent: latest });
     }
-    if !pull_one(alloc, link, client, host, place)? {
+    if !pull_one(alloc, link, client, host, cursor)? {
         return Err(SyncError::OutOfSync {
-            base: place.at,
+            base: cursor.at,
             parent: latest,
         });
     }
-    pull(alloc, link, client, host, place)
+    pull(alloc, link, client, host, cursor)
 }

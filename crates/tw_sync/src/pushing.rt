@@ -1,4 +1,4 @@
-// Sending what is left at a place.
+// Sending what is left at a cursor.
 ghost use Rattle.std.specs.Prelude.{◌≡◌, ◌≤◌, [], length, IfOk, IfErr};
 ghost use Rattle.tw_http.specs.Messages.{IsHost};
 ghost use Rattle.tw_segment.specs.Segment.{max_len, segment_text, IsSegment};
@@ -8,7 +8,7 @@ ghost use Rattle.tw_sync.specs.Sending.{IsUnsent, Pushes, CountsConflict};
 
 use crate::ask::{AddAnswer, ask_add};
 use crate::error::{SendError, SyncError};
-use crate::place::Place;
+use crate::cursor::Cursor;
 use std::alloc::Global;
 use tw_http::Link;
 use tw_model::SyncOp;
@@ -24,31 +24,31 @@ pub(crate) enum Sent {
     Late { latest: Uuid },
 }
 
-/// Sends what is left, to stand behind the place. Where it was added the place goes on to it.
+/// Sends what is left, to stand behind the cursor. Where it was added the cursor goes on to it.
 pub(crate) fn push<L: Link>(
     alloc: Global,
     link: &mut L,
     client: Uuid,
     host: &str,
-    place: &mut Place,
+    cursor: &mut Cursor,
 ) -> Result<Sent, SyncError>
     requires host { IsHost host.now }
-    requires some { ¬ (place.old.left.items ≡ []) }
-    requires tries { place.old.conflicts ≤ 15 }
-    ensures pushed { IfOk result (λ sent. (state : State) (first : L) → HasPulled L.model client host.now state first link.old place.old → Pushes sent L.model client host.now state first link.new place.new) }
-    ensures conflicts { IfOk result (λ sent. CountsConflict sent place.old place.new) }
-    ensures stopped { IfErr result (λ e. (state : State) (first : L) → HasPulled L.model client host.now state first link.old place.old → IsStopped L.model client host.now state first link.new e) }
+    requires some { ¬ (cursor.old.left.items ≡ []) }
+    requires tries { cursor.old.conflicts ≤ 15 }
+    ensures pushed { IfOk result (λ sent. (state : State) (first : L) → HasPulled L.model client host.now state first link.old cursor.old → Pushes sent L.model client host.now state first link.new cursor.new) }
+    ensures conflicts { IfOk result (λ sent. CountsConflict sent cursor.old cursor.new) }
+    ensures stopped { IfErr result (λ e. (state : State) (first : L) → HasPulled L.model client host.now state first link.old cursor.old → IsStopped L.model client host.now state first link.new e) }
 {
-    let segment = text_to_send(alloc, &place.left)?;
-    match ask_add(alloc, link, client, host, place.at, segment)? {
+    let segment = text_to_send(alloc, &cursor.left)?;
+    match ask_add(alloc, link, client, host, cursor.at, segment)? {
         AddAnswer::Added { id } => {
-            let operations = place.left.len() as u64;
-            place.remote.append(&mut place.left)?;
-            place.at = id;
+            let operations = cursor.left.len() as u64;
+            cursor.remote.append(&mut cursor.left)?;
+            cursor.at = id;
             Ok(Sent::Added { operations })
         }
         AddAnswer::Conflict { latest } => {
-            place.conflicts += 1;
+            cursor.conflicts += 1;
             Ok(Sent::Late { latest })
         }
     }

@@ -3,24 +3,24 @@ ghost use Rattle.std.specs.Prelude.{◌≡◌, ◌++◌, ◌∷◌, [], IfOk, On
 ghost use Rattle.tw_model.specs.LocalOps.{plain, take_back_all};
 ghost use Rattle.tw_replica.specs.Replica.{held_state};
 ghost use Rattle.tw_sync.specs.Alike.{SameFor, with_copy};
-ghost use Rattle.tw_sync.specs.Place.{IsAtStart};
+ghost use Rattle.tw_sync.specs.Cursor.{IsAtStart};
 
-use crate::place::Place;
+use crate::cursor::Cursor;
 use std::alloc::Global;
 use tw_model::{Op, SyncOp, Tasks};
 use tw_replica::Replica;
 use tw_world::Memory;
 use uuid::Uuid;
 
-impl Place {
+impl Cursor {
     /// The base of a replica, where all that is pending is left.
-    pub fn start(alloc: Global, replica: &Replica) -> Result<Place, Memory>
-        ensures { IfOk result (λ place. IsAtStart (held_state replica.now) place) }
+    pub fn start(alloc: Global, replica: &Replica) -> Result<Cursor, Memory>
+        ensures { IfOk result (λ cursor. IsAtStart (held_state replica.now) cursor) }
     {
         let left = plain(alloc, replica.pending())?;
         let mut tasks = copies(alloc, replica.tasks(), &left)?;
         take_back(alloc, &mut tasks, replica.pending())?;
-        Ok(Place {
+        Ok(Cursor {
             at: replica.base(),
             tasks,
             left,

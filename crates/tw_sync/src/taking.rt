@@ -2,10 +2,10 @@
 ghost use Rattle.std.specs.Prelude.{◌≡◌, ◌++◌, ◌∷◌, [], IfOk, IfErr, OnOk};
 ghost use Rattle.tw_model.specs.Ops.{apply, apply_all, fit_part};
 ghost use Rattle.tw_transform.specs.Grid.{grid};
-ghost use Rattle.tw_sync.specs.Place.{TakesVersion, IsNotTaken};
+ghost use Rattle.tw_sync.specs.Cursor.{TakesVersion, IsNotTaken};
 
 use crate::error::TakeError;
-use crate::place::Place;
+use crate::cursor::Cursor;
 use std::alloc::Global;
 use tw_model::{SyncOp, Tasks};
 use tw_segment::{SegmentError, read_segment};
@@ -15,10 +15,10 @@ use uuid::Uuid;
 
 const MAX_PULL: u64 = 268_435_456;
 
-impl Place {
+impl Cursor {
     /// Goes on to a version that is a child of this one.
     ///
-    /// After a refusal the place is none.
+    /// After a refusal the cursor is none.
     pub fn take_version(&mut self, alloc: Global, id: Uuid, segment: &[u8]) -> Result<(), TakeError>
         ensures taken { OnOk result (TakesVersion self.old self.new id segment.now) }
         ensures refused { IfErr result (λ e. IsNotTaken self.old id segment.now e) }

@@ -1,9 +1,9 @@
 // The lines of a table.
-ghost use Rattle.std.specs.Prelude.{◌≡◌, ◌++◌, codes, map, string_bytes, IfOk, OnOk};
+ghost use Rattle.std.specs.Prelude.{◌≡◌, ◌++◌, codes, cond, map, replicate, string_bytes, IfOk, OnOk};
+ghost use Rattle.tw_text.specs.Columns.{padded_left, padded_right};
 ghost use Rattle.tw_table.specs.Table.{widened, widths_of, parted, line, lines, headings, heading_widths, table, layout_of, row_texts};
 
 use std::alloc::Global;
-use tw_text::{pad_left, pad_right};
 use tw_world::Memory;
 
 /// A column of a table.
@@ -28,14 +28,8 @@ pub fn table_text(
     let heads = heading_cells(alloc, columns)?;
     let widths = widths_of(alloc, columns, rows)?;
     let mut text = Vec::new(alloc);
-    push_line(
-        alloc,
-        &mut text,
-        columns,
-        widths.as_slice(),
-        heads.as_slice(),
-    )?;
-    push_lines(alloc, &mut text, columns, widths.as_slice(), rows)?;
+    push_line(&mut text, columns, widths.as_slice(), heads.as_slice())?;
+    push_lines(&mut text, columns, widths.as_slice(), rows)?;
     Ok(text)
 }
 
@@ -81,21 +75,33 @@ fn widen(widths: &mut Vec<u64>, cells: &Vec<String>)
     }
 }
 
-fn push_parted(
-    alloc: Global,
-    text: &mut Vec<u8>,
-    is_right: bool,
-    cell: &str,
-    width: u64,
-) -> Result<(), Memory>
+fn push_spaces(text: &mut Vec<u8>, count: u64) -> Result<(), Memory>
+    ensures { OnOk result (text.new.items ≡ text.old.items ++ replicate count 32) }
+{
+    for i in 0..count {
+        text.push(b' ')?;
+    }
+    Ok(())
+}
+
+fn push_padded(text: &mut Vec<u8>, is_right: bool, cell: &str, width: u64) -> Result<(), Memory>
+    ensures { OnOk result (text.new.items ≡ text.old.items ++ cond is_right (padded_left cell.now width) (padded_right cell.now width)) }
+{
+    let lacking = width.saturating_sub(tw_text::columns(cell));
+    if is_right {
+        push_spaces(text, lacking)?;
+        text.extend_from_slice(cell.as_bytes())?;
+    } else {
+        text.extend_from_slice(cell.as_bytes())?;
+        push_spaces(text, lacking)?;
+    }
+    Ok(())
+}
+
+fn push_parted(text: &mut Vec<u8>, is_right: bool, cell: &str, width: u64) -> Result<(), Memory>
     ensures { OnOk result (text.new.items ≡ text.old.items ++ parted is_right cell.now width) }
 {
-    let padded = if is_right {
-        pad_left(alloc, cell, width)?
-    } else {
-        pad_right(alloc, cell, width)?
-    };
-    text.extend_from_slice(padded.as_str().as_bytes())?;
+    push_padded(text, is_right, cell, width)?;
     text.push(b' ')?;
     Ok(())
 }
@@ -115,7 +121,6 @@ fn push_last(text: &mut Vec<u8>, cell: &str) -> Result<(), Memory>
 }
 
 fn push_line(
-    alloc: Global,
     text: &mut Vec<u8>,
     columns: &[Column],
     widths: &[u64],
@@ -135,12 +140,11 @@ fn push_line(
     if cells.is_empty() {
         return push_last(text, cell.as_str());
     }
-    push_parted(alloc, text, column.is_right, cell.as_str(), *width)?;
-    push_line(alloc, text, columns, widths, cells)
+    push_parted(text, column.is_right, cell.as_str(), *width)?;
+    push_line(text, columns, widths, cells)
 }
 
 fn push_lines(
-    alloc: Global,
     text: &mut Vec<u8>,
     columns: &[Column],
     widths: &[u64],
@@ -149,7 +153,7 @@ fn push_lines(
     ensures { OnOk result (text.new.items ≡ text.old.items ++ lines (layout_of columns.now) widths.now (map row_texts rows.now.items)) }
 {
     for row in rows {
-        push_line(alloc, text, columns, widths, row.as_slice())?;
+        push_line(text, columns, widths, row.as_slice())?;
     }
     Ok(())
 }

@@ -1,11 +1,12 @@
 -- What UTC's clock shows at a second is that second.
-use Rattle.std.proofs.Common.{◌≡◌, ℕ, ◌<◌, ℤ, pos, negsuc, ◌≤ℤ◌, Some, Ok, arith, refl, ap, ◌∙◌, unsigned_abs, int_div}
+use Rattle.std.proofs.Common.{◌≡◌, ℕ, ◌/◌, ◌%◌, ◌<◌, ℤ, pos, negsuc, ◌+ℤ◌, ◌*ℤ◌, ◌≤ℤ◌, Some, Ok, arith, refl, sym, ap, ◌∙◌, unsigned_abs, int_div}
 use Rattle.std.specs.Int.{int_rem_euclid}
 use Rattle.jiff_core.proofs.DateTimeLemmas.{civil_nanos-parts}
 use Rattle.jiff_core.proofs.CalendarLemmas.{days_in_month_bounds}
 use Rattle.jiff_core.proofs.SignedLemmas.{signed_arith}
 use Rattle.jiff.specs.Types.{Date, Time, DateTime, UTC}
-use Rattle.jiff.specs.Words.{picked_instant}
+use Rattle.jiff_core.specs.Time.{time_seconds}
+use Rattle.jiff.specs.Words.{picked_instant, epoch_day}
 use Rattle.jiff.proofs.ZoneFacts.{offset_at-UTC, picked_instant-UTC}
 use Rattle.tw_time.specs.Civil.{limit, nanos, Shows, shown_seconds, date_of, second_at}
 use Rattle.tw_time.specs.Forms.{IsPrintable}
@@ -13,10 +14,19 @@ use Rattle.tw_time.specs.Placed.{at_civil}
 use Rattle.tw_time.specs.Basic.{parts_of}
 use Rattle.tw_time.specs.Extended.{civil_second, second_of_parts}
 use Rattle.tw_time.proofs.CivilFacts.{date_of-date, time_of-time, second_in_range_is}
+use Rattle.tw_time.proofs.ShownFacts.{by_seconds}
 
 pub pos_abs : (z : ℤ) → pos 0 ≤ℤ z → pos (unsigned_abs z) ≡ z
 pos_abs (pos n) h = refl
 pos_abs (negsuc n) h = absurd (omega (arith, signed_arith))
+
+-- a day number and a second of the day are what UTC's clock shows
+pub shows_in_utc : (at : ℕ) (dt : DateTime) → epoch_day dt.date ≡ pos (at / 86_400) → time_seconds dt.time ≡ at % 86_400 → dt.time.subsec_nanosecond ≡ 0 → Shows UTC at dt
+shows_in_utc at dt day second whole =
+    let below : at % 86_400 < 86_400 = omega arith in
+    let seconds : shown_seconds UTC at ≡ pos (at / 86_400) *ℤ pos 86_400 +ℤ pos (at % 86_400) = omega (arith, signed_arith, offset_at-UTC (nanos at)) in
+    let parts = by_seconds (shown_seconds UTC at) (pos (at / 86_400)) (at % 86_400) below seconds in
+    record { day = parts.0 ∙ sym day; second = ap unsigned_abs parts.1 ∙ sym second; whole = whole }
 
 date_back : (d : Date) → pos 1969 ≤ℤ d.year → date_of (pos (unsigned_abs d.year)) d.month d.day ≡ Some d
 date_back d late =

@@ -1,5 +1,5 @@
 ghost use Rattle.std.specs.Prelude.{◌≡◌, ◌<◌, option_map, pos, Some, Ok};
-ghost use Rattle.tw_time.specs.Civil.{limit, day_of_date, shown_clock, shown_date};
+ghost use Rattle.tw_time.specs.Civil.{limit, day_of_date, shown_clock, shown_date, Shows};
 ghost use Rattle.tw_time.specs.Forms.{IsPrintable};
 ghost use Rattle.tw_time.specs.Placed.{at_civil};
 ghost use Rattle.tw_time.specs.Basic.{utc_parts};
@@ -8,6 +8,7 @@ ghost use Rattle.jiff.specs.Types.{UTC};
 
 use crate::form::Parts;
 use crate::zone::{Zone, shown_at};
+use jiff_core::civil::{Date, DateTime, Time};
 
 /// A day of the calendar.
 #[derive(Clone, Copy, Debug, PartialEq, Eq, PartialOrd, Ord)]
@@ -56,6 +57,20 @@ pub fn clock_of(at: u64, zone: &Zone) -> Clock
     }
 }
 
+// The days from -9999-01-01, the calendar's first, up to 1970-01-01.
+const DAYS_BEFORE_1970: u32 = 4_371_587;
+
+// What UTC's clock shows at a second. There is no offset, so no zone is asked.
+fn shown_in_utc(at: u64) -> DateTime
+    requires { at < limit }
+    ensures { Shows UTC at result }
+{
+    DateTime {
+        date: Date::from_days_since_min((at / 86_400) as u32 + DAYS_BEFORE_1970),
+        time: Time::from_second((at % 86_400) as u32, 0),
+    }
+}
+
 // The numbers that UTC's clock shows at a second.
 pub fn utc_parts(at: u64) -> Parts
     requires { at < limit }
@@ -64,7 +79,7 @@ pub fn utc_parts(at: u64) -> Parts
     ensures counted { second_of_parts result ≡ Some (pos at) }
     ensures printable { IsPrintable result }
 {
-    let shown = shown_at(at, &Zone::utc()).to_plain();
+    let shown = shown_in_utc(at);
     Parts {
         year: shown.date.year.unsigned_abs(),
         month: u16::from(shown.date.month),

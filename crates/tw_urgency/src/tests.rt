@@ -247,3 +247,25 @@ fn dependencies_lead_along_a_chain_and_round_a_circle(rt: HostRuntime) -> Result
     assert!(rt; would_cycle(alloc, &tasks, numbered(0x99), numbered(0x99))?);
     Ok(())
 }
+
+// Tasks in a chain, each of which depends on the one before it.
+fn chained(alloc: Global, length: u64) -> Result<Tasks, Fail> {
+    let mut tasks = Tasks::new(alloc);
+    for before in 0..length {
+        let before = u128::from(before);
+        let mut task = TaskMap::new(alloc);
+        let name = format!(in alloc; "dep_{}", numbered(before))?;
+        task.set(alloc, name.as_str(), Some(""))?;
+        let _ = tasks.insert(numbered(before + 1), task)?;
+    }
+    Ok(tasks)
+}
+
+#[test]
+fn a_chain_of_fifty_thousand_tasks_is_followed_to_its_end(rt: HostRuntime) -> Result<(), Fail> {
+    let alloc = rt.alloc();
+    let tasks = chained(alloc, 50_000)?;
+    assert!(rt; would_cycle(alloc, &tasks, numbered(1), numbered(50_000))?);
+    assert!(rt; !would_cycle(alloc, &tasks, numbered(50_000), numbered(1))?);
+    Ok(())
+}

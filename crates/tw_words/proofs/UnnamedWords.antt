@@ -17,7 +17,7 @@ use Rattle.tw_words.specs.Changed.{going_on_behind}
 use Rattle.jiff.specs.Types.{TimeZone}
 use Rattle.tw_filter.specs.declared.token.Token.{Token}
 use Rattle.tw_words.specs.Commands.{filtering_of}
-use Rattle.tw_words.specs.Faults.{filter_fault, command_fault, rest_fault, rest_fault_by, fault_of, unless_bad, filter_by, with_rest}
+use Rattle.tw_words.specs.Faults.{filter_fault, lack_fault, rest_fault, rest_fault_by, fault_of, unless_bad, filter_by, with_rest}
 use Rattle.tw_words.specs.Unnamed.{lacks_task, value_unnamed, field_unnamed, pair_unnamed, tag_or_pair_unnamed, word_unnamed, unnamed_from, first_unnamed, IsRefusedAt, ChangesWhereNamed}
 use Rattle.tw_words.specs.declared.field.Field.{Field}
 use Rattle.tw_words.specs.declared.field.Field.TheVariants as field
@@ -124,7 +124,7 @@ pub changes_where_named : ChangesWhereNamed
 changes_where_named scene line task filter changes right =
     let clock = Some (scene.now, scene.tz) in
     let none = right_line line scene.now scene.tz (filter_by (filtering_of line.command) line scene.now scene.tz) filter right in
-    let none_behind = behind_first (command_fault line) (rest_fault clock line) (behind_first (filter_fault line) (first_of (command_fault line) (rest_fault clock line)) none) in
+    let none_behind = behind_first (lack_fault line) (rest_fault clock line) (behind_first (filter_fault line) (first_of (lack_fault line) (rest_fault clock line)) none) in
     let none_of_words : first_fault clock ((tally_of line).texts == 1) line line.rest_from (rest_words line) ≡ None = sym (ap (λ r. rest_fault_by r clock line) changes) ∙ none_behind in
     task_made (first_unnamed scene line) (with_words scene ((tally_of line).texts == 1) line (beginning task) line.rest_from (rest_words line))
     (words_made scene ((tally_of line).texts == 1) line (beginning task) line.rest_from (rest_words line) none_of_words)

@@ -1,5 +1,5 @@
 -- The commands: task(1), under "SUBCOMMANDS".
-use Rattle.std.specs.Prelude.{◌≡◌, ℕ, Bool, true, false, List, [], ◌∷◌, Option, Some, map, codes}
+use Rattle.std.specs.Prelude.{◌≡◌, ℕ, List, [], ◌∷◌, Option, Some, map, codes}
 use Rattle.tw_time.specs.Tables.{look_up}
 use Rattle.tw_words.specs.declared.command.Command.{Command}
 use Rattle.tw_words.specs.declared.command.Command.TheVariants.{Add, Log, Modify, Append, Prepend, Annotate, Denotate, Done, Delete, Purge, Start, Stop, Duplicate, Undo, Sync, Import, Count, Ids, Uuids, Export, Information, Projects, Tags, Next, All, Completed, Waiting, Blocked, Generate}
@@ -72,8 +72,3 @@ filtering_of command = (form_of command).filtering
 -- what the words behind a command are
 abbrev pub rest_of : Command → Rest
 rest_of command = (form_of command).rest
-
--- whether the program carries a command out
-abbrev pub is_built : Command → Bool
-is_built Generate = false
-is_built _ = true

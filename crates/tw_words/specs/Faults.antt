@@ -1,5 +1,5 @@
 -- The first word of a line that is wrong without a look at its filter or at tasks: task(1), under "SUBCOMMANDS" and "MODIFICATIONS".
-use Rattle.std.specs.Prelude.{ℕ, ◌+◌, ◌-◌, ◌==◌, ◌&&◌, ◌||◌, not, nat_le, Bool, false, cond, is_some, is_none, List, [], Option, Some, None, Result, Ok, Err, codes}
+use Rattle.std.specs.Prelude.{ℕ, ◌+◌, ◌-◌, ◌==◌, ◌&&◌, ◌||◌, not, nat_le, Bool, false, cond, is_some, is_none, option_and_then, List, [], Option, Some, None, Result, Ok, Err, codes}
 use Rattle.std.specs.List.{slice_get}
 use Rattle.jiff.specs.Types.{TimeZone}
 use Rattle.tw_model.specs.Maps.{same_bytes}
@@ -10,7 +10,7 @@ use Rattle.tw_filter.specs.declared.bad_word.WordKind.{WordKind}
 use Rattle.tw_filter.specs.declared.bad_word.WordKind.TheVariants as bad
 use Rattle.tw_filter.specs.declared.token.Token.{Token}
 use Rattle.tw_words.specs.Lines.{Parts, parts_of_line}
-use Rattle.tw_words.specs.Commands.{filtering_of, rest_of, is_built}
+use Rattle.tw_words.specs.Commands.{filtering_of, rest_of}
 use Rattle.tw_words.specs.Modifications.{Clock, tally_of, rest_words, number_at, at_word, first_of, first_fault, unless}
 use Rattle.tw_words.specs.declared.tally.Tally.{Tally}
 use Rattle.tw_words.specs.declared.command.Command.{Command}
@@ -41,6 +41,14 @@ lacks_change _ few g = false
 abbrev pub rest_word : Parts → ℕ → Option (List ℕ)
 rest_word line k = slice_get line.words (line.rest_from + k)
 
+abbrev pub or_zero : Option ℕ → ℕ
+or_zero None = 0
+or_zero (Some n) = n
+
+-- the number that such a word is, and 0 where there is no word or it is none
+abbrev pub number_behind : Parts → ℕ → ℕ
+number_behind line k = or_zero (option_and_then natural (rest_word line k))
+
 abbrev pub lacks_by : Rest → Parts → Bool
 lacks_by rest.Modifications line = lacks_change line.command (is_none (rest_word line 0)) (tally_of line)
 lacks_by rest.Text line = is_none (rest_word line 0)
@@ -54,20 +62,12 @@ lacks_filter _ line = false
 abbrev pub at_command : Parts → WordKind → Option BadWord
 at_command line kind = Some (record { word = line.place; kind = kind })
 
--- a command that is not built
-abbrev pub unbuilt_fault : Parts → Option BadWord
-unbuilt_fault line = cond (is_built line.command) None (at_command line bad.Unbuilt)
-
 -- what the command's word lacks
 abbrev pub lack_fault : Parts → Option BadWord
 lack_fault line =
     cond (lacks_by (rest_of line.command) line) (at_command line bad.Missing)
     (cond (lacks_filter (filtering_of line.command) line) (at_command line bad.NoFilter)
     None)
-
--- what is wrong with the command's word
-abbrev pub command_fault : Parts → Option BadWord
-command_fault line = first_of (unbuilt_fault line) (lack_fault line)
 
 abbrev pub at_rest : Parts → ℕ → Option WordKind → Option BadWord
 at_rest line k kind = at_word line (line.rest_from + k) kind
@@ -116,7 +116,7 @@ rest_fault clock line = rest_fault_by (rest_of line.command) clock line
 
 -- the first word that is wrong
 abbrev pub fault_of : Clock → Parts → Option BadWord
-fault_of clock line = first_of (filter_fault line) (first_of (command_fault line) (rest_fault clock line))
+fault_of clock line = first_of (filter_fault line) (first_of (lack_fault line) (rest_fault clock line))
 
 abbrev pub unless_bad : {X : Type 0} → X → Option BadWord → Result X WordError
 unless_bad x None = Ok x
@@ -145,15 +145,10 @@ abbrev pub filter_by : Filtering → Parts → ℕ → TimeZone → Result (List
 filter_by filtering.Nothing line now tz = Ok []
 filter_by _ line now tz = placed_filter line (filter_in line.words line.filter_from line.filter_to line.plain_from now tz)
 
--- the one of two words that stands nearer to the front; of two at one number the first
-abbrev pub sooner : BadWord → Option BadWord → BadWord
-sooner b None = b
-sooner b (Some other) = cond (nat_le b.word other.word) b other
-
--- a filter with what stands behind it; where a word of the filter is wrong, the command's word may be wrong before it
+-- a filter with what stands behind it
 abbrev pub with_rest : Parts → ℕ → TimeZone → Result (List Token) BadWord → Result (List Token) WordError
 with_rest line now tz (Ok filter) = unless_bad filter (fault_of (Some (now, tz)) line)
-with_rest line now tz (Err b) = Err (Bad (sooner b (unbuilt_fault line)))
+with_rest line now tz (Err b) = Err (Bad b)
 
 -- the filter of a line, or the first word that is wrong whatever the tasks are
 abbrev pub judged : Parts → ℕ → TimeZone → Result (List Token) WordError

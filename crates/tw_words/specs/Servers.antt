@@ -6,7 +6,7 @@ use Rattle.tw_words.specs.Address.{parts_in, address_at}
 use Rattle.tw_words.specs.Lines.{parts_of_line}
 use Rattle.tw_words.specs.Settings.{Pair, settings_in, value_of}
 use Rattle.tw_words.specs.declared.address.Address.{Address}
-use Rattle.tw_words.specs.declared.server.Server.{Server}
+use Rattle.tw_words.specs.declared.server.ServerSettings.{ServerSettings}
 use Rattle.tw_words.specs.declared.word_error.WordError.{WordError}
 
 -- the address of the server that settings name
@@ -26,7 +26,7 @@ abbrev pub host_text : List ℕ → ℕ → List ℕ
 host_text host port = (host ++ codes ":") ++ decimal port
 
 -- a server and the client that talks to it, where both are known
-abbrev pub server_of : Option (List ℕ × ℕ) → Option (List ℕ) → Option Server
+abbrev pub server_of : Option (List ℕ × ℕ) → Option (List ℕ) → Option ServerSettings
 server_of None client = None
 server_of (Some x) None = None
 server_of (Some x) (Some client) = Some (record { client = client; host = host_text x.0 x.1 })
@@ -37,5 +37,5 @@ read_by read None = None
 read_by read (Some value) = read value
 
 -- the server that settings name, and the client that talks to it
-abbrev pub server_set : List Pair → Option Server
+abbrev pub server_set : List Pair → Option ServerSettings
 server_set pairs = server_of (read_by parts_in (value_of (codes "sync.server.url") pairs)) (read_by parsed (value_of (codes "sync.server.client_id") pairs))

@@ -1,6 +1,6 @@
 // The commands: task(1), under "SUBCOMMANDS".
 ghost use Rattle.std.specs.Prelude.{◌≡◌};
-ghost use Rattle.tw_words.specs.Commands.{command_named, filtering_of, rest_of, is_built};
+ghost use Rattle.tw_words.specs.Commands.{command_named, filtering_of, rest_of};
 
 use tw_time::look_up;
 
@@ -207,15 +207,5 @@ impl Command {
         ensures { result ≡ rest_of self }
     {
         COMMANDS[self as usize].1.1.rest
-    }
-
-    /// Whether the program carries it out. A line of another command is refused at the command's word.
-    pub fn is_built(self) -> bool
-        ensures { result ≡ is_built self }
-    {
-        match self {
-            Command::Generate => false,
-            _ => true,
-        }
     }
 }

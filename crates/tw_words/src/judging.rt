@@ -3,7 +3,7 @@ ghost use Rattle.std.specs.Prelude.{◌≡◌, ◌<◌, map, string_bytes, optio
 ghost use Rattle.tw_words.specs.Modifications.{first_of};
 ghost use Rattle.tw_words.specs.Clocks.{clock_of};
 ghost use Rattle.tw_words.specs.Commands.{filtering_of, rest_of};
-ghost use Rattle.tw_words.specs.Faults.{filter_fault, lacks_change, lacks_by, lacks_filter, at_command, unbuilt_fault, lack_fault, command_fault, at_rest, if_there, no_dash, no_amount, no_seed, extra_at, dash_fault, numbers_fault, rest_fault, fault_of, line_in, placed, filter_by, sooner, judged};
+ghost use Rattle.tw_words.specs.Faults.{filter_fault, lacks_change, lacks_by, lacks_filter, at_command, lack_fault, at_rest, if_there, no_dash, no_amount, no_seed, extra_at, dash_fault, numbers_fault, rest_fault, fault_of, line_in, placed, filter_by, judged};
 ghost use Rattle.tw_filter.specs.Gives.{Gives as GivesFilter};
 ghost use Rattle.tw_words.specs.Gives.{Gives};
 
@@ -85,17 +85,6 @@ fn at_command(line: &Line, kind: WordKind) -> Option<BadWord>
     })
 }
 
-// A command that is not built.
-fn unbuilt_fault(line: &Line) -> Option<BadWord>
-    ensures { result ≡ unbuilt_fault line.now }
-{
-    if line.command.is_built() {
-        None
-    } else {
-        at_command(line, WordKind::Unbuilt)
-    }
-}
-
 // What the command's word lacks.
 fn lack_fault(line: &Line) -> Option<BadWord>
     ensures { result ≡ lack_fault line.now }
@@ -107,13 +96,6 @@ fn lack_fault(line: &Line) -> Option<BadWord>
         return at_command(line, WordKind::NoFilter);
     }
     None
-}
-
-// What is wrong with the command's word.
-fn command_fault(line: &Line) -> Option<BadWord>
-    ensures { result ≡ command_fault line.now }
-{
-    first_of(unbuilt_fault(line), lack_fault(line))
 }
 
 fn at_rest(line: &Line, k: u64, kind: Option<WordKind>) -> Option<BadWord>
@@ -199,7 +181,7 @@ fn rest_fault(clock: Option<Clock<'_>>, line: &Line) -> Option<BadWord>
 pub fn fault_of(line: &Line, clock: Option<Clock<'_>>) -> Option<BadWord>
     ensures { result ≡ fault_of (clock_of clock.entry) line.now }
 {
-    let behind = first_of(command_fault(line), rest_fault(clock, line));
+    let behind = first_of(lack_fault(line), rest_fault(clock, line));
     first_of(filter_fault(line), behind)
 }
 
@@ -251,18 +233,8 @@ fn filter_of(alloc: Global, line: &Line, now: Moment, zone: &Zone) -> Result<Fil
     }
 }
 
-// The one of two words that stands nearer to the front.
-fn sooner(bad: BadWord, other: Option<BadWord>) -> BadWord
-    ensures { result ≡ sooner bad other }
-{
-    let Some(other) = other else {
-        return bad;
-    };
-    if bad.word <= other.word { bad } else { other }
-}
-
-/// The filter of a line, or the first word that is wrong whatever the tasks are, by its number among the words taken. Of two that are
-/// wrong at one number, `End` comes first. Left is what `first_unnamed` judges.
+/// The filter of a line, or the first word that is wrong whatever the tasks are, by its number among the words taken. Left is
+/// what `first_unnamed` judges.
 pub fn judge_line(alloc: Global, line: &Line, now: Moment, zone: &Zone) -> Result<Filter, WordError>
     ensures { Gives (λ filter. filter) result (judged line.now now.seconds zone.now) }
 {
@@ -271,7 +243,7 @@ pub fn judge_line(alloc: Global, line: &Line, now: Moment, zone: &Zone) -> Resul
             Some(bad) => Err(WordError::Bad(bad)),
             None => Ok(filter),
         },
-        Err(FilterError::Bad(bad)) => Err(WordError::Bad(sooner(bad, unbuilt_fault(line)))),
+        Err(FilterError::Bad(bad)) => Err(WordError::Bad(bad)),
         Err(FilterError::Memory) => Err(WordError::Memory),
     }
 }

@@ -36,7 +36,7 @@ pub use folder::data_folder;
 pub use judging::{fault_of, judge_line, read_line};
 pub use line::{Line, cut_words};
 pub use naming::first_unnamed;
-pub use server::Server;
+pub use server::ServerSettings;
 pub use settings::{Settings, read_settings};
 pub use word_error::WordError;
 

@@ -3,13 +3,14 @@ ghost use Rattle.std.specs.Prelude.{◌≡◌, ◌∷◌, ◌++◌, [], ◌==◌
 ghost use Rattle.std.specs.Option.{option_copied};
 ghost use Rattle.tw_filter.specs.Cuts.{parted};
 ghost use Rattle.tw_words.specs.Commands.{command_named};
-ghost use Rattle.tw_words.specs.Faults.{rest_word};
+ghost use Rattle.tw_words.specs.Faults.{rest_word, number_behind};
 ghost use Rattle.tw_words.specs.Lines.{round_mark, override_in, first_command, kept, dashed, named, overriding, with_word, taken_from, nothing, filter_end, line_with, line_by, parts_of_line};
 
 use crate::command::{Command, Rest, command_named};
 use crate::setting::parted_at_equals;
 use std::alloc::Global;
 use std::marker::Model;
+use tw_text::read_u64;
 use tw_world::{Memory, Text};
 
 /// The parts of a command line: task(1), under "SYNOPSIS". Overrides, the command's word and `--` are no words of it.
@@ -62,6 +63,17 @@ impl Line {
         match self.words.get((self.rest_from + k) as usize) {
             Some(word) => Some(word.as_str()),
             None => None,
+        }
+    }
+
+    /// The number that a word behind the command's word is, counted from 0, and 0 where there is no word or it is none.
+    pub fn number(&self, k: u64) -> u64
+        requires { k < 3 }
+        ensures { result ≡ number_behind self.now k }
+    {
+        match self.rest_word(k) {
+            Some(word) => read_u64(word).unwrap_or(0),
+            None => 0,
         }
     }
 }

@@ -14,7 +14,7 @@ use uuid::Uuid;
 
 /// A sync server, and the client that talks to it.
 #[derive(Drop)]
-pub struct Server {
+pub struct ServerSettings {
     pub client: Uuid,
     /// Its host, a colon and its port.
     pub host: Text,
@@ -34,13 +34,13 @@ fn server_of(
     alloc: Global,
     parts: Option<(&str, u16)>,
     client: Option<Uuid>,
-) -> Result<Option<Server>, Memory>
+) -> Result<Option<ServerSettings>, Memory>
     ensures { IfOk result (λ server. server ≡ server_of (option_map (λ x. (x.0.now, x.1)) parts.entry) client) }
 {
     match (parts, client) {
         (Some((host, port)), Some(client)) => {
             let host = host_text(alloc, host, port)?;
-            Ok(Some(Server { client, host }))
+            Ok(Some(ServerSettings { client, host }))
         }
         _ => Ok(None),
     }
@@ -66,7 +66,7 @@ fn client_of(text: Option<&str>) -> Option<Uuid>
 
 impl Settings {
     /// The sync server that the settings name, where they name a client too.
-    pub fn server(&self, alloc: Global) -> Result<Option<Server>, Memory>
+    pub fn server(&self, alloc: Global) -> Result<Option<ServerSettings>, Memory>
         ensures { IfOk result (λ server. server ≡ server_set self.now) }
     {
         let client = client_of(self.get("sync.server.client_id"));

@@ -1,5 +1,5 @@
 -- Which calls of an object in memory fail, and how many were made and failed.
-use Rattle.std.specs.Prelude.{ℕ, ◌+◌, ◌-◌, ◌^◌, min, Bool, ◌==◌}
+use Rattle.std.specs.Prelude.{ℕ, ◌+◌, ◌-◌, ◌^◌, min, Bool, ◌==◌, List}
 use Rattle.std.specs.List.{list_any}
 use Rattle.tw_world.specs.declared.calls.Calls.{Calls}
 
@@ -7,9 +7,13 @@ use Rattle.tw_world.specs.declared.calls.Calls.{Calls}
 abbrev pub next_count : ℕ → ℕ
 next_count n = min (n + 1) (2 ^ 64 - 1)
 
+-- is the call with this number among those that are to fail?
+abbrev pub is_to_fail : List ℕ → ℕ → Bool
+is_to_fail fails call = list_any (λ number. number == call) fails
+
 -- is the next call one that is to fail?
 abbrev pub is_named : Calls → Bool
-is_named calls = list_any (λ number. number == calls.made) calls.fails.items
+is_named calls = is_to_fail calls.fails.items calls.made
 
 -- one call more
 abbrev pub counted : Calls → Calls

@@ -4,7 +4,7 @@ use Rattle.std.specs.FinMap.{empty, insert}
 use Rattle.std.proofs.Common.{arith, sym, ◌∙◌, ap, String, Vec, Global}
 use Rattle.std.specs.String.{string_bytes}
 use Rattle.std.proofs.lemmas.List.{take_all}
-use Rattle.tw_world.specs.Calls.{is_named, counted, failed}
+use Rattle.tw_world.specs.Calls.{is_to_fail, counted, failed}
 use Rattle.tw_world.specs.Folder.{Files, FolderModel, same_bytes}
 use Rattle.tw_world.specs.declared.memory_folder.MemoryFolder.{MemoryFolder}
 
@@ -53,13 +53,17 @@ pub record IsPut (name bytes : List ℕ) (old new : List Put) : Type 0 where
   pub name_is : string_bytes one.0 ≡ name
   pub bytes_are : one.1.items ≡ bytes
 
--- is the next call one that is to fail?
-abbrev pub folder_due : MemoryFolder → Bool
-folder_due f = is_named f.calls
-
 -- how many calls were made
 abbrev pub folder_calls : MemoryFolder → ℕ
 folder_calls f = f.calls.made
+
+-- the numbers of the calls that are to fail
+abbrev pub folder_fails : MemoryFolder → List ℕ
+folder_fails f = f.calls.fails.items
+
+-- is the next call one that is to fail?
+abbrev pub folder_due : MemoryFolder → Bool
+folder_due f = is_to_fail (folder_fails f) (folder_calls f)
 
 -- only the count of calls and that of faults went up
 abbrev pub FolderRefused : MemoryFolder → MemoryFolder → Type 0

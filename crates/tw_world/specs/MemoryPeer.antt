@@ -1,7 +1,7 @@
 -- A peer in memory.
 use Rattle.std.specs.Prelude.{◌≡◌, ℕ, Bool, List, true, drop}
 use Rattle.tw_world.specs.Peer.{PeerModel}
-use Rattle.tw_world.specs.Calls.{is_named, counted, failed}
+use Rattle.tw_world.specs.Calls.{is_to_fail, counted, failed}
 use Rattle.tw_world.specs.declared.memory_peer.MemoryPeer.{MemoryPeer}
 
 -- the bytes that are still to be read
@@ -15,13 +15,17 @@ peer_bytes p = p.written.items
 abbrev pub memory_peer_model : PeerModel MemoryPeer
 memory_peer_model = record { faults = λ p. p.calls.faults; tells = λ p. true; rest = peer_rest; held = peer_bytes }
 
--- is the next call one that is to fail?
-abbrev pub peer_due : MemoryPeer → Bool
-peer_due p = is_named p.calls
-
 -- how many calls were made, of both kinds
 abbrev pub peer_calls : MemoryPeer → ℕ
 peer_calls p = p.calls.made
+
+-- the numbers of the calls that are to fail
+abbrev pub peer_fails : MemoryPeer → List ℕ
+peer_fails p = p.calls.fails.items
+
+-- is the next call one that is to fail?
+abbrev pub peer_due : MemoryPeer → Bool
+peer_due p = is_to_fail (peer_fails p) (peer_calls p)
 
 -- only the count of calls and that of faults went up
 abbrev pub PeerRefused : MemoryPeer → MemoryPeer → Type 0

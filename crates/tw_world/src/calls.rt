@@ -27,6 +27,7 @@ impl Calls {
         ensures failed { result ≡ true → self.new ≡ failed (counted self.old) }
         ensures counted { result ≡ false → self.new ≡ counted self.old }
         ensures later { self.old.faults ≤ self.new.faults }
+        ensures fails { self.new.fails ≡ self.old.fails }
     {
         let call = self.made;
         self.made = self.made.saturating_add(1);
@@ -41,6 +42,7 @@ impl Calls {
     pub fn fault(&mut self)
         ensures failed { self.new ≡ failed self.old }
         ensures later { self.old.faults ≤ self.new.faults }
+        ensures fails { self.new.fails ≡ self.old.fails }
     {
         self.faults = self.faults.saturating_add(1);
     }

@@ -24,7 +24,7 @@ pub struct MemoryFolder {
 }
 
 impl MemoryFolder {
-    ghost use Rattle.tw_world.specs.MemoryFolder.{held_files, folder_calls, after};
+    ghost use Rattle.tw_world.specs.MemoryFolder.{memory_folder_model, held_files, folder_calls, folder_fails, after};
 
     /// A folder with these files, by their names; where a name stands twice the later one counts. It needs no memory of its own.
     pub fn new(
@@ -32,7 +32,7 @@ impl MemoryFolder {
         content: Vec<(String, Vec<u8>)>,
         fails: Vec<u64>,
     ) -> Result<MemoryFolder, Memory>
-        ensures { IfOk result (λ folder. (held_files folder ≡ after empty content.items) × (folder_calls folder ≡ 0)) }
+        ensures { IfOk result (λ folder. (held_files folder ≡ after empty content.items) × (folder_calls folder ≡ 0) × (folder_fails folder ≡ fails.items) × (memory_folder_model.faults folder ≡ 0)) }
     {
         Ok(MemoryFolder {
             alloc,
@@ -133,7 +133,7 @@ fn put_file(
 }
 
 impl Folder for MemoryFolder {
-    ghost use Rattle.tw_world.specs.MemoryFolder.{memory_folder_model, folder_counts_now, folder_only_now, folder_due, folder_calls, FolderRefused};
+    ghost use Rattle.tw_world.specs.MemoryFolder.{memory_folder_model, folder_counts_now, folder_only_now, folder_due, folder_calls, folder_fails, FolderRefused};
     ghost use Rattle.std.specs.Prelude.{refl};
 
     ghost model = { memory_folder_model };
@@ -149,9 +149,13 @@ impl Folder for MemoryFolder {
         ensures reads { Reads memory_folder_model self.old self.new }
         ensures failed { IsErrOf result FolderError.Failed → Rose (memory_folder_model.faults self.old) (memory_folder_model.faults self.new) }
 
-        // A call that is named fails.
+        // A call that is named fails, and no other answers `Failed`.
         ensures named { folder_due self.old ≡ true → (result ≡ Err FolderError.Failed) × FolderRefused self.old self.new }
         ensures calls { folder_calls self.new ≡ next_count (folder_calls self.old) }
+        ensures fails { folder_fails self.new ≡ folder_fails self.old }
+        ensures well { OnOk result (memory_folder_model.faults self.new ≡ memory_folder_model.faults self.old) }
+        ensures other { IsErrOf result FolderError.Failed → folder_due self.old ≡ true }
+        ensures memory { IsErrOf result FolderError.Memory → memory_folder_model.faults self.new ≡ memory_folder_model.faults self.old }
     {
         if self.calls.begin() {
             return Err(FolderError::Failed);
@@ -168,6 +172,10 @@ impl Folder for MemoryFolder {
         ensures failed { IsErrOf result FolderError.Failed → Rose (memory_folder_model.faults self.old) (memory_folder_model.faults self.new) }
         ensures named { folder_due self.old ≡ true → (result ≡ Err FolderError.Failed) × FolderRefused self.old self.new }
         ensures calls { folder_calls self.new ≡ next_count (folder_calls self.old) }
+        ensures fails { folder_fails self.new ≡ folder_fails self.old }
+        ensures well { OnOk result (memory_folder_model.faults self.new ≡ memory_folder_model.faults self.old) }
+        ensures other { IsErrOf result FolderError.Failed → folder_due self.old ≡ true }
+        ensures memory { IsErrOf result FolderError.Memory → memory_folder_model.faults self.new ≡ memory_folder_model.faults self.old }
     {
         if self.calls.begin() {
             return Err(FolderError::Failed);
@@ -190,6 +198,8 @@ impl Folder for MemoryFolder {
         ensures same { OnErr result (memory_folder_model.seen self.new ≡ memory_folder_model.seen self.old) }
         ensures named { folder_due self.old ≡ true → (result ≡ Err FolderError.Failed) × FolderRefused self.old self.new }
         ensures calls { folder_calls self.new ≡ next_count (folder_calls self.old) }
+        ensures fails { folder_fails self.new ≡ folder_fails self.old }
+        ensures well { OnOk result (memory_folder_model.faults self.new ≡ memory_folder_model.faults self.old) }
     {
         if self.calls.begin() {
             return Err(FolderError::Failed);

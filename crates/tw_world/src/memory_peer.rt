@@ -22,11 +22,11 @@ pub struct MemoryPeer {
 }
 
 impl MemoryPeer {
-    ghost use Rattle.tw_world.specs.MemoryPeer.{peer_rest, peer_bytes, peer_calls};
+    ghost use Rattle.tw_world.specs.MemoryPeer.{memory_peer_model, peer_rest, peer_bytes, peer_calls, peer_fails};
 
     /// A peer that gives these bytes and got none.
     pub fn new(alloc: Global, content: Vec<u8>, fails: Vec<u64>) -> Result<MemoryPeer, Memory>
-        ensures { IfOk result (λ peer. (peer_rest peer ≡ content.items) × (peer_bytes peer ≡ []) × (peer_calls peer ≡ 0)) }
+        ensures { IfOk result (λ peer. (peer_rest peer ≡ content.items) × (peer_bytes peer ≡ []) × (peer_calls peer ≡ 0) × (peer_fails peer ≡ fails.items) × (memory_peer_model.faults peer ≡ 0)) }
     {
         Ok(MemoryPeer {
             content,
@@ -45,7 +45,7 @@ impl MemoryPeer {
 }
 
 impl Peer for MemoryPeer {
-    ghost use Rattle.tw_world.specs.MemoryPeer.{memory_peer_model, peer_due, peer_calls, PeerRefused};
+    ghost use Rattle.tw_world.specs.MemoryPeer.{memory_peer_model, peer_due, peer_calls, peer_fails, PeerRefused};
 
     ghost model = { memory_peer_model };
 
@@ -63,6 +63,8 @@ impl Peer for MemoryPeer {
         ensures named { peer_due self.old ≡ true → (result ≡ Err StreamError.Failed) × PeerRefused self.old self.new }
         ensures other { OnErr result (peer_due self.old ≡ true) }
         ensures calls { peer_calls self.new ≡ next_count (peer_calls self.old) }
+        ensures fails { peer_fails self.new ≡ peer_fails self.old }
+        ensures well { OnOk result (memory_peer_model.faults self.new ≡ memory_peer_model.faults self.old) }
     {
         if self.calls.begin() {
             return Err(StreamError::Failed);
@@ -83,6 +85,8 @@ impl Peer for MemoryPeer {
         // A call that is named fails. Another may, where there is no memory.
         ensures named { peer_due self.old ≡ true → (result ≡ Err StreamError.Failed) × PeerRefused self.old self.new }
         ensures calls { peer_calls self.new ≡ next_count (peer_calls self.old) }
+        ensures fails { peer_fails self.new ≡ peer_fails self.old }
+        ensures well { OnOk result (memory_peer_model.faults self.new ≡ memory_peer_model.faults self.old) }
     {
         if self.calls.begin() {
             return Err(StreamError::Failed);

@@ -1,5 +1,5 @@
 // A source in memory.
-ghost use Rattle.std.specs.Prelude.{◌≡◌, ◌<◌, ◌≤◌, true, length, drop, IfOk, OnErr};
+ghost use Rattle.std.specs.Prelude.{◌≡◌, ◌<◌, ◌≤◌, true, length, drop, IfOk, OnOk, OnErr};
 ghost use Rattle.tw_world.specs.Disk.{Rose};
 ghost use Rattle.tw_world.specs.Source.{SourceKept, Gave, GaveNothing};
 ghost use Rattle.tw_world.specs.Calls.{next_count};
@@ -18,11 +18,11 @@ pub struct MemorySource {
 }
 
 impl MemorySource {
-    ghost use Rattle.tw_world.specs.MemorySource.{source_rest, source_calls};
+    ghost use Rattle.tw_world.specs.MemorySource.{memory_source_model, source_rest, source_calls, source_fails};
 
     /// A source that gives these bytes. It needs no memory of its own.
     pub fn new(_alloc: Global, content: Vec<u8>, fails: Vec<u64>) -> Result<MemorySource, Memory>
-        ensures { IfOk result (λ source. (source_rest source ≡ content.items) × (source_calls source ≡ 0)) }
+        ensures { IfOk result (λ source. (source_rest source ≡ content.items) × (source_calls source ≡ 0) × (source_fails source ≡ fails.items) × (memory_source_model.faults source ≡ 0)) }
     {
         Ok(MemorySource {
             content,
@@ -33,7 +33,7 @@ impl MemorySource {
 }
 
 impl Source for MemorySource {
-    ghost use Rattle.tw_world.specs.MemorySource.{memory_source_model, source_due, source_calls, SourceRefused};
+    ghost use Rattle.tw_world.specs.MemorySource.{memory_source_model, source_due, source_calls, source_fails, SourceRefused};
 
     ghost model = { memory_source_model };
 
@@ -50,6 +50,8 @@ impl Source for MemorySource {
         ensures named { source_due self.old ≡ true → (result ≡ Err StreamError.Failed) × SourceRefused self.old self.new }
         ensures other { OnErr result (source_due self.old ≡ true) }
         ensures calls { source_calls self.new ≡ next_count (source_calls self.old) }
+        ensures fails { source_fails self.new ≡ source_fails self.old }
+        ensures well { OnOk result (memory_source_model.faults self.new ≡ memory_source_model.faults self.old) }
     {
         if self.calls.begin() {
             return Err(StreamError::Failed);

@@ -69,7 +69,14 @@ list|( > 2 End
 )|list > 0 Bracket
 x|import|y > 0 Extra
 import|x > 1 Extra
-_generate|0|0 > 0 Unbuilt
+_generate|0|0 > 1 Value
+_generate|10000|18446744073709551615 > right
+_generate|10001|0 > 1 Value
+_generate|1|18446744073709551616 > 2 Value
+_generate|01|0 > 1 Value
+_generate|1 > 0 Missing
+_generate|1|0|0 > 3 Extra
+x|_generate|1|0 > 0 Extra
 1|--|done > right";
 
 fn text_of<T: Drop>(alloc: Global, judged: Result<T, WordError>) -> Result<String, Memory> {
@@ -89,7 +96,7 @@ fn the_first_bad_word_is_named(rt: HostRuntime) -> Result<(), Fail> {
         let judged = text_of(alloc, judge_line(alloc, &line, NOW, &Zone::utc()))?;
         assert_eq!(rt; judged.as_str(), want, "{row}");
     }
-    assert_eq!(rt; ROWS.split('\n').count(), 61);
+    assert_eq!(rt; ROWS.split('\n').count(), 68);
     Ok(())
 }
 

@@ -31,15 +31,15 @@ returns-in_err-text-clause-any_moment g c = λ bodies history on. among_here g.F
 pub returns-in-Some-clause-ends : goal.returns-in-Some-clause-ends
 returns-in-Some-clause-ends g c = λ bodies history on.
     view_ends g.F.Folder.model g.D.Disk.model c.args.store c.args.folder.now c.args.disk.now bodies history on c.args.command.now c.args.now c.args.zone.now (sym c.is_undo.ensures ∙ c.if-is_undo.false) (sym c.is_view.ensures ∙ c.if-not-is_view.false) c.in-Some.text.items
-    (ap (λ (rows : List Interval). view_of c.args.command.now rows c.args.now c.args.zone.now) (sym c.intervals.ensures) ∙ some_view _ c.in_ok-text.field-0 c.in-Some.text _ c.in-Some.is c.in_ok-text.ensures)
+    (ap (λ (rows : List Interval). view_of c.args.command.now rows c.args.now c.args.zone.now) (sym c.intervals.ensures) ∙ some_view _ c.in_ok-text.text c.in-Some.text _ c.in-Some.is c.in_ok-text.ensures)
 
 pub returns-in-Some-clause-any_moment : goal.returns-in-Some-clause-any_moment
 returns-in-Some-clause-any_moment g c = λ bodies history on. among_here g.F.Folder.model g.D.Disk.model c.args.store c.args.folder.now c.args.disk.now bodies history _ on
 
-pub returns-clause-ends : goal.returns-clause-ends
-returns-clause-ends g c = λ bodies history on.
+pub returns-in-None-clause-ends : goal.returns-in-None-clause-ends
+returns-in-None-clause-ends g c = λ bodies history on.
     view_fails g.F.Folder.model g.D.Disk.model c.args.store c.args.folder.now c.args.disk.now bodies history on c.args.command.now c.args.now c.args.zone.now (sym c.is_undo.ensures ∙ c.if-is_undo.false) (sym c.is_view.ensures ∙ c.if-not-is_view.false)
-    (ap (λ (rows : List Interval). view_of c.args.command.now rows c.args.now c.args.zone.now) (sym c.intervals.ensures) ∙ none_view _ c.in_ok-text.field-0 _ c.in-None.is c.in_ok-text.ensures)
+    (ap (λ (rows : List Interval). view_of c.args.command.now rows c.args.now c.args.zone.now) (sym c.intervals.ensures) ∙ none_view _ c.in_ok-text.text _ c.in-None.is c.in_ok-text.ensures)
 
-pub returns-clause-any_moment : goal.returns-clause-any_moment
-returns-clause-any_moment g c = λ bodies history on. among_here g.F.Folder.model g.D.Disk.model c.args.store c.args.folder.now c.args.disk.now bodies history _ on
+pub returns-in-None-clause-any_moment : goal.returns-in-None-clause-any_moment
+returns-in-None-clause-any_moment g c = λ bodies history on. among_here g.F.Folder.model g.D.Disk.model c.args.store c.args.folder.now c.args.disk.now bodies history _ on

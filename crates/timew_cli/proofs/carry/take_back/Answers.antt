@@ -28,7 +28,7 @@ returns-in_err-undo-clause-any_moment g c = λ bodies history on.
 
 pub returns-clause-ends : goal.returns-clause-ends
 returns-clause-ends g c = λ bodies history on.
-    undo_done g.F.Folder.model g.D.Disk.model c.args.store c.undo.new.self c.args.folder.now c.undo.new.folder c.args.disk.now c.undo.new.disk bodies history c.len.result (c.len.ensures ∙ ap (λ (rows : List Interval). length rows) c.intervals.ensures) (c.in_ok-undo.ensures.undone bodies history on)
+    undo_done g.F.Folder.model g.D.Disk.model c.args.store c.undo.new.self c.args.folder.now c.undo.new.folder c.args.disk.now c.undo.new.disk bodies history c.len-count.result (c.len-count.ensures ∙ ap (λ (rows : List Interval). length rows) c.intervals.ensures) (c.in_ok-undo.ensures.undone bodies history on)
 
 pub returns-clause-any_moment : goal.returns-clause-any_moment
 returns-clause-any_moment g c = λ bodies history on.

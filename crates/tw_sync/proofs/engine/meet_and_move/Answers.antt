@@ -5,7 +5,7 @@ use Rattle.tw_replica.specs.Core.{state_of}
 use Rattle.tw_replica.proofs.Standing.{nothing_written}
 use Rattle.tw_http.specs.Link.{IsHonest}
 use Rattle.tw_sync.specs.Fold.{Agrees}
-use Rattle.tw_sync.specs.Sync.{told}
+use Rattle.tw_sync.specs.Sync.{server_chain}
 use Rattle.tw_sync.specs.Causes.{of_record}
 use Rattle.tw_sync.specs.Keeping.{moved_state}
 use Rattle.tw_sync.proofs.Folds.{agrees_is_kept}
@@ -19,18 +19,18 @@ use Rattle.tw_sync.proofs.Moved.{made_report, sync_end, moved_to, end_in, record
 use Rattle.tw_sync.proofs.Resumed.{sends_later}
 use Rattle.tw_sync.proofs.engine.meet_and_move.Goals as goal
 
--- ---- no place to begin at
+-- ---- no cursor to begin at
 
-pub returns-in_err-place-clause-any : goal.returns-in_err-place-clause-any
-returns-in_err-place-clause-any g c = record {
+pub returns-in_err-cursor-clause-any : goal.returns-in_err-cursor-clause-any
+returns-in_err-cursor-clause-any g c = record {
   agrees = λ honest a. a;
   grows = λ honest. grows_same (g.L.Link.model.chain c.args.link.now);
   any_moment = λ bodies on. record { next = None; end = λ h. tt; leaves = nothing_written g.D.Disk.model g.met.D.Disk.only_now c.args.replica.now c.args.disk.now bodies None on };
   link_kept = kept_same g.L.Link.model c.args.link.now;
 }
 
-pub returns-in_err-place-clause-refused : goal.returns-in_err-place-clause-refused
-returns-in_err-place-clause-refused g c =
+pub returns-in_err-cursor-clause-refused : goal.returns-in_err-cursor-clause-refused
+returns-in_err-cursor-clause-refused g c =
     let m = g.L.Link.model in
     let first = c.args.link.now in
     passed_on c.from_residual.result _ _ c.from_residual.ensures.1
@@ -52,7 +52,7 @@ returns-in_err-pushed-clause-any g c =
     let state = state_of old.core in
     let first = c.args.link.now in
     let now = c.meet.new.link in
-    let s = starts m c.args.client c.args.host.now state first c.in_ok-place.place (g.met.L.Link.tells_chain first) c.in_ok-place.ensures in
+    let s = starts m c.args.client c.args.host.now state first c.in_ok-cursor.cursor (g.met.L.Link.tells_chain first) c.in_ok-cursor.ensures in
     let st = c.in_err-pushed.ensures.stopped state first s in
     record {
       agrees = λ honest a. agrees_is_kept state (m.chain first) (m.chain now) a (st.come honest).grows;
@@ -71,7 +71,7 @@ returns-in_err-pushed-clause-refused g c =
     let first = c.args.link.now in
     let now = c.meet.new.link in
     let client = c.args.client in
-    let s = starts m client c.args.host.now state first c.in_ok-place.place (g.met.L.Link.tells_chain first) c.in_ok-place.ensures in
+    let s = starts m client c.args.host.now state first c.in_ok-cursor.cursor (g.met.L.Link.tells_chain first) c.in_ok-cursor.ensures in
     let st = c.in_err-pushed.ensures.stopped state first s in
     let e = c.in_err-pushed.field-0.0 in
     let refused = stopped_refused d m old disk first now e c.requires.open st.cause in
@@ -92,9 +92,9 @@ overflow_sub-report g c =
     let m = g.L.Link.model in
     let first = c.args.link.now in
     let state = state_of c.args.replica.now.core in
-    let s = starts m c.args.client c.args.host.now state first c.in_ok-place.place (g.met.L.Link.tells_chain first) c.in_ok-place.ensures in
-    let count : c.len-pending.result ≡ length c.in_ok-place.place.left.items = search rules in
-    let pending = ap length c.in_ok-place.ensures.left in
+    let s = starts m c.args.client c.args.host.now state first c.in_ok-cursor.cursor (g.met.L.Link.tells_chain first) c.in_ok-cursor.ensures in
+    let count : c.len-pending.result ≡ length c.in_ok-cursor.cursor.left.items = search rules in
+    let pending = ap length c.in_ok-cursor.ensures.left in
     let few = (c.in_ok-pushed.ensures.met state first s).fewer in
     omega (arith, count, pending, few)
 
@@ -109,20 +109,20 @@ returns-in_err-stand_at-clause-any g c =
     let first = c.args.link.now in
     let now = c.meet.new.link in
     let client = c.args.client in
-    let s = starts m client c.args.host.now state first c.in_ok-place.place (g.met.L.Link.tells_chain first) c.in_ok-place.ensures in
+    let s = starts m client c.args.host.now state first c.in_ok-cursor.cursor (g.met.L.Link.tells_chain first) c.in_ok-cursor.ensures in
     let met = c.in_ok-pushed.ensures.met state first s in
-    let place = c.meet.new.place in
+    let cursor = c.meet.new.cursor in
     let sent = c.in_ok-pushed.pushed in
-    let count : c.len-pending.result ≡ length c.in_ok-place.place.left.items = search rules in
-    let pending = ap length c.in_ok-place.ensures.left in
+    let count : c.len-pending.result ≡ length c.in_ok-cursor.cursor.left.items = search rules in
+    let pending = ap length c.in_ok-cursor.ensures.left in
     let few = met.fewer in
     let dropped = c.len-pending.result - sent in
     let sum : (c.len-pending.result - c.in_ok-pushed.pushed) + c.in_ok-pushed.pushed ≡ length (plain c.args.replica.now.core.pending.items) = omega (arith, count, pending, few) in
-    let same = unmoved_state d m client old c.stand_at.new.replica c.args.disk.now c.stand_at.new.disk first now place sent c.requires.open c.in_err-stand_at.field-0.0 c.in_err-stand_at.ensures.refused in
+    let same = unmoved_state d m client old c.stand_at.new.replica c.args.disk.now c.stand_at.new.disk first now cursor sent c.requires.open c.in_err-stand_at.field-0.0 c.in_err-stand_at.ensures.refused in
     record {
       agrees = λ honest a. subst (λ t. Agrees t (m.chain now)) (sym same) (agrees_is_kept state (m.chain first) (m.chain now) a (met.come honest).on.grows);
       grows = λ honest. (met.come honest).on.grows;
-      any_moment = λ bodies on. record { next = moved_state place state; end = λ honest. end_in m client state first now place dropped sent (met.come honest) sum; leaves = c.stand_at.ensures.any_moment bodies on };
+      any_moment = λ bodies on. record { next = moved_state cursor state; end = λ honest. end_in m client state first now cursor dropped sent (met.come honest) sum; leaves = c.stand_at.ensures.any_moment bodies on };
       link_kept = met.kept;
     }
 
@@ -136,27 +136,27 @@ returns-in_err-stand_at-clause-refused g c =
     let now = c.meet.new.link in
     let client = c.args.client in
     let host = c.args.host.now in
-    let s = starts m client host state first c.in_ok-place.place (g.met.L.Link.tells_chain first) c.in_ok-place.ensures in
+    let s = starts m client host state first c.in_ok-cursor.cursor (g.met.L.Link.tells_chain first) c.in_ok-cursor.ensures in
     let met = c.in_ok-pushed.ensures.met state first s in
     let new = c.stand_at.new.replica in
     let before = c.args.disk.now in
     let after = c.stand_at.new.disk in
-    let place = c.meet.new.place in
+    let cursor = c.meet.new.cursor in
     let sent = c.in_ok-pushed.pushed in
     let e = c.in_err-stand_at.field-0.0 in
     let un = c.in_err-stand_at.ensures.refused in
     let live = c.requires.open in
-    let refused = unmoved_refused d m client old new before after first now place sent live e un in
+    let refused = unmoved_refused d m client old new before after first now cursor sent live e un in
     passed_on c.from_residual-in_err-stand_at.result _ _ c.from_residual-in_err-stand_at.ensures.1
     (record {
-      added = λ honest. may_have_added m client state first now place sent (met.come honest);
-      added_only = λ honest. inl (unmoved_may_add d m client old new before after first now place sent live e un);
+      added = λ honest. may_have_added m client state first now cursor sent (met.come honest);
+      added_only = λ honest. inl (unmoved_may_add d m client old new before after first now cursor sent live e un);
       refused = refused;
-      honest = λ honest. unmoved_honest d m client old new before after first now place sent live (met.come honest) e un;
-      complete = λ can. can_sync d m old new before after first now client (of_record e) can refused (unmoved_honest d m client old new before after first now place sent live (met.come can.honest) e un);
+      honest = λ honest. unmoved_honest d m client old new before after first now cursor sent live (met.come honest) e un;
+      complete = λ can. can_sync d m old new before after first now client (of_record e) can refused (unmoved_honest d m client old new before after first now cursor sent live (met.come can.honest) e un);
       heard = λ tells. (
           let t = met.heard tells in
-          (t.hs, hears_until m client host first now t.hs (of_record e) t.hears, unmoved_cause d m client old new before after first now place sent live t.hs e un t.goes_on, λ honest. (let n = (met.come honest).few in let b = t.brought_is in omega (arith, n, b))));
+          (t.hs, hears_until m client host first now t.hs (of_record e) t.hears, unmoved_cause d m client old new before after first now cursor sent live t.hs e un t.goes_on, λ honest. (let n = (met.come honest).few in let b = t.brought_is in omega (arith, n, b))));
     })
 
 -- ---- the replica is moved
@@ -171,21 +171,21 @@ returns-clause-any g c =
     let first = c.args.link.now in
     let now = c.meet.new.link in
     let client = c.args.client in
-    let s = starts m client c.args.host.now state first c.in_ok-place.place (g.met.L.Link.tells_chain first) c.in_ok-place.ensures in
+    let s = starts m client c.args.host.now state first c.in_ok-cursor.cursor (g.met.L.Link.tells_chain first) c.in_ok-cursor.ensures in
     let met = c.in_ok-pushed.ensures.met state first s in
-    let place = c.meet.new.place in
+    let cursor = c.meet.new.cursor in
     let sent = c.in_ok-pushed.pushed in
-    let count : c.len-pending.result ≡ length c.in_ok-place.place.left.items = search rules in
-    let pending = ap length c.in_ok-place.ensures.left in
+    let count : c.len-pending.result ≡ length c.in_ok-cursor.cursor.left.items = search rules in
+    let pending = ap length c.in_ok-cursor.ensures.left in
     let few = met.fewer in
     let dropped = c.len-pending.result - sent in
     let sum : (c.len-pending.result - c.in_ok-pushed.pushed) + c.in_ok-pushed.pushed ≡ length (plain c.args.replica.now.core.pending.items) = omega (arith, count, pending, few) in
-    let moved = moved_to d old new c.args.disk.now c.stand_at.new.disk place (moved_state place state) c.in_ok-stand_at.ensures.moved in
+    let moved = moved_to d old new c.args.disk.now c.stand_at.new.disk cursor (moved_state cursor state) c.in_ok-stand_at.ensures.moved in
     record {
-      agrees = λ honest a. sync_end_agrees state (state_of new.core) (told m first) (told m now) (made_report place dropped sent) (met.come honest).on.whole a
-          (sync_end m client state (state_of new.core) first now place dropped sent (met.come honest) sum moved);
+      agrees = λ honest a. sync_end_agrees state (state_of new.core) (server_chain m first) (server_chain m now) (made_report cursor dropped sent) (met.come honest).on.whole a
+          (sync_end m client state (state_of new.core) first now cursor dropped sent (met.come honest) sum moved);
       grows = λ honest. (met.come honest).on.grows;
-      any_moment = λ bodies on. record { next = moved_state place state; end = λ honest. end_in m client state first now place dropped sent (met.come honest) sum; leaves = c.stand_at.ensures.any_moment bodies on };
+      any_moment = λ bodies on. record { next = moved_state cursor state; end = λ honest. end_in m client state first now cursor dropped sent (met.come honest) sum; leaves = c.stand_at.ensures.any_moment bodies on };
       link_kept = met.kept;
     }
 
@@ -201,20 +201,20 @@ returns-clause-done g c =
     let first = c.args.link.now in
     let now = c.meet.new.link in
     let client = c.args.client in
-    let s = starts m client c.args.host.now state first c.in_ok-place.place (g.met.L.Link.tells_chain first) c.in_ok-place.ensures in
+    let s = starts m client c.args.host.now state first c.in_ok-cursor.cursor (g.met.L.Link.tells_chain first) c.in_ok-cursor.ensures in
     let met = c.in_ok-pushed.ensures.met state first s in
-    let place = c.meet.new.place in
+    let cursor = c.meet.new.cursor in
     let sent = c.in_ok-pushed.pushed in
-    let count : c.len-pending.result ≡ length c.in_ok-place.place.left.items = search rules in
-    let pending = ap length c.in_ok-place.ensures.left in
+    let count : c.len-pending.result ≡ length c.in_ok-cursor.cursor.left.items = search rules in
+    let pending = ap length c.in_ok-cursor.ensures.left in
     let few = met.fewer in
     let dropped = c.len-pending.result - sent in
     let sum : (c.len-pending.result - c.in_ok-pushed.pushed) + c.in_ok-pushed.pushed ≡ length (plain c.args.replica.now.core.pending.items) = omega (arith, count, pending, few) in
     let moved = c.in_ok-stand_at.ensures.moved in
     record {
-      ended = λ honest. sync_end m client state (state_of new.core) first now place dropped sent (met.come honest) sum (moved_to d old new before after place (moved_state place state) moved);
-      cancels = λ honest a mine later was. sends_later m client state first now place dropped sent mine later was a.sound (met.come honest);
-      records = λ bodies on. records_are d m client old new before after first now place sent (IsHonest m first client) met.come moved bodies on;
+      ended = λ honest. sync_end m client state (state_of new.core) first now cursor dropped sent (met.come honest) sum (moved_to d old new before after cursor (moved_state cursor state) moved);
+      cancels = λ honest a mine later was. sends_later m client state first now cursor dropped sent mine later was a.sound (met.come honest);
+      records = λ bodies on. records_are d m client old new before after first now cursor sent (IsHonest m first client) met.come moved bodies on;
       heard = λ tells. (let t = met.heard tells in (t.hs, t.hears, record { ended = t.ended; brought_is = t.brought_is; goes_on = t.goes_on }));
       exchanges = λ honest. (met.come honest).few;
     }

@@ -1,4 +1,4 @@
-use Rattle.tw_sync.proofs.Places.{chain_fits}
+use Rattle.tw_sync.proofs.PositionLemmas.{chain_fits}
 use Rattle.tw_sync.proofs.laws.chain_fits.Goals as goal
 
 pub returns : goal.returns

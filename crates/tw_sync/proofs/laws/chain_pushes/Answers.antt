@@ -1,4 +1,4 @@
-use Rattle.tw_sync.proofs.Places.{chain_pushes}
+use Rattle.tw_sync.proofs.PositionLemmas.{chain_pushes}
 use Rattle.tw_sync.proofs.laws.chain_pushes.Goals as goal
 
 pub returns : goal.returns

@@ -1,4 +1,4 @@
-use Rattle.tw_sync.proofs.Places.{chain_starts}
+use Rattle.tw_sync.proofs.PositionLemmas.{chain_starts}
 use Rattle.tw_sync.proofs.laws.chain_starts.Goals as goal
 
 pub returns : goal.returns

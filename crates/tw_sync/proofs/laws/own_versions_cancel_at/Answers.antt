@@ -1,4 +1,4 @@
-use Rattle.tw_sync.proofs.Places.{own_versions_cancel_at}
+use Rattle.tw_sync.proofs.PositionLemmas.{own_versions_cancel_at}
 use Rattle.tw_sync.proofs.laws.own_versions_cancel_at.Goals as goal
 
 pub returns : goal.returns

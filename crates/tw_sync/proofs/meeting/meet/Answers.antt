@@ -11,20 +11,20 @@ returns-in_err-operations-clause-stopped g c =
 
 pub returns-in-Added-clause-met : goal.returns-in-Added-clause-met
 returns-in-Added-clause-met g c = λ state first s.
-    subst (λ r. Pushes r g.L.Link.model c.args.client c.args.host.now state first c.push.new.link c.push.new.place) c.in-Added.is (c.in_ok-operations.ensures.pushed state first (c.loop-alloc.invariant.pulled state first s))
+    subst (λ r. Pushes r g.L.Link.model c.args.client c.args.host.now state first c.push.new.link c.push.new.cursor) c.in-Added.is (c.in_ok-operations.ensures.pushed state first (c.loop-alloc.invariant.pulled state first s))
 
 pub loop-alloc-preserved : goal.loop-alloc-preserved
 loop-alloc-preserved g c = record {
-  pulled = λ state first s. c.in_ok-pull_late-in-Late.ensures.pulled state first (subst (λ r. Pushes r g.L.Link.model c.args.client c.args.host.now state first c.push.new.link c.push.new.place) c.in-Late.is (c.in_ok-operations.ensures.pushed state first (c.loop-alloc.invariant.pulled state first s)));
+  pulled = λ state first s. c.in_ok-pull_late-in-Late.ensures.pulled state first (subst (λ r. Pushes r g.L.Link.model c.args.client c.args.host.now state first c.push.new.link c.push.new.cursor) c.in-Late.is (c.in_ok-operations.ensures.pushed state first (c.loop-alloc.invariant.pulled state first s)));
   few = c.in_ok-pull_late-in-Late.ensures.few;
 }
 
 pub returns-in_err-pull_late-in-Late-clause-stopped : goal.returns-in_err-pull_late-in-Late-clause-stopped
 returns-in_err-pull_late-in-Late-clause-stopped g c =
     passed_on c.from_residual-in_err-pull_late-in-Late.result _ _ c.from_residual-in_err-pull_late-in-Late.ensures.1
-    (λ state first s. c.in_err-pull_late-in-Late.ensures.stopped state first (subst (λ r. Pushes r g.L.Link.model c.args.client c.args.host.now state first c.push.new.link c.push.new.place) c.in-Late.is (c.in_ok-operations.ensures.pushed state first (c.loop-alloc.invariant.pulled state first s))))
+    (λ state first s. c.in_err-pull_late-in-Late.ensures.stopped state first (subst (λ r. Pushes r g.L.Link.model c.args.client c.args.host.now state first c.push.new.link c.push.new.cursor) c.in-Late.is (c.in_ok-operations.ensures.pushed state first (c.loop-alloc.invariant.pulled state first s))))
 
 pub returns-clause-met : goal.returns-clause-met
 returns-clause-met g c = λ state first s.
-    let none : length c.loop-alloc.place.left.items ≡ 0 = search rules in
-    nothing_left g.L.Link.model c.args.client c.args.host.now state first c.loop-alloc.link c.loop-alloc.place (c.loop-alloc.invariant.pulled state first s) (none_is c.loop-alloc.place.left.items none)
+    let none : length c.loop-alloc.cursor.left.items ≡ 0 = search rules in
+    nothing_left g.L.Link.model c.args.client c.args.host.now state first c.loop-alloc.link c.loop-alloc.cursor (c.loop-alloc.invariant.pulled state first s) (none_is c.loop-alloc.cursor.left.items none)

@@ -10,10 +10,10 @@ returns-in_err-pull_one-clause-stopped g c =
 
 pub loop-preserved : goal.loop-preserved
 loop-preserved g c = record {
-  pulls = λ state first s. subst (λ b. PullsOn b g.L.Link.model c.args.client c.args.host.now state first c.pull_one.new.link c.pull_one.new.place) c.if-branch.true (c.in_ok-pull_one.ensures.goes_on state first (c.loop.invariant.pulls state first s));
+  pulls = λ state first s. subst (λ b. PullsOn b g.L.Link.model c.args.client c.args.host.now state first c.pull_one.new.link c.pull_one.new.cursor) c.if-branch.true (c.in_ok-pull_one.ensures.goes_on state first (c.loop.invariant.pulls state first s));
   conflicts = c.in_ok-pull_one.ensures.conflicts ∙ c.loop.invariant.conflicts;
 }
 
 pub returns-clause-pulled : goal.returns-clause-pulled
 returns-clause-pulled g c = λ state first s.
-    subst (λ b. PullsOn b g.L.Link.model c.args.client c.args.host.now state first c.pull_one.new.link c.pull_one.new.place) c.if-branch.false (c.in_ok-pull_one.ensures.goes_on state first (c.loop.invariant.pulls state first s))
+    subst (λ b. PullsOn b g.L.Link.model c.args.client c.args.host.now state first c.pull_one.new.link c.pull_one.new.cursor) c.if-branch.false (c.in_ok-pull_one.ensures.goes_on state first (c.loop.invariant.pulls state first s))

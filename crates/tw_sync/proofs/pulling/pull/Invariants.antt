@@ -6,9 +6,9 @@ use Rattle.tw_sync.proofs.pulling.pull.Given as goal
 
 abbrev pub invariant-loop : goal.invariant-loop
 invariant-loop g l = record {
-  pulls : (state : State) (first : g.row.L.Denot) → IsPulling g.L.Link.model l.fn.client l.fn.host state first l.fn.link l.fn.place → IsPulling g.L.Link.model l.fn.client l.fn.host state first l.link l.place;
-  conflicts : l.place.conflicts ≡ l.fn.place.conflicts;
+  pulls : (state : State) (first : g.row.L.Denot) → IsPulling g.L.Link.model l.fn.client l.fn.host state first l.fn.link l.fn.cursor → IsPulling g.L.Link.model l.fn.client l.fn.host state first l.link l.cursor;
+  conflicts : l.cursor.conflicts ≡ l.fn.cursor.conflicts;
 }
 
 abbrev pub decreases-loop : goal.decreases-loop
-decreases-loop g l = max_pull - l.place.bytes
+decreases-loop g l = max_pull - l.cursor.bytes

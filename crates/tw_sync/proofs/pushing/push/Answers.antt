@@ -9,14 +9,14 @@ use Rattle.tw_sync.proofs.pushing.push.Goals as goal
 pub returns-in_err-segment-clause-stopped : goal.returns-in_err-segment-clause-stopped
 returns-in_err-segment-clause-stopped g c =
     passed_on c.from_residual.result _ _ c.from_residual.ensures.1
-    (λ state first s. unsent g.L.Link.model c.args.client c.args.host.now state first c.args.link.now c.args.place.now c.in_err-segment.field-0.0 s c.in_err-segment.ensures.refused)
+    (λ state first s. unsent g.L.Link.model c.args.client c.args.host.now state first c.args.link.now c.args.cursor.now c.in_err-segment.field-0.0 s c.in_err-segment.ensures.refused)
 
 pub returns-in_err-id-clause-stopped : goal.returns-in_err-id-clause-stopped
 returns-in_err-id-clause-stopped g c =
     let k = c.in_err-id.ensures in
     let t = c.in_ok-segment.ensures in
     passed_on c.from_residual-in_err-id.result _ _ c.from_residual-in_err-id.ensures.1
-    (λ state first s. unadded g.L.Link.model c.args.client c.args.host.now state first c.args.link.now c.ask_add.new.link c.args.place.now c.in_ok-segment.segment.items c.in_err-id.field-0.0 s (record { kept = k.kept; count = k.count; refused = k.refused; heard = k.refused_heard })
+    (λ state first s. unadded g.L.Link.model c.args.client c.args.host.now state first c.args.link.now c.ask_add.new.link c.args.cursor.now c.in_ok-segment.segment.items c.in_err-id.field-0.0 s (record { kept = k.kept; count = k.count; refused = k.refused; heard = k.refused_heard })
     k.grows k.refused_honest c.requires.some t.text t.reads_back t.within)
 
 pub returns-in_err-append-in-Added-clause-stopped : goal.returns-in_err-append-in-Added-clause-stopped
@@ -24,7 +24,7 @@ returns-in_err-append-in-Added-clause-stopped g c =
     let m = g.L.Link.model in
     let a = c.args.link.now in
     let b = c.ask_add.new.link in
-    let p = c.args.place.now in
+    let p = c.args.cursor.now in
     let k = c.in_ok-id.ensures in
     let t = c.in_ok-segment.ensures in
     passed_on c.from_residual-in_err-append-in-Added.result _ _ c.from_residual-in_err-append-in-Added.ensures.1
@@ -37,10 +37,10 @@ returns-in_ok-append-in-Added-clause-pushed g c = λ state first s.
     let m = g.L.Link.model in
     let a = c.args.link.now in
     let b = c.ask_add.new.link in
-    let p = c.args.place.now in
+    let p = c.args.cursor.now in
     let k = c.in_ok-id.ensures in
     let t = c.in_ok-segment.ensures in
-    let count : c.len-operations.result ≡ length c.args.place.now.left.items = search rules in
+    let count : c.len-operations.result ≡ length c.args.cursor.now.left.items = search rules in
     added m c.args.client c.args.host.now state first a b p _ c.in-Added.id c.in_ok-segment.segment.items c.len-operations.result s
     (subst (λ r. IsAsked m c.args.client c.args.host.now a b (add_heard c.args.client p.at c.in_ok-segment.segment.items r)) c.in-Added.is (record { kept = k.kept; count = k.count; heard = k.heard; welcome = k.welcome }))
     k.grows (λ honest. subst (λ r. IsAddAnswer m a b p.at c.in_ok-segment.segment.items r) c.in-Added.is (k.answer honest)) c.requires.some t.text t.reads_back t.within refl c.in_ok-append-in-Added.ensures.items refl count
@@ -50,7 +50,7 @@ returns-in-Conflict-clause-pushed g c = λ state first s.
     let m = g.L.Link.model in
     let a = c.args.link.now in
     let b = c.ask_add.new.link in
-    let p = c.args.place.now in
+    let p = c.args.cursor.now in
     let k = c.in_ok-id.ensures in
     came_late m c.args.client c.args.host.now state first a b p _ c.in_ok-segment.segment.items c.in-Conflict.latest s
     (subst (λ r. IsAsked m c.args.client c.args.host.now a b (add_heard c.args.client p.at c.in_ok-segment.segment.items r)) c.in-Conflict.is (record { kept = k.kept; count = k.count; heard = k.heard; welcome = k.welcome }))

@@ -13,6 +13,6 @@ returns-clause-has g c =
     let named = c.stabilize.ensures.at _ (c.write_whole.ensures.at _ (c.resize.ensures.at _ c.in_ok-file.ensures)) in
     let whole = written_whole _ _ _ c.args.bytes.now c.in_ok-resize.ensures.resized (c.if-not-write_whole.ensures.whole refl) in
     let path = c.as_str-to.ensures.value ∙ c.in_ok-path.ensures ∙ ap (λ folder. path_in folder c.args.name.now) c.as_str-2.ensures.value in
-    always c.settle_names.result _
-    (subst (λ p. g.S.FolderFiles.has c.settle_names.new.self p (Some c.args.bytes.now)) path
-    (c.settle_names.ensures.kept _ _ (c.in_ok-rename.ensures named c.in_ok-stabilize.ensures.stable c.args.bytes.now (subst (λ held. HasBytes held c.args.bytes.now) (sym c.stabilize.ensures.contents) whole))))
+    always c.settle.result _
+    (subst (λ p. g.S.Folders.has c.settle.new.self p (Some c.args.bytes.now)) path
+    (c.settle.ensures.files _ _ (c.in_ok-rename.ensures named c.in_ok-stabilize.ensures.stable c.args.bytes.now (subst (λ held. HasBytes held c.args.bytes.now) (sym c.stabilize.ensures.contents) whole))))

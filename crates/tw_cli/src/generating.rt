@@ -1,0 +1,31 @@
+// `_generate`, over replicas and a server in memory.
+ghost use Rattle.std.specs.Prelude.{◌≤◌};
+ghost use Rattle.tw_world.specs.Disk.{Rose};
+ghost use Rattle.tw_words.specs.Faults.{number_behind};
+ghost use Rattle.tw_cli.specs.Generating.{GenerateGives};
+ghost use Rattle.tw_cli.specs.Run.{IsDoneOrWant};
+
+use crate::cause::Cause;
+use crate::printing::print;
+use std::alloc::Global;
+use tw_commands::Request;
+use tw_generate::generate;
+use tw_world::Sink;
+
+/// Runs a large world in memory, as large as the words of the request say, and prints what it came to.
+pub(crate) fn run_generate<O: Sink>(alloc: Global, request: &Request<'_>, out: &mut O) -> Cause
+    requires { number_behind request.now.line 0 ≤ 10000 }
+    ensures gives { GenerateGives O.model request.now out.old out.new result }
+    ensures complete { (Rose (O.model.faults out.old) (O.model.faults out.new) → ⊥) → IsDoneOrWant result }
+{
+    let weights = request.settings.weights();
+    match generate(
+        alloc,
+        request.line.number(0),
+        request.line.number(1),
+        &weights,
+    ) {
+        Ok(text) => print(out, text.as_slice()),
+        Err(_) => Cause::Memory,
+    }
+}

@@ -1,0 +1,23 @@
+-- A replica that is open on a disk in memory, and a step of it that is made and then written.
+use Rattle.std.proofs.Common.{◌≡◌, ◌∙◌, ap, sym, ℕ, List, ◌++◌, length}
+use Rattle.tw_world.specs.Memory.{memory_model}
+use Rattle.tw_world.specs.declared.memory.MemoryDisk.{MemoryDisk}
+use Rattle.tw_journal.specs.Journal.{IsOpenOn}
+use Rattle.tw_journal.specs.declared.journal.Journal.{Journal}
+use Rattle.tw_replica.specs.Body.{Step}
+use Rattle.tw_replica.specs.Replica.{magic, IsReplicaOn, held_state}
+use Rattle.tw_replica.specs.Prepared.{IsPrepared, IsLengthReady, prepared_state, prepared_bodies, step_bodies}
+use Rattle.tw_replica.specs.declared.prepared.Prepared.{Prepared}
+use Rattle.tw_replica.specs.declared.replica.Replica.{Replica}
+use Rattle.tw_replica.proofs.Preparing.{prepared_on}
+
+module _ (old : Replica) (disk : MemoryDisk) (bodies : List (List ℕ)) (on : IsReplicaOn memory_model old disk bodies) (step : Step) (prepared : Prepared) (is : IsPrepared old step prepared) where
+  -- the disk has the length that the journal left
+  pub length_ready : IsLengthReady memory_model prepared disk
+  length_ready live = ap length on.open_on.rest.file ∙ sym (ap (λ (j : Journal). j.end) is.journal ∙ on.open_on.end)
+
+  -- the replica is open on the disk after the write
+  pub on_written : (new : Replica) (after : MemoryDisk) → held_state new ≡ prepared_state prepared
+      → ((bs : List (List ℕ)) → IsOpenOn memory_model magic prepared.journal disk bs → IsOpenOn memory_model magic new.journal after (bs ++ prepared_bodies prepared))
+      → (bs : List (List ℕ)) × IsReplicaOn memory_model new after bs
+  on_written new after state opens = (bodies ++ step_bodies step, prepared_on memory_model old step prepared is bodies disk after on new state opens)

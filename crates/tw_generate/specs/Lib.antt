@@ -1,0 +1,5 @@
+pub mod Tasks
+pub mod Changes
+pub mod Summary
+pub mod Generated
+pub mod Machines

@@ -1,0 +1,106 @@
+// Two replicas and a link to their server.
+
+use crate::machine::{CLIENT, Machine};
+use crate::tasks::TWO_TO_64;
+use std::alloc::Global;
+use tw_model::Change;
+use tw_server::MemoryLink;
+use tw_sync::SyncReport;
+use tw_world::{IdWords, Memory, Moment};
+use uuid::Uuid;
+
+/// Two replicas and a link to their server, all of them in memory. After want of memory a part of a step may be done, and it is to be
+/// dropped.
+#[derive(Drop)]
+pub(crate) struct Network {
+    pub(crate) first: Machine,
+    pub(crate) second: Machine,
+    pub(crate) link: MemoryLink,
+}
+
+impl Network {
+    ghost use Rattle.std.specs.Prelude.{◌≡◌, IfOk, OnOk};
+    ghost use Rattle.tw_generate.specs.Generated.{empty_world, FirstChanges, SecondChanges, FirstSyncs, SecondSyncs};
+    ghost use Rattle.tw_generate.specs.Machines.{IsReady, world_of};
+
+    /// Empty replicas and a server without versions. The server draws its identifiers behind those of so many tasks.
+    pub(crate) fn new(alloc: Global, seed: u64, count: u64) -> Result<Network, Memory>
+        ensures empty { IfOk result (λ network. world_of network ≡ empty_world) }
+        ensures ready { IfOk result IsReady }
+    {
+        let ids = IdWords {
+            start: seed as u128 * TWO_TO_64 + count as u128,
+            step: 1,
+        };
+        let client = Uuid::from_bytes(CLIENT);
+        Ok(Network {
+            first: Machine::new(alloc)?,
+            second: Machine::new(alloc)?,
+            link: MemoryLink::new(alloc, client, ids, Vec::new(alloc))?,
+        })
+    }
+
+    /// The first replica makes changes by one command.
+    pub(crate) fn with_first_changes(
+        self,
+        alloc: Global,
+        changes: Vec<Change>,
+        at: Moment,
+    ) -> Result<Network, Memory>
+        requires { IsReady self }
+        ensures changed { IfOk result (λ network. FirstChanges changes.items at (world_of self) (world_of network)) }
+        ensures ready { IfOk result IsReady }
+    {
+        let Network {
+            first,
+            second,
+            link,
+        } = self;
+        Ok(Network {
+            first: first.with_changes(alloc, changes, at)?,
+            second,
+            link,
+        })
+    }
+
+    /// The second replica makes changes by one command.
+    pub(crate) fn with_second_changes(
+        self,
+        alloc: Global,
+        changes: Vec<Change>,
+        at: Moment,
+    ) -> Result<Network, Memory>
+        requires { IsReady self }
+        ensures changed { IfOk result (λ network. SecondChanges changes.items at (world_of self) (world_of network)) }
+        ensures ready { IfOk result IsReady }
+    {
+        let Network {
+            first,
+            second,
+            link,
+        } = self;
+        Ok(Network {
+            first,
+            second: second.with_changes(alloc, changes, at)?,
+            link,
+        })
+    }
+
+    /// The first replica syncs.
+    pub(crate) fn sync_first(&mut self, alloc: Global) -> Result<SyncReport, Memory>
+        requires { IsReady self.old }
+        ensures synced { IfOk result (λ report. FirstSyncs report (world_of self.old) (world_of self.new)) }
+        ensures ready { OnOk result (IsReady self.new) }
+    {
+        self.first.sync(alloc, &mut self.link)
+    }
+
+    /// The second replica syncs.
+    pub(crate) fn sync_second(&mut self, alloc: Global) -> Result<SyncReport, Memory>
+        requires { IsReady self.old }
+        ensures synced { IfOk result (λ report. SecondSyncs report (world_of self.old) (world_of self.new)) }
+        ensures ready { OnOk result (IsReady self.new) }
+    {
+        self.second.sync(alloc, &mut self.link)
+    }
+}

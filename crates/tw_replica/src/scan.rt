@@ -1,0 +1,134 @@
+// Settling few tasks: the place of each is looked for among all places.
+ghost use Rattle.std.specs.Prelude.{◌≡◌, Some, false, map as list_map, OnOk, IfSome, IfNone};
+ghost use Rattle.std.specs.Option.{option_copied};
+ghost use Rattle.tw_model.specs.Maps.{same_bytes};
+ghost use Rattle.tw_model.specs.Places.{has_uuid, uuid_at};
+ghost use Rattle.tw_replica.specs.Settle.{is_placed, with_rank, settled};
+ghost use Rattle.tw_replica.specs.Settled.{IsOnce, IsReadyFor, without, vacated};
+ghost use Rattle.tw_replica.specs.State.{packed_if};
+
+use crate::numbers::{is_open, pack, push_ranks, rank, settled};
+use std::alloc::Global;
+use std::collections::BTreeSet;
+use tw_model::Tasks;
+use tw_world::Memory;
+use uuid::Uuid;
+
+// For more tasks than these, one pass over the places with the tasks in a set is faster than a look for each.
+const FEW: usize = 8;
+
+// Whether a uuid is another. Most others differ in the first byte, which takes less time than the whole.
+fn is_same(uuid: Uuid, other: Uuid) -> bool
+    ensures { result ≡ same_bytes uuid other }
+{
+    if uuid.as_bytes()[0] != other.as_bytes()[0] {
+        return false;
+    }
+    uuid == other
+}
+
+fn is_of(place: &Option<Uuid>, uuid: Uuid) -> bool
+    ensures { result ≡ has_uuid uuid place.now }
+{
+    match place {
+        Some(other) => is_same(uuid, *other),
+        None => false,
+    }
+}
+
+// The place of a task, of which the first has number 0.
+fn place_of(places: &Vec<Option<Uuid>>, uuid: Uuid) -> Option<usize>
+    ensures found { IfSome result (λ at. uuid_at at places.now.items ≡ Some uuid) }
+    ensures none { IfNone result (is_placed places.now.items uuid ≡ false) }
+{
+    let mut at = 0;
+    while at < places.len() {
+        if is_of(&places[at], uuid) {
+            return Some(at);
+        }
+        at += 1;
+    }
+    None
+}
+
+// Makes the place of a task vacant, where it has one.
+fn vacate(places: &mut Vec<Option<Uuid>>, uuid: Uuid)
+    ensures { IsOnce places.old.items → places.new.items ≡ list_map (without uuid) places.old.items }
+{
+    match place_of(places, uuid) {
+        Some(at) => {
+            places[at] = None;
+        }
+        None => {}
+    }
+}
+
+// Looks at a task that may have changed: it gets a rank where it is open and has no place, and its place becomes vacant where it is not open.
+fn look_for(
+    places: &mut Vec<Option<Uuid>>,
+    ranks: &mut BTreeSet<(u64, u64, Uuid)>,
+    tasks: &Tasks,
+    uuid: Uuid,
+) -> Result<(), Memory>
+    ensures places { OnOk result (IsOnce places.old.items → places.new.items ≡ vacated tasks.now places.old.items uuid) }
+    ensures ranks { OnOk result (ranks.new.keys ≡ with_rank places.old.items tasks.now ranks.old.keys uuid) }
+{
+    let task = tasks.get(uuid);
+    if !is_open(task) {
+        vacate(places, uuid);
+        return Ok(());
+    }
+    if place_of(places, uuid).is_none() {
+        ranks.insert(rank(task, uuid))?;
+    }
+    Ok(())
+}
+
+/// Settles tasks in places in which they were settled before some of them changed. It looks through the places once for each of these.
+pub(crate) fn settle_few(
+    alloc: Global,
+    places: &mut Vec<Option<Uuid>>,
+    tasks: &Tasks,
+    touched: &BTreeSet<Uuid>,
+) -> Result<(), Memory>
+    ensures { OnOk result (IsReadyFor places.old.items tasks.now touched.now.keys → places.new.items ≡ settled places.old.items tasks.now) }
+{
+    let mut ranks = BTreeSet::new(alloc);
+    for uuid in touched {
+        look_for(places, &mut ranks, tasks, *uuid)?;
+    }
+    push_ranks(places, &ranks)
+}
+
+// Settles tasks in places in which they were settled before some of them changed.
+fn settle_changed(
+    alloc: Global,
+    places: &mut Vec<Option<Uuid>>,
+    tasks: &Tasks,
+    touched: &BTreeSet<Uuid>,
+) -> Result<(), Memory>
+    ensures { OnOk result (IsReadyFor places.old.items tasks.now touched.now.keys → places.new.items ≡ settled places.old.items tasks.now) }
+{
+    if touched.len() <= FEW {
+        return settle_few(alloc, places, tasks, touched);
+    }
+    *places = settled(alloc, places, tasks, touched)?;
+    Ok(())
+}
+
+/// Settles tasks in places in which they were settled before some of them changed, and packs the places if it is asked.
+pub(crate) fn renew_places(
+    alloc: Global,
+    places: &mut Vec<Option<Uuid>>,
+    tasks: &Tasks,
+    touched: &BTreeSet<Uuid>,
+    renumber: bool,
+) -> Result<(), Memory>
+    ensures { OnOk result (IsReadyFor places.old.items tasks.now touched.now.keys → places.new.items ≡ packed_if renumber (settled places.old.items tasks.now)) }
+{
+    settle_changed(alloc, places, tasks, touched)?;
+    if renumber {
+        pack(places);
+    }
+    Ok(())
+}
