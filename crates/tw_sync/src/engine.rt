@@ -21,9 +21,9 @@ ghost use Rattle.tw_sync.specs.Synced.{AnyEnd, DoneEnd, RefusedEnd};
 ghost use Rattle.tw_sync.specs.Keeping.{moved_state, IsMovedTo, IsNotMoved};
 ghost use Rattle.tw_sync.specs.declared.error.SyncError.TheVariants as errors;
 
+use crate::cursor::Cursor;
 use crate::error::SyncError;
 use crate::meeting::meet;
-use crate::cursor::Cursor;
 use crate::report::SyncReport;
 use std::alloc::Global;
 use tw_http::Link;

@@ -4,11 +4,11 @@
 #![tactic(auto)]
 
 mod ask;
+mod cursor;
 mod engine;
 mod error;
 pub mod laws;
 mod meeting;
-mod cursor;
 mod pulling;
 mod pushing;
 mod report;

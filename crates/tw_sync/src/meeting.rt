@@ -4,8 +4,8 @@ ghost use Rattle.tw_http.specs.Messages.{IsHost};
 ghost use Rattle.tw_replica.specs.State.{State};
 ghost use Rattle.tw_sync.specs.Progress.{IsPulling, IsMet, IsStopped};
 
-use crate::error::SyncError;
 use crate::cursor::Cursor;
+use crate::error::SyncError;
 use crate::pulling::{pull, pull_late};
 use crate::pushing::{Sent, push};
 use std::alloc::Global;

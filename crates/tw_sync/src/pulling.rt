@@ -6,8 +6,8 @@ ghost use Rattle.tw_sync.specs.Progress.{IsPulling, HasPulled, PullsOn, IsLate, 
 ghost use Rattle.tw_sync.specs.declared.error.SyncError.TheVariants as errors;
 
 use crate::ask::{ChildAnswer, ask_child};
-use crate::error::SyncError;
 use crate::cursor::Cursor;
+use crate::error::SyncError;
 use std::alloc::Global;
 use tw_http::Link;
 use uuid::Uuid;

@@ -7,8 +7,8 @@ ghost use Rattle.tw_sync.specs.Progress.{HasPulled, IsStopped};
 ghost use Rattle.tw_sync.specs.Sending.{IsUnsent, Pushes, CountsConflict};
 
 use crate::ask::{AddAnswer, ask_add};
-use crate::error::{SendError, SyncError};
 use crate::cursor::Cursor;
+use crate::error::{SendError, SyncError};
 use std::alloc::Global;
 use tw_http::Link;
 use tw_model::SyncOp;

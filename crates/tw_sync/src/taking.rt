@@ -4,8 +4,8 @@ ghost use Rattle.tw_model.specs.Ops.{apply, apply_all, fit_part};
 ghost use Rattle.tw_transform.specs.Grid.{grid};
 ghost use Rattle.tw_sync.specs.Cursor.{TakesVersion, IsNotTaken};
 
-use crate::error::TakeError;
 use crate::cursor::Cursor;
+use crate::error::TakeError;
 use std::alloc::Global;
 use tw_model::{SyncOp, Tasks};
 use tw_segment::{SegmentError, read_segment};
