@@ -95,8 +95,8 @@ fn shown(
         Show::Template { uuid } => template_text(alloc, uuid, prepared.numbers())?,
         Show::Logged => logged_text(alloc)?,
         Show::TakenBack => {
-            let left = prepared.pending().len() + 1;
-            undone_text(alloc, pending.saturating_sub(left) as u64)?
+            let gone = pending.saturating_sub(prepared.pending().len());
+            undone_text(alloc, gone.saturating_sub(1) as u64)?
         }
         Show::Text(text) => text,
         Show::Report { report, numbers } => {
@@ -117,7 +117,8 @@ fn circle_in(
         → circle ≡ circle_in request.now.line.command old (prepared_state prepared.now)) }
 {
     if is_judged(request.line.command) {
-        first_circle(alloc, prepared.tasks(), prepared.pending(), pending)
+        let made = prepared.pending().behind(alloc, pending)?;
+        first_circle(alloc, prepared.tasks(), &made, 0)
     } else {
         Ok(None)
     }

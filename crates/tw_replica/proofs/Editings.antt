@@ -30,7 +30,7 @@ module _ (old : Replica) (made : List Change) (at : Moment) (editing : Editing) 
 
   module _ (renumber : Bool) (core : Core) (base : core.base ≡ editing.core.base) (tasks : core.tasks ≡ editing.core.tasks)
       (idle : is_idle renumber (group_of editing.ops.items) ≡ true → core ≡ editing.core)
-      (pending : is_idle renumber (group_of editing.ops.items) ≡ false → core.pending.items ≡ editing.core.pending.items ++ group_of editing.ops.items)
+      (pending : is_idle renumber (group_of editing.ops.items) ≡ false → core.pending ≡ editing.core.pending ++ group_of editing.ops.items)
       (numbers : is_idle renumber (group_of editing.ops.items) ≡ false → IsReadyFor editing.core.numbers.items editing.core.tasks editing.touched.keys → core.numbers.items ≡ packed_if renumber (settled editing.core.numbers.items editing.core.tasks)) where
     -- the operations, as the step has them
     ops_are : group_of editing.ops.items ≡ group_of (ops_of_all old.core.tasks made at)
@@ -48,10 +48,10 @@ module _ (old : Replica) (made : List Change) (at : Moment) (editing : Editing) 
         by : (b : Bool) → is_idle renumber (group_of editing.ops.items) ≡ b → committed renumber (group_of (ops_of_all old.core.tasks made at)) (state_of old.core) ≡ Some (state_of core)
         by true e =
             let same = idle e in
-            idle_is_committed renumber made at (state_of old.core) (state_of core) (ap (is_idle renumber) (sym ops_are) ∙ e) (base ∙ is.base) (ap (λ (c : Core). c.pending.items) same ∙ is.pending) to (ap (λ (c : Core). c.numbers.items) same ∙ is.numbers)
+            idle_is_committed renumber made at (state_of old.core) (state_of core) (ap (is_idle renumber) (sym ops_are) ∙ e) (base ∙ is.base) (ap (λ (c : Core). c.pending) same ∙ is.pending) to (ap (λ (c : Core). c.numbers.items) same ∙ is.numbers)
         by false e =
             changes_are_committed renumber made at (state_of old.core) (state_of core) (ap (is_idle renumber) (sym ops_are) ∙ e) (base ∙ is.base)
-            (pending e ∙ ap (λ ps. ps ++ group_of editing.ops.items) is.pending ∙ ap (λ ops. old.core.pending.items ++ ops) ops_are) to (places e)
+            (pending e ∙ ap (λ ps. ps ++ group_of editing.ops.items) is.pending ∙ ap (λ ops. old.core.pending ++ ops) ops_are) to (places e)
 
     pub edited_settled : IsSettledIn core.numbers.items core.tasks
     edited_settled = by (is_idle renumber (group_of editing.ops.items)) refl
@@ -75,7 +75,7 @@ module _ (old : Replica) (made : List Change) (at : Moment) (editing : Editing) 
         by false e = (all e, group)
 
 -- more changes were made
-pub made_more : (old : Replica) (made changes : List Change) (at : Moment) (before after : Editing) → after.journal ≡ before.journal → after.core.base ≡ before.core.base → after.core.pending.items ≡ before.core.pending.items → after.core.numbers.items ≡ before.core.numbers.items
+pub made_more : (old : Replica) (made changes : List Change) (at : Moment) (before after : Editing) → after.journal ≡ before.journal → after.core.base ≡ before.core.base → after.core.pending ≡ before.core.pending → after.core.numbers.items ≡ before.core.numbers.items
     → after.core.tasks ≡ changed_all before.core.tasks changes → after.ops.items ≡ before.ops.items ++ ops_of_all before.core.tasks changes at
     → ((first : TasksValue) → ChangedAmong before.touched.keys first before.core.tasks → ChangedAmong after.touched.keys first after.core.tasks) → IsEditing old made at before → IsEditing old (made ++ changes) at after
 made_more old made changes at before after journal base pending numbers tasks ops among is = record {

@@ -47,7 +47,7 @@ IsOfGroup (Commit renumber ops) = is_group ops ≡ true
 IsOfGroup Undo = Unit {0}
 IsOfGroup (Sync base ops) = Unit {0}
 
-group_read : (bytes : List ℕ) (ops : List Op) → group_of bytes ≡ Some ops → is_group ops ≡ true
+pub group_read : (bytes : List ℕ) (ops : List Op) → group_of bytes ≡ Some ops → is_group ops ≡ true
 unfolding group_of
 group_read bytes ops e =
     let n = bind_some (number_at w32 bytes) _ ops e in

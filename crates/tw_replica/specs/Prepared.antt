@@ -56,7 +56,7 @@ ChangedAmong us old new = (u : List ℕ) → is_among us u ≡ false → get new
 pub record IsEditing (old : Replica) (made : List Change) (at : Moment) (editing : Editing) : Type 0 where
   pub journal : editing.journal ≡ old.journal
   pub base : editing.core.base ≡ old.core.base
-  pub pending : editing.core.pending.items ≡ old.core.pending.items
+  pub pending : editing.core.pending ≡ old.core.pending
   pub numbers : editing.core.numbers.items ≡ old.core.numbers.items
   pub tasks : editing.core.tasks ≡ changed_all old.core.tasks made
   pub ops : editing.ops.items ≡ ops_of_all old.core.tasks made at

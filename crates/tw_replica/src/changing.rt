@@ -1,13 +1,14 @@
 // Changes of a replica in memory.
-ghost use Rattle.std.specs.Prelude.{◌≡◌, ◌++◌, ◌||◌, ◌<◌, ◌+◌, true, false, List, ℕ, length, take, drop, Some, IfOk, OnOk};
+ghost use Rattle.std.specs.Prelude.{◌≡◌, ◌++◌, ◌||◌, ◌<◌, ◌^◌, true, false, List, ℕ, length, drop, Some, IfOk, OnOk};
 ghost use Rattle.std.specs.List.{AllByRecursion};
 ghost use Rattle.std.specs.BTreeSet as set;
 ghost use Rattle.tw_model.specs.Maps.{bytes_cmp, same_bytes};
 ghost use Rattle.tw_model.specs.LocalOps.{take_back_all};
 ghost use Rattle.tw_model.specs.Changes.{changed, changed_all, ops_of, ops_of_all, group_of};
 ghost use Rattle.tw_model.specs.Ops.{TasksValue};
-ghost use Rattle.tw_replica.specs.Body.{IsOp, body_of};
+ghost use Rattle.tw_replica.specs.Body.{IsOp, body_of, is_group};
 ghost use Rattle.tw_replica.specs.Body.Step.{Commit, Undo};
+ghost use Rattle.tw_replica.specs.Kept.{group_in, IsLastOf};
 ghost use Rattle.tw_replica.specs.Settle.{settled};
 ghost use Rattle.tw_replica.specs.State.{is_idle, packed_if};
 ghost use Rattle.tw_replica.specs.Settled.{IsSettledIn, IsReadyFor};
@@ -15,6 +16,7 @@ ghost use Rattle.tw_replica.specs.Prepared.{ChangedAmong, bodies_in, step_bodies
 
 use crate::about::touched_uuids;
 use crate::held::{Core, is_idle, take_back_from};
+use crate::pending::{Pending, copy_of};
 use crate::scan::renew_places;
 use crate::writing::commit_body;
 use std::alloc::Global;
@@ -69,12 +71,19 @@ fn grouped(ops: Vec<Op>) -> Result<Vec<Op>, Memory>
     Ok(ops)
 }
 
-fn put_behind(pending: &mut Vec<Op>, ops: Vec<Op>) -> Result<(), Memory>
-    ensures { OnOk result (pending.new.items ≡ pending.old.items ++ ops.items) }
+// Puts the operations of a commit behind those that are pending, by its body. One that no record could hold is not kept.
+fn keep_body(
+    alloc: Global,
+    pending: &mut Pending,
+    body: &Vec<u8>,
+    count: usize,
+) -> Result<(), Memory>
+    requires { length body.now.items < 2 ^ 32 → count ≡ length (group_in body.now.items) }
+    ensures short { OnOk result (length body.now.items < 2 ^ 32) }
+    ensures kept { OnOk result (pending.new ≡ pending.old ++ group_in body.now.items) }
 {
-    let mut ops = ops;
-    pending.append(&mut ops)?;
-    Ok(())
+    let copy = copy_of(alloc, body)?;
+    pending.keep(copy, count)
 }
 
 /// Takes operations that were made of the tasks into a replica, and gives the body of their record, if there is one.
@@ -85,10 +94,11 @@ pub(crate) fn commit_core(
     touched: &BTreeSet<Uuid>,
     renumber: bool,
 ) -> Result<Option<Vec<u8>>, Memory>
+    requires { is_group (group_of ops.items) ≡ true }
     ensures base { core.new.base ≡ core.old.base }
     ensures tasks { core.new.tasks ≡ core.old.tasks }
     ensures idle { OnOk result (is_idle renumber (group_of ops.items) ≡ true → core.new ≡ core.old) }
-    ensures pending { OnOk result (is_idle renumber (group_of ops.items) ≡ false → core.new.pending.items ≡ core.old.pending.items ++ group_of ops.items) }
+    ensures pending { OnOk result (is_idle renumber (group_of ops.items) ≡ false → core.new.pending ≡ core.old.pending ++ group_of ops.items) }
     ensures numbers { OnOk result (is_idle renumber (group_of ops.items) ≡ false → IsReadyFor core.old.numbers.items core.old.tasks touched.now.keys → core.new.numbers.items ≡ packed_if renumber (settled core.old.numbers.items core.old.tasks)) }
     ensures body { IfOk result (λ body. bodies_in body ≡ step_bodies (Commit renumber (group_of ops.items))) }
     ensures is { OnOk result (is_idle renumber (group_of ops.items) ≡ false → AllByRecursion IsOp (group_of ops.items)) }
@@ -99,24 +109,24 @@ pub(crate) fn commit_core(
     }
     let body = commit_body(alloc, &group, renumber)?;
     renew_places(alloc, &mut core.numbers, &core.tasks, touched, renumber)?;
-    put_behind(&mut core.pending, group)?;
+    keep_body(alloc, &mut core.pending, &body, group.len())?;
     Ok(Some(body))
 }
 
-/// Takes the operations behind an undo point back, and the point with them.
-pub(crate) fn take_back_core(alloc: Global, core: &mut Core, point: usize) -> Result<(), Memory>
-    requires inside { point < length core.old.pending.items }
+/// Takes the last group back: the operations behind an undo point, and the point with them.
+pub(crate) fn take_back_core(alloc: Global, core: &mut Core, group: &Vec<Op>) -> Result<(), Memory>
+    requires last { IsLastOf core.old.pending group.now.items }
     requires settled { IsSettledIn core.old.numbers.items core.old.tasks }
     ensures base { OnOk result (core.new.base ≡ core.old.base) }
-    ensures pending { OnOk result (core.new.pending.items ≡ take point core.old.pending.items) }
-    ensures tasks { OnOk result (core.new.tasks ≡ take_back_all core.old.tasks (drop (point + 1) core.old.pending.items)) }
+    ensures pending { OnOk result ((last : IsLastOf core.old.pending group.now.items) → core.new.pending ≡ last.left) }
+    ensures tasks { OnOk result (core.new.tasks ≡ take_back_all core.old.tasks (drop 1 group.now.items)) }
     ensures numbers { OnOk result (core.new.numbers.items ≡ settled core.old.numbers.items core.new.tasks) }
     ensures settled { OnOk result (IsSettledIn core.new.numbers.items core.new.tasks) }
 {
-    let touched = touched_uuids(alloc, &core.pending, point + 1)?;
-    take_back_from(alloc, &mut core.tasks, &core.pending, point + 1)?;
+    let touched = touched_uuids(alloc, group, 1)?;
+    take_back_from(alloc, &mut core.tasks, group, 1)?;
     renew_places(alloc, &mut core.numbers, &core.tasks, &touched, false)?;
-    core.pending.truncate(point);
+    core.pending.pop();
     Ok(())
 }
 

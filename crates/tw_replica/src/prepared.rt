@@ -4,11 +4,12 @@ ghost use Rattle.tw_replica.specs.Settled.{IsSettledIn, settled_prop};
 use crate::changing::{commit_core, take_back_core, undo_body};
 use crate::editing::Editing;
 use crate::error::{TakeBackError, WriteError, write_error};
-use crate::held::{Core, last_point};
+use crate::held::Core;
+use crate::pending::Pending;
 use crate::replica::Replica;
 use std::alloc::Global;
 use tw_journal::Journal;
-use tw_model::{Op, Tasks};
+use tw_model::Tasks;
 use tw_world::{Disk, Memory};
 use uuid::Uuid;
 
@@ -33,10 +34,10 @@ impl Replica {
     {
         let Replica { journal, core } = self;
         let mut core = core;
-        let Some(point) = last_point(&core.pending) else {
+        let Some(group) = core.pending.last(alloc)? else {
             return Err(TakeBackError::NothingToUndo);
         };
-        take_back_core(alloc, &mut core, point as usize)?;
+        take_back_core(alloc, &mut core, &group)?;
         let body = Some(undo_body(alloc)?);
         Ok(Prepared {
             journal,
@@ -98,8 +99,8 @@ impl Prepared {
     }
 
     /// The pending operations after the step.
-    pub fn pending(&self) -> &Vec<Op>
-        ensures { result.now.items ≡ (prepared_state self.now).pending }
+    pub fn pending(&self) -> &Pending
+        ensures { result.now ≡ (prepared_state self.now).pending }
     {
         &self.core.pending
     }

@@ -17,9 +17,10 @@ impl Cursor {
     pub fn start(alloc: Global, replica: &Replica) -> Result<Cursor, Memory>
         ensures { IfOk result (λ cursor. IsAtStart (held_state replica.now) cursor) }
     {
-        let left = plain(alloc, replica.pending())?;
+        let pending = replica.pending().ops(alloc)?;
+        let left = plain(alloc, &pending)?;
         let mut tasks = copies(alloc, replica.tasks(), &left)?;
-        take_back(alloc, &mut tasks, replica.pending())?;
+        take_back(alloc, &mut tasks, &pending)?;
         Ok(Cursor {
             at: replica.base(),
             tasks,

@@ -117,7 +117,7 @@ returns-in_err-stand_at-clause-any g c =
     let pending = ap length c.in_ok-cursor.ensures.left in
     let few = met.fewer in
     let dropped = c.len-pending.result - sent in
-    let sum : (c.len-pending.result - c.in_ok-pushed.pushed) + c.in_ok-pushed.pushed ≡ length (plain c.args.replica.now.core.pending.items) = omega (arith, count, pending, few) in
+    let sum : (c.len-pending.result - c.in_ok-pushed.pushed) + c.in_ok-pushed.pushed ≡ length (plain c.args.replica.now.core.pending) = omega (arith, count, pending, few) in
     let same = unmoved_state d m client old c.stand_at.new.replica c.args.disk.now c.stand_at.new.disk first now cursor sent c.requires.open c.in_err-stand_at.field-0.0 c.in_err-stand_at.ensures.refused in
     record {
       agrees = λ honest a. subst (λ t. Agrees t (m.chain now)) (sym same) (agrees_is_kept state (m.chain first) (m.chain now) a (met.come honest).on.grows);
@@ -179,7 +179,7 @@ returns-clause-any g c =
     let pending = ap length c.in_ok-cursor.ensures.left in
     let few = met.fewer in
     let dropped = c.len-pending.result - sent in
-    let sum : (c.len-pending.result - c.in_ok-pushed.pushed) + c.in_ok-pushed.pushed ≡ length (plain c.args.replica.now.core.pending.items) = omega (arith, count, pending, few) in
+    let sum : (c.len-pending.result - c.in_ok-pushed.pushed) + c.in_ok-pushed.pushed ≡ length (plain c.args.replica.now.core.pending) = omega (arith, count, pending, few) in
     let moved = moved_to d old new c.args.disk.now c.stand_at.new.disk cursor (moved_state cursor state) c.in_ok-stand_at.ensures.moved in
     record {
       agrees = λ honest a. sync_end_agrees state (state_of new.core) (server_chain m first) (server_chain m now) (made_report cursor dropped sent) (met.come honest).on.whole a
@@ -209,7 +209,7 @@ returns-clause-done g c =
     let pending = ap length c.in_ok-cursor.ensures.left in
     let few = met.fewer in
     let dropped = c.len-pending.result - sent in
-    let sum : (c.len-pending.result - c.in_ok-pushed.pushed) + c.in_ok-pushed.pushed ≡ length (plain c.args.replica.now.core.pending.items) = omega (arith, count, pending, few) in
+    let sum : (c.len-pending.result - c.in_ok-pushed.pushed) + c.in_ok-pushed.pushed ≡ length (plain c.args.replica.now.core.pending) = omega (arith, count, pending, few) in
     let moved = c.in_ok-stand_at.ensures.moved in
     record {
       ended = λ honest. sync_end m client state (state_of new.core) first now cursor dropped sent (met.come honest) sum (moved_to d old new before after cursor (moved_state cursor state) moved);

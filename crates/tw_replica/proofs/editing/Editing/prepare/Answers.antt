@@ -1,9 +1,17 @@
-use Rattle.std.proofs.Common.{◌∙◌, ap}
+use Rattle.std.proofs.Common.{◌∙◌, List, ap}
 use Rattle.tw_model.specs.Changes.{group_of}
 use Rattle.tw_replica.specs.Body.Step.{Commit}
 use Rattle.tw_replica.specs.Prepared.{step_bodies}
 use Rattle.tw_replica.proofs.Editings.{edited_leads, edited_settled, edited_is}
+use Rattle.tw_model.specs.declared.Op.{Op}
+use Rattle.tw_replica.specs.Body.{is_group}
+use Rattle.tw_replica.proofs.Commits.{changes_are_group}
 use Rattle.tw_replica.proofs.editing.Editing.prepare.Goals as goal
+
+pub commit_core-requires : goal.commit_core-requires
+commit_core-requires c =
+    let r = c.requires in
+    ap (λ (ops : List Op). is_group (group_of ops)) r.3.ops ∙ changes_are_group r.0.core.tasks r.1 r.2
 
 pub invariant_of-result : goal.invariant_of-result
 invariant_of-result c =
