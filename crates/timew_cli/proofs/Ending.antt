@@ -12,10 +12,10 @@ use Rattle.jiff.specs.Types.{TimeZone}
 use Rattle.timew_store.proofs.Prepares.{opens_here}
 use Rattle.timew_store.proofs.Undoes.{rest_read}
 use Rattle.tw_world.proofs.TurnRules.{turns_weaker}
-use Rattle.tw_journal.specs.Journal.{IsOpenOn, AppendRefused, is_closed}
+use Rattle.tw_journal.specs.Journal.{IsOpenOn, is_closed}
 use Rattle.tw_journal.specs.declared.journal.Journal.{Journal}
-use Rattle.tw_journal.specs.declared.journal.JournalError.{JournalError}
-use Rattle.tw_journal.specs.declared.journal.JournalError.TheVariants as fault
+use Rattle.tw_journal.specs.declared.error.JournalError.{JournalError}
+use Rattle.tw_journal.specs.declared.error.JournalError.TheVariants as fault
 use Rattle.timew_store.specs.Body.{FileChange, Step, step_of, ◌>>=◌}
 use Rattle.timew_store.specs.History.{History, start, applied, stepped, replayed}
 use Rattle.timew_store.specs.Held.{magic, Held, OpensTo, OpensToEither, IsAtRest, held_by}

@@ -9,11 +9,10 @@ use Rattle.tw_world.specs.Crash.{Tells, Settled, Kept}
 use Rattle.tw_world.specs.Folder.{Files, FolderModel}
 use Rattle.tw_world.specs.Turns.{InTurns, crash_of}
 use Rattle.tw_world.proofs.TurnRules.{turns_weaker, turns_joined}
-use Rattle.tw_journal.specs.Record.{rows}
-use Rattle.tw_journal.specs.Open.{Records, IsFault, IsDamagedAt}
+use Rattle.tw_journal.specs.Open.{Records, IsDamagedAt}
 use Rattle.tw_journal.specs.Journal.{is_closed}
-use Rattle.tw_journal.specs.declared.journal.JournalError.{JournalError}
-use Rattle.tw_journal.specs.declared.journal.JournalError.TheVariants as fault
+use Rattle.tw_journal.specs.declared.error.JournalError.{JournalError}
+use Rattle.tw_journal.specs.declared.error.JournalError.TheVariants as fault
 use Rattle.tw_journal.proofs.Unique.{one_records}
 use Rattle.timew_store.specs.Body.{FileChange, step_of}
 use Rattle.timew_store.specs.History.{History, Stands}
@@ -42,17 +41,13 @@ ends_at file offset holds = record {
   inside = omega (arith, ap length holds.end.split, length-append holds.end.front (holds.end.body ∷ []));
   none = (
     ap step_of (ap (λ (l : List (List ℕ)). slice_index_or l (length holds.end.front) []) holds.end.split ∙ last_of holds.end.front holds.end.body) ∙ holds.end.none,
-    holds.end.place ∙ sym (ap (λ (l : List (List ℕ)). length (rows (magic ∷ l))) (ap (take (length holds.end.front)) holds.end.split ∙ first_of holds.end.front (holds.end.body ∷ []))),
+    holds.end.place,
   );
 }
   where
     last_of : (front : List (List ℕ)) (body : List ℕ) → slice_index_or (front ++ body ∷ []) (length front) [] ≡ body
     last_of [] body = refl
     last_of (b ∷ front) body = last_of front body
-
-    first_of : (front back : List (List ℕ)) → take (length front) (front ++ back) ≡ front
-    first_of [] back = refl
-    first_of (b ∷ front) back = ap (λ (l : List (List ℕ)). b ∷ l) (first_of front back)
 
 module _ {F D : Type 0} (m : FolderModel F) (n : DiskModel D) (command : Command) (now : ℕ) (zone : TimeZone) where
   pub still_among : (w : Outside F D) (held : Held) (r : Result Carried Cause) (x : Files) (y : List ℕ) → OpensAlike m n w.f0 w.d0 x y → LeavesOf m n command now zone w held r x y
@@ -194,7 +189,7 @@ module _ {F D : Type 0} (m : FolderModel F) (n : DiskModel D) (command : Command
     step_ends folder kept (causes.Damaged offset) ends is = λ told settled tells.
         let has = loaded told settled tells in
         let at = is (kept.tells ∙ tells) has.bodies has.open_on in
-        inr (record { bodies = has.bodies; records = has.records; number = at.0; inside = at.1; none = at.2 })
+        inr (record { bodies = has.bodies; records = has.records; number = at.0; inside = at.1; none = (at.2.0, at.2.1 ∙ has.places at.0 at.1) })
     step_ends folder kept causes.NotTracking ends is = λ held opens. refused store f0 f1 f2 d0 d1 d2 loaded held opens causes.NotTracking (here causes.NotTracking ends held opens)
     step_ends folder kept causes.NothingToUndo ends is = λ held opens. refused store f0 f1 f2 d0 d1 d2 loaded held opens causes.NothingToUndo (here causes.NothingToUndo ends held opens)
     step_ends folder kept (causes.Edited file) ends is = λ held opens. refused store f0 f1 f2 d0 d1 d2 loaded held opens (causes.Edited file) (here (causes.Edited file) ends held opens)

@@ -1,7 +1,7 @@
 -- The cause that each error becomes.
 use Rattle.std.specs.Prelude.{Bool, true, false}
-use Rattle.tw_journal.specs.declared.journal.JournalError.{JournalError}
-use Rattle.tw_journal.specs.declared.journal.JournalError.TheVariants as journal
+use Rattle.tw_journal.specs.declared.error.JournalError.{JournalError}
+use Rattle.tw_journal.specs.declared.error.JournalError.TheVariants as journal
 use Rattle.timew_store.specs.declared.error.LoadError.{LoadError}
 use Rattle.timew_store.specs.declared.error.LoadError.TheVariants as load
 use Rattle.timew_store.specs.declared.error.StoreError.{StoreError}

@@ -40,7 +40,7 @@ pub record HoldsNoStepAt (file : List ℕ) (offset : ℕ) : Type 0 where
   pub records : Records magic file bodies
   pub number : ℕ
   pub inside : number < length bodies
-  pub none : IsNoStep bodies number offset
+  pub none : IsNoStep file bodies number offset
 
 module _ {F D : Type 0} (m : FolderModel F) (n : DiskModel D) where
   -- a folder that rests and a disk, which tell what they hold, open to this

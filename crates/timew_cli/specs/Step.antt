@@ -74,5 +74,5 @@ module _ {F D : Type 0} (m : FolderModel F) (n : DiskModel D) (w : Outside F D) 
   IsFaultOf store DiskFault = Rose (n.faults w.d0) (n.faults w.d1)
   IsFaultOf store FolderFault = Rose (m.faults w.f0) (m.faults w.f1)
   IsFaultOf store (RecordTooLong bytes) = 2 ^ 30 < bytes
-  IsFaultOf store (Damaged offset) = disk.Tells n w.d0 → (bodies : List (List ℕ)) → IsOpenOn n magic store.journal w.d0 bodies → (k : ℕ) × (k < length bodies) × IsNoStep bodies k offset
+  IsFaultOf store (Damaged offset) = disk.Tells n w.d0 → (bodies : List (List ℕ)) → IsOpenOn n magic store.journal w.d0 bodies → (k : ℕ) × (k < length bodies) × IsNoStep (n.seen w.d0) bodies k offset
   IsFaultOf store cause = Unit {0}

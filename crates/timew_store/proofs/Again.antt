@@ -24,7 +24,7 @@ use Rattle.timew_store.specs.Body.{FileChange, Step, step_of, ◌>>=◌, rises_f
 use Rattle.timew_store.specs.Body.Step.{Change, Undo}
 use Rattle.timew_store.specs.History.{History, Stands, start, stepped, applied, replayed, with_change, undone, exchanged, same_files}
 use Rattle.timew_store.specs.Held.{magic, bytes_of, with_new, finished, finished_file, Held, OpensTo, IsApart, AreApart}
-use Rattle.timew_store.specs.Loading.{IsFinishedTo, OpensAlike, IsLoaded, files_in, files_or, last_of}
+use Rattle.timew_store.specs.Loading.{IsFinishedTo, OpensAlike, IsLoaded, StandAsBefore, files_in, files_or, last_of}
 use Rattle.timew_store.proofs.Finishing.{same_bytes_back, get-new-apart, get-new-here, apart_take, one_new}
 use Rattle.timew_store.proofs.Turning.{open_records}
 
@@ -186,10 +186,11 @@ module _ {F D : Type 0} (m : FolderModel F) (n : DiskModel D) (f0 : F) (d0 : D) 
         (weaker m f0 f1 (IsFinishedTo changes (m.seen f0)) (λ x. (y : List ℕ) → n.leaves d1 y → OpensAlike m n f0 d0 x y) files
         (λ x partly y left. record { before = n.seen d0; left = may_stay; alike = λ held opens. finished_opens x y held partly (open_records n journal d1 bodies y on left) opens })))
 
-    pub loaded : (f1 : F) → Tells m f1 → Settled m f1 → m.seen f1 ≡ finished (m.seen f0) changes → IsLoaded m n f0 f1 d0 d1 journal
-    loaded f1 tells_now settled_now seen = record {
+    pub loaded : (f1 : F) → Tells m f1 → Settled m f1 → m.seen f1 ≡ finished (m.seen f0) changes → StandAsBefore (n.seen d0) (n.seen d1) bodies → IsLoaded m n f0 f1 d0 d1 journal
+    loaded f1 tells_now settled_now seen places = record {
       bodies = bodies;
       records = records;
+      places = places;
       open_on = on;
       rest = λ history stands. record {
         tells = tells_now;

@@ -1,24 +1,27 @@
 -- Why a store is not loaded, and what it holds where it is.
-use Rattle.std.proofs.Common.{◌≡◌, ℕ, ◌+◌, true, false, List, [], ◌∷◌, ◌++◌, length, take, Some, None, refl, sym, ap, subst, ◌∙◌, arith}
+use Rattle.std.proofs.Common.{◌≡◌, inl, inr, ℕ, ◌+◌, true, false, List, [], ◌∷◌, ◌++◌, length, take, Some, None, refl, sym, ap, subst, ◌∙◌, arith}
 use Rattle.std.specs.Prelude.{slice_index_or, Result, Ok, Err, IsErrAnd, IfErr}
-use Rattle.std.proofs.lemmas.List.{take_all, take_more}
+use Rattle.std.proofs.lemmas.List.{length-append, length-take, take_all, take_more}
 use Rattle.tw_world.specs.Disk.{DiskModel}
 use Rattle.tw_world.specs.Disk as disk
 use Rattle.tw_world.specs.Crash.{Tells, Settled, Reads, Kept}
 use Rattle.tw_world.specs.Folder.{Files, FolderModel}
 use Rattle.tw_world.proofs.Crashes.{still_settled}
-use Rattle.tw_journal.specs.Record.{rows}
-use Rattle.tw_journal.specs.Open.{IsFault}
+use Rattle.tw_journal.specs.Form.{place_in}
+use Rattle.tw_journal.specs.Open.{IsFault, OpenRefused}
 use Rattle.tw_journal.specs.Journal.{IsOpenOn, IsOpened, ReadRefused}
 use Rattle.tw_journal.specs.declared.journal.Journal.{Journal}
-use Rattle.tw_journal.specs.declared.journal.JournalError.{JournalError}
-use Rattle.tw_journal.specs.declared.journal.JournalError.TheVariants.{Disk, Closed, Damaged, TooLong, Memory as NoMemory}
-use Rattle.tw_journal.proofs.Places.{still_open}
+use Rattle.tw_journal.specs.Errors.{open_in_all, read_in_all}
+use Rattle.tw_journal.specs.declared.error.OpenError.{OpenError}
+use Rattle.tw_journal.specs.declared.error.OpenError.TheVariants as opening
+use Rattle.tw_journal.specs.declared.error.ReadError.{ReadError}
+use Rattle.tw_journal.specs.declared.error.ReadError.TheVariants.{Disk, Closed, Damaged, Memory as NoMemory}
+use Rattle.tw_journal.proofs.Places.{still_open, same_place}
 use Rattle.tw_journal.proofs.Unique.{one_records}
 use Rattle.timew_store.specs.Body.{FileChange, step_of}
 use Rattle.timew_store.specs.History.{History, Stands}
 use Rattle.timew_store.specs.Held.{magic, Held, OpensTo, IsAtRest, held_by, finished}
-use Rattle.timew_store.specs.Loading.{IsLoaded, EndsInNoStep, IsNoStep, StepRefused, LastRefused, FinishRefused, IsStoreFault, files_or, last_of}
+use Rattle.timew_store.specs.Loading.{IsLoaded, EndsInNoStep, IsNoStep, StepRefused, LastRefused, OpeningRefused, FinishRefused, IsJournalFault, IsStoreFault, files_or, last_of}
 use Rattle.timew_store.specs.Gathered.{RowsRefused, files_of, months_in, lines_in}
 use Rattle.timew_store.specs.Rows.{judged, rows_of}
 use Rattle.timew_store.specs.Store.{HoldMonths, IsLoadedStore, not_read, not_loaded, MonthsRefused, LoadRefused, IsLoadFault}
@@ -45,57 +48,87 @@ last_of-push [] body = refl
 last_of-push (b ∷ []) body = refl
 last_of-push (b ∷ next ∷ front) body = last_of-push (next ∷ front) body
 
-ends_in_none : (bodies : List (List ℕ)) (k offset : ℕ) → length bodies ≡ k + 1 → IsNoStep bodies k offset → EndsInNoStep bodies offset
-ends_in_none bodies k offset long is = record {
+ends_in_none : (file : List ℕ) (bodies : List (List ℕ)) (k offset : ℕ) → length bodies ≡ k + 1 → IsNoStep file bodies k offset → EndsInNoStep file bodies offset
+ends_in_none file bodies k offset long is = record {
   front = take k bodies;
   body = slice_index_or bodies k [];
   split = sym (take_all (k + 1) bodies (omega (arith, long))) ∙ take_more bodies k [] (omega (arith, long));
   none = is.0;
-  place = is.1;
+  place = is.1 ∙ ap (place_in magic file bodies) (omega (arith, long, length-take k bodies));
 }
 
 module _ {D : Type 0} (n : DiskModel D) where
-  pub body_refused : (k : ℕ) (d0 d1 : D) (journal : Journal) (e : JournalError) → ReadRefused n d0 d1 journal e → StepRefused n d0 d1 journal k e
+  pub body_refused : (k : ℕ) (d0 d1 : D) (journal : Journal) (e : ReadError) → ReadRefused n d0 d1 journal e → StepRefused n d0 d1 journal k e
   body_refused k d0 d1 journal Disk r = r
   body_refused k d0 d1 journal NoMemory r = tt
   body_refused k d0 d1 journal (Damaged offset) r = λ tells bodies on. absurd (r tells magic bodies on)
-  body_refused k d0 d1 journal (TooLong bytes) r = r
   body_refused k d0 d1 journal Closed r = r
 
-  pub offset_refused : (k : ℕ) (d0 d1 d2 : D) (journal : Journal) (e : JournalError) → disk.Untouched n d0 d1 → ReadRefused n d1 d2 journal e → StepRefused n d0 d2 journal k e
+  pub offset_refused : (k : ℕ) (d0 d1 d2 : D) (journal : Journal) (e : ReadError) → disk.Untouched n d0 d1 → ReadRefused n d1 d2 journal e → StepRefused n d0 d2 journal k e
   offset_refused k d0 d1 d2 journal Disk untouched r = omega (arith, untouched.kept.faults, r)
   offset_refused k d0 d1 d2 journal NoMemory untouched r = tt
   offset_refused k d0 d1 d2 journal (Damaged offset) untouched r = λ tells bodies on. absurd (r (untouched.kept.tells ∙ tells) magic bodies (still_open n magic journal d0 d1 bodies untouched on))
-  offset_refused k d0 d1 d2 journal (TooLong bytes) untouched r = r
   offset_refused k d0 d1 d2 journal Closed untouched r = r
 
-  pub last_refused : (d0 d1 : D) (journal : Journal) (k : ℕ) (e : JournalError) → journal.count ≡ k + 1 → StepRefused n d0 d1 journal k e → LastRefused n d0 d1 journal e
+  pub last_refused : (d0 d1 : D) (journal : Journal) (k : ℕ) (e : ReadError) → journal.count ≡ k + 1 → StepRefused n d0 d1 journal k e → LastRefused n d0 d1 journal e
   last_refused d0 d1 journal k Disk count r = r
   last_refused d0 d1 journal k NoMemory count r = tt
-  last_refused d0 d1 journal k (Damaged offset) count r = λ tells bodies on. ends_in_none bodies k offset (omega (arith, on.count, count)) (r tells bodies on)
-  last_refused d0 d1 journal k (TooLong bytes) count r = r
+  last_refused d0 d1 journal k (Damaged offset) count r = λ tells bodies on. ends_in_none (n.seen d0) bodies k offset (omega (arith, on.count, count)) (r tells bodies on)
   last_refused d0 d1 journal k Closed count r = r
 
-  no_end : (bodies : List (List ℕ)) (offset : ℕ) (changes : List FileChange) → EndsInNoStep bodies offset → last_of bodies ≡ Some changes → ⊥
-  no_end bodies offset changes end last =
+  no_end : (file : List ℕ) (bodies : List (List ℕ)) (offset : ℕ) (changes : List FileChange) → EndsInNoStep file bodies offset → last_of bodies ≡ Some changes → ⊥
+  no_end file bodies offset changes end last =
       let none : last_of bodies ≡ None = ap last_of end.split ∙ last_of-push end.front end.body ∙ ap files_or end.none in
       some_none (sym last ∙ none)
     where
       some_none : Some changes ≡ None → ⊥
       some_none e = cc
 
-  last_fault : (d1 d2 : D) (journal : Journal) (bodies : List (List ℕ)) (changes : List FileChange) (e : JournalError) → disk.Tells n d1 → IsOpenOn n magic journal d1 bodies → last_of bodies ≡ Some changes → LastRefused n d1 d2 journal e → IsFault e
+  last_fault : (d1 d2 : D) (journal : Journal) (bodies : List (List ℕ)) (changes : List FileChange) (e : ReadError) → disk.Tells n d1 → IsOpenOn n magic journal d1 bodies → last_of bodies ≡ Some changes → LastRefused n d1 d2 journal e → IsJournalFault (read_in_all e)
   last_fault d1 d2 journal bodies changes Disk tells on last r = tt
   last_fault d1 d2 journal bodies changes NoMemory tells on last r = tt
-  last_fault d1 d2 journal bodies changes (Damaged offset) tells on last r = no_end bodies offset changes (r tells bodies on) last
-  last_fault d1 d2 journal bodies changes (TooLong bytes) tells on last r = r
+  last_fault d1 d2 journal bodies changes (Damaged offset) tells on last r = no_end (n.seen d1) bodies offset changes (r tells bodies on) last
   last_fault d1 d2 journal bodies changes Closed tells on last r = apart r on.open_now
     where
       apart : journal.closed ≡ true → journal.closed ≡ false → ⊥
       apart e f = cc
 
+-- an opening that is refused by a fault
+pub open_fault : (e : OpenError) → IsFault e → IsJournalFault (open_in_all e)
+open_fault opening.Disk fault = tt
+open_fault (opening.Damaged offset) fault = fault
+open_fault opening.Memory fault = tt
+
+-- why a journal is not opened with its last step
+module _ {D : Type 0} (n : DiskModel D) where
+  pub not_opened : (d0 d1 : D) (e : OpenError) → OpenRefused n d0 d1 magic e → OpeningRefused n d0 d1 (open_in_all e)
+  not_opened d0 d1 opening.Disk r = r
+  not_opened d0 d1 (opening.Damaged offset) r = λ tells. inl (r tells)
+  not_opened d0 d1 opening.Memory r = tt
+
+  -- the last record stood where it stands before the journal was opened
+  ended_before : (d0 mid : D) (journal : Journal) (o : IsOpened n magic d0 mid journal) (offset : ℕ) → EndsInNoStep (n.seen mid) o.bodies offset → EndsInNoStep (n.seen d0) o.bodies offset
+  ended_before d0 mid journal o offset end = record {
+    front = end.front;
+    body = end.body;
+    split = end.split;
+    none = end.none;
+    place = end.place ∙ same_place n magic d0 mid journal o (length end.front) (omega (arith, ap length end.split, length-append end.front (end.body ∷ [])));
+  }
+
+  pub last_not_read : (d0 mid d1 : D) (journal : Journal) (e : ReadError) → disk.Kept n d0 mid → journal.closed ≡ false → (disk.Tells n d0 → IsOpened n magic d0 mid journal) → LastRefused n mid d1 journal e → OpeningRefused n d0 d1 (read_in_all e)
+  last_not_read d0 mid d1 journal Disk kept live opened r = omega (arith, kept.faults, r)
+  last_not_read d0 mid d1 journal NoMemory kept live opened r = tt
+  last_not_read d0 mid d1 journal (Damaged offset) kept live opened r = λ tells.
+      let o = opened tells in
+      inr (record { bodies = o.bodies; records = o.records; end = ended_before d0 mid journal o offset (r (kept.tells ∙ tells) o.bodies o.now) })
+  last_not_read d0 mid d1 journal Closed kept live opened r = absurd (apart r live)
+    where
+      apart : journal.closed ≡ true → journal.closed ≡ false → ⊥
+      apart e f = cc
+
 -- where the records stand for a history, the last one is read
-pub last_sound : {F D : Type 0} (m : FolderModel F) (n : DiskModel D) (f0 : F) (d0 d1 d2 : D) (journal : Journal) (held : Held) (e : JournalError) → disk.Tells n d1 → IsOpened n magic d0 d1 journal → OpensTo (m.seen f0) (n.seen d0) held → LastRefused n d1 d2 journal e → IsFault e
+pub last_sound : {F D : Type 0} (m : FolderModel F) (n : DiskModel D) (f0 : F) (d0 d1 d2 : D) (journal : Journal) (held : Held) (e : ReadError) → disk.Tells n d1 → IsOpened n magic d0 d1 journal → OpensTo (m.seen f0) (n.seen d0) held → LastRefused n d1 d2 journal e → IsJournalFault (read_in_all e)
 last_sound m n f0 d0 d1 d2 journal held e tells opened opens r =
     let same = one_records magic (n.seen d0) opened.bodies opens.bodies opened.records opens.records in
     last_fault n d1 d2 journal opened.bodies opens.history.last e tells opened.now (ap last_of same ∙ last_stands opens.bodies opens.history opens.stands) r
@@ -173,6 +206,7 @@ module _ {F D : Type 0} (m : FolderModel F) (n : DiskModel D) where
       record {
         bodies = loaded.bodies;
         records = loaded.records;
+        places = loaded.places;
         open_on = loaded.open_on;
         on = λ history stands. record { rest = rest_kept store.journal f1 f2 d1 loaded.bodies history reads (loaded.rest history stands); months = months_now };
         finished_now = λ history stands. reads.seen told ∙ loaded.finished_now history stands;

@@ -16,5 +16,5 @@ not_empty : (xs : List (List ℕ)) (x : List ℕ) → xs ++ x ∷ [] ≡ [] → 
 not_empty xs x e = let n : length (xs ++ x ∷ []) ≡ 0 = ap length e in let m : length (xs ++ x ∷ []) ≡ length xs + 1 = length-append xs (x ∷ []) in omega arith
 
 pub short_body : (bodies : List (List ℕ)) (body file : List ℕ) → Records magic file (bodies ++ body ∷ []) → length body < 2 ^ 32
-short_body bodies body file (inl image) = last_length (magic ∷ bodies) body image.lengths
+short_body bodies body file (inl has) = last_length bodies body has.image.lengths
 short_body bodies body file (inr none) = absurd (not_empty bodies body none.0)

@@ -10,7 +10,7 @@ use Rattle.tw_world.specs.Turns.InTurns.{second}
 use Rattle.tw_world.specs.Folder.{Files, FolderModel}
 use Rattle.tw_world.proofs.Crashes.{CountsNow, weaker}
 use Rattle.tw_world.proofs.TurnRules.{disk_run, ends_first, ends_second}
-use Rattle.tw_journal.specs.Record.{rows}
+use Rattle.tw_journal.proofs.Places.{left_records}
 use Rattle.tw_journal.specs.Open.{Records}
 use Rattle.tw_journal.specs.Journal.{IsOpenOn, RecordsOrMore}
 use Rattle.tw_journal.specs.declared.journal.Journal.{Journal}
@@ -23,7 +23,7 @@ use Rattle.timew_store.proofs.ShortBody.{last_length, short_body}
 
 -- the records of a journal that is open
 pub open_records : {D : Type 0} (n : DiskModel D) (journal : Journal) (d : D) (bodies : List (List ℕ)) (c : List ℕ) → IsOpenOn n magic journal d bodies → n.leaves d c → Records magic c bodies
-open_records n journal d bodies c on left = inl (record { tail = []; split = on.rest.settled c left ∙ on.rest.file ∙ sym (append-nil (rows (magic ∷ bodies))); lengths = on.rest.lengths; closed = tt })
+open_records n journal d bodies c on left = left_records n magic journal d bodies on c left
 
 pub replayed-push : (bodies : List (List ℕ)) (h : History) (body : List ℕ) → replayed h (bodies ++ body ∷ []) ≡ (replayed h bodies >>= λ g. stepped g body)
 replayed-push [] h body = last_step (stepped h body)
@@ -94,7 +94,7 @@ module _ {F D : Type 0} (m : FolderModel F) (n : DiskModel D) (journal : Journal
     tells = tells;
     settled = settled;
     open_on = on;
-    stands = stands_more bodies before after body ready.rest.stands (ready.step (last_length (magic ∷ bodies) body on.rest.lengths));
+    stands = stands_more bodies before after body ready.rest.stands (ready.step (last_length bodies body on.rest.lengths));
     whole = ap (finished (m.seen f1)) ready.last ∙ ap (λ (s : Files). finished s changes) (seen ∙ ap (replaced (m.seen f0)) (sym (take_all (length changes) changes (omega arith))))
         ∙ finished_partly changes (m.seen f0) (length changes) ready.apart ready.old ∙ sym seen;
   }

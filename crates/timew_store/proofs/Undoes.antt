@@ -11,10 +11,12 @@ use Rattle.std.specs.Ordering.{is_lt}
 use Rattle.tw_world.specs.Folder.{Files, FolderModel, same_bytes, bytes_cmp}
 use Rattle.tw_world.proofs.Crashes.{CountsNow}
 use Rattle.tw_world.proofs.TurnRules.{disk_run, ends_second, turns_weaker}
-use Rattle.tw_journal.specs.Journal.{AppendRefused}
+use Rattle.tw_journal.specs.Errors.{read_in_all}
+use Rattle.tw_journal.specs.declared.error.ReadError.{ReadError}
+use Rattle.tw_journal.specs.declared.error.ReadError.TheVariants as reads
 use Rattle.tw_journal.specs.declared.journal.Journal.{Journal}
-use Rattle.tw_journal.specs.declared.journal.JournalError.{JournalError}
-use Rattle.tw_journal.specs.declared.journal.JournalError.TheVariants as cause
+use Rattle.tw_journal.specs.declared.error.JournalError.{JournalError}
+use Rattle.tw_journal.specs.declared.error.JournalError.TheVariants as cause
 use Rattle.tw_journal.proofs.Places.{still_open}
 use Rattle.timew_store.specs.Body.{FileChange, Step, AreMonths, body_of, names_rise, rises_from, ◌>>=◌}
 use Rattle.timew_store.specs.Body.Step.{Undo}
@@ -27,7 +29,7 @@ use Rattle.timew_store.specs.Undoing.{NoUndo, first_edited, undone_held, unless_
 use Rattle.timew_store.specs.Undoing.NoUndo.{Nothing, EditedFile, Bad}
 use Rattle.timew_store.specs.Store.{HoldMonths, IsStoreOn}
 use Rattle.timew_store.specs.Undo.{undo_bodies, IsTakenBack, OpensToEitherOf, not_read_back, not_written, WalkRefused, BackRefused, IsUndoBody, UndoJournalRefused, UndoRefused}
-use Rattle.timew_store.specs.Writing.{IsReadyFor, WriteRefused}
+use Rattle.timew_store.specs.Writing.{IsReadyFor, RecordRefused, WriteRefused}
 use Rattle.timew_store.specs.declared.files.MonthFile.{MonthFile}
 use Rattle.timew_store.specs.declared.rows.RowsError.{RowsError}
 use Rattle.timew_store.specs.declared.rows.RowsError.TheVariants as read
@@ -244,12 +246,11 @@ module _ {F D : Type 0} (m : FolderModel F) (n : DiskModel D) where
       (turns_weaker m (crash_of n) (OpensToEither (held_by m f0 history) (record { files = replaced (m.seen f0) changes; undoable = (top_of history.undoable change top).0 })) P
       (λ x y has. either_back m n store f0 d0 bodies history on change top x y rows changes are none good has) f0 d1 f1 d2 run)
 
-  pub walk_undo_refused : (old new : Store) (f0 : F) (d0 d1 : D) (e : JournalError) → WalkRefused n d0 d1 old.journal e → UndoJournalRefused m n old new f0 d0 d1 e
-  walk_undo_refused old new f0 d0 d1 cause.Disk r = r
-  walk_undo_refused old new f0 d0 d1 cause.Memory r = tt
-  walk_undo_refused old new f0 d0 d1 (cause.Damaged offset) r = r
-  walk_undo_refused old new f0 d0 d1 (cause.TooLong bytes) r = absurd r
-  walk_undo_refused old new f0 d0 d1 cause.Closed r = r
+  pub walk_undo_refused : (old new : Store) (f0 : F) (d0 d1 : D) (e : ReadError) → WalkRefused n d0 d1 old.journal e → UndoJournalRefused m n old new f0 d0 d1 (read_in_all e)
+  walk_undo_refused old new f0 d0 d1 reads.Disk r = r
+  walk_undo_refused old new f0 d0 d1 reads.Memory r = tt
+  walk_undo_refused old new f0 d0 d1 (reads.Damaged offset) r = r
+  walk_undo_refused old new f0 d0 d1 reads.Closed r = r
 
   same_store : (old new : Store) → new.journal ≡ old.journal → new.months ≡ old.months → new ≡ old
   same_store old new journals months = ap (λ (j : Journal). let s : Store = record { journal = j; months = new.months } in s) journals ∙ ap (λ (k : Months). let s : Store = record { journal = old.journal; months = k } in s) months
@@ -259,7 +260,7 @@ module _ {F D : Type 0} (m : FolderModel F) (n : DiskModel D) where
   Leads old f0 d0 = (bodies : List (List ℕ)) (history : History) → IsStoreOn m n old f0 d0 bodies history → (back : Held) × (undone_held (held_by m f0 history) ≡ Ok back)
 
   append_undo_refused : (old new : Store) (f0 : F) (d0 d1 d2 : D) (body : List ℕ) (e : JournalError) → disk.Untouched n d0 d1 → IsUndoBody m n old f0 d0 body → Leads old f0 d0 → new.months ≡ old.months
-      → AppendRefused n old.journal new.journal d1 d2 (length body + 5) e → UndoJournalRefused m n old new f0 d0 d2 e
+      → RecordRefused n old.journal new.journal d1 d2 (length body + 5) e → UndoJournalRefused m n old new f0 d0 d2 e
   append_undo_refused old new f0 d0 d1 d2 body cause.Disk untouched is leads same r = omega (arith, untouched.kept.faults, r.0)
   append_undo_refused old new f0 d0 d1 d2 body cause.Memory untouched is leads same r = tt
   append_undo_refused old new f0 d0 d1 d2 body (cause.Damaged offset) untouched is leads same r = absurd r

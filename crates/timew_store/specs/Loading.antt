@@ -1,14 +1,16 @@
 -- What loading a store does to the folder and the journal.
-use Rattle.std.specs.Prelude.{◌≡◌, ◌⊎◌, ◌≤◌, ℕ, true, List, [], ◌∷◌, ◌++◌, length, take, slice_index_or, Option, Some, None}
+use Rattle.std.specs.Prelude.{◌≡◌, ◌⊎◌, ◌<◌, ◌≤◌, ℕ, true, List, [], ◌∷◌, ◌++◌, length, take, slice_index_or, Option, Some, None}
 use Rattle.tw_world.specs.Disk.{DiskModel, Rose}
 use Rattle.tw_world.specs.Disk as disk
 use Rattle.tw_world.specs.Crash.{Settled, Tells, Kept, LeavesOnly}
 use Rattle.tw_world.specs.Folder.{Files, FolderModel}
-use Rattle.tw_journal.specs.Record.{rows}
-use Rattle.tw_journal.specs.Open.{Records, IsDamagedAt, IsFault}
+use Rattle.tw_journal.specs.Form.{place_in}
+use Rattle.tw_journal.specs.Open.{Records, IsDamagedAt}
 use Rattle.tw_journal.specs.Journal.{IsOpenOn}
-use Rattle.tw_journal.specs.declared.journal.JournalError.{JournalError}
-use Rattle.tw_journal.specs.declared.journal.JournalError.TheVariants.{Disk, Closed, Damaged, TooLong, Memory as NoMemory}
+use Rattle.tw_journal.specs.declared.error.ReadError.{ReadError}
+use Rattle.tw_journal.specs.declared.error.ReadError.TheVariants as reads
+use Rattle.tw_journal.specs.declared.error.JournalError.{JournalError}
+use Rattle.tw_journal.specs.declared.error.JournalError.TheVariants.{Disk, Closed, Damaged, TooLong, Memory as NoMemory}
 use Rattle.tw_journal.specs.declared.journal.Journal.{Journal}
 use Rattle.timew_store.specs.Body.{FileChange, Step, step_of}
 use Rattle.timew_store.specs.Body.Step.{Change, Undo}
@@ -50,10 +52,15 @@ last_of [] = Some []
 last_of (body ∷ []) = files_or (step_of body)
 last_of (body ∷ next ∷ bodies) = last_of (next ∷ bodies)
 
+-- the records of a file stand where they stood in the one before
+abbrev pub StandAsBefore : (before after : List ℕ) → List (List ℕ) → Type 0
+StandAsBefore before after bodies = (k : ℕ) → k < length bodies → place_in magic after bodies k ≡ place_in magic before bodies k
+
 -- The journal was opened and the last change is finished.
 pub record IsLoaded {F D : Type 0} (m : FolderModel F) (n : DiskModel D) (f0 f1 : F) (d0 d1 : D) (journal : Journal) : Type 0 where
   pub bodies : List (List ℕ)
   pub records : Records magic (n.seen d0) bodies
+  pub places : StandAsBefore (n.seen d0) (n.seen d1) bodies
   pub open_on : IsOpenOn n magic journal d1 bodies
   pub rest : (history : History) → Stands bodies history → IsAtRest m n journal f1 d1 bodies history
   pub finished_now : (history : History) → Stands bodies history → m.seen f1 ≡ finished (m.seen f0) history.last
@@ -64,39 +71,37 @@ FilesRefused m old new Folder = Rose (m.faults old) (m.faults new)
 FilesRefused m old new (OfJournal e) = ⊥
 FilesRefused m old new Memory = Unit {0}
 
--- the body with this number is that of no step, and its record stands at this offset
-abbrev pub IsNoStep : List (List ℕ) → ℕ → ℕ → Type 0
-IsNoStep bodies k offset = (step_of (slice_index_or bodies k []) ≡ None) × (offset ≡ length (rows (magic ∷ take k bodies)))
+-- of a file with these bodies the one with this number is that of no step, and its record stands at this offset
+abbrev pub IsNoStep : List ℕ → List (List ℕ) → ℕ → ℕ → Type 0
+IsNoStep file bodies k offset = (step_of (slice_index_or bodies k []) ≡ None) × (offset ≡ place_in magic file bodies k)
 
 -- why the record with this number is not read: as damaged only where it holds no step
-abbrev pub StepRefused : {D : Type 0} → DiskModel D → (before after : D) → Journal → ℕ → JournalError → Type 0
-StepRefused n before after journal k Disk = Rose (n.faults before) (n.faults after)
-StepRefused n before after journal k NoMemory = Unit {0}
-StepRefused n before after journal k (Damaged offset) = disk.Tells n before → (bodies : List (List ℕ)) → IsOpenOn n magic journal before bodies → IsNoStep bodies k offset
-StepRefused n before after journal k (TooLong bytes) = ⊥
-StepRefused n before after journal k Closed = journal.closed ≡ true
+abbrev pub StepRefused : {D : Type 0} → DiskModel D → (before after : D) → Journal → ℕ → ReadError → Type 0
+StepRefused n before after journal k reads.Disk = Rose (n.faults before) (n.faults after)
+StepRefused n before after journal k reads.Memory = Unit {0}
+StepRefused n before after journal k (reads.Damaged offset) = disk.Tells n before → (bodies : List (List ℕ)) → IsOpenOn n magic journal before bodies → IsNoStep (n.seen before) bodies k offset
+StepRefused n before after journal k reads.Closed = journal.closed ≡ true
 
--- the last of these bodies is that of no step, and its record stands at this offset
-pub record EndsInNoStep (bodies : List (List ℕ)) (offset : ℕ) : Type 0 where
+-- the last of a file's bodies is that of no step, and its record stands at this offset
+pub record EndsInNoStep (file : List ℕ) (bodies : List (List ℕ)) (offset : ℕ) : Type 0 where
   pub front : List (List ℕ)
   pub body : List ℕ
   pub split : bodies ≡ front ++ body ∷ []
   pub none : step_of body ≡ None
-  pub place : offset ≡ length (rows (magic ∷ front))
+  pub place : offset ≡ place_in magic file bodies (length front)
 
 -- why the last record is not read: as damaged only where it holds no step
-abbrev pub LastRefused : {D : Type 0} → DiskModel D → (before after : D) → Journal → JournalError → Type 0
-LastRefused n before after journal Disk = Rose (n.faults before) (n.faults after)
-LastRefused n before after journal NoMemory = Unit {0}
-LastRefused n before after journal (Damaged offset) = disk.Tells n before → (bodies : List (List ℕ)) → IsOpenOn n magic journal before bodies → EndsInNoStep bodies offset
-LastRefused n before after journal (TooLong bytes) = ⊥
-LastRefused n before after journal Closed = journal.closed ≡ true
+abbrev pub LastRefused : {D : Type 0} → DiskModel D → (before after : D) → Journal → ReadError → Type 0
+LastRefused n before after journal reads.Disk = Rose (n.faults before) (n.faults after)
+LastRefused n before after journal reads.Memory = Unit {0}
+LastRefused n before after journal (reads.Damaged offset) = disk.Tells n before → (bodies : List (List ℕ)) → IsOpenOn n magic journal before bodies → EndsInNoStep (n.seen before) bodies offset
+LastRefused n before after journal reads.Closed = journal.closed ≡ true
 
 -- the file has records, the last of which holds no step
 pub record HoldsNoStep (file : List ℕ) (offset : ℕ) : Type 0 where
   pub bodies : List (List ℕ)
   pub records : Records magic file bodies
-  pub end : EndsInNoStep bodies offset
+  pub end : EndsInNoStep file bodies offset
 
 -- why a journal is not opened with its last step
 abbrev pub OpeningRefused : {D : Type 0} → DiskModel D → (before after : D) → JournalError → Type 0
@@ -112,8 +117,16 @@ FinishRefused m n f0 f1 d0 d1 Folder = Rose (m.faults f0) (m.faults f1)
 FinishRefused m n f0 f1 d0 d1 (OfJournal e) = OpeningRefused n d0 d1 e
 FinishRefused m n f0 f1 d0 d1 Memory = Unit {0}
 
+-- a refusal of the journal that has nothing to do with its bytes
+abbrev pub IsJournalFault : JournalError → Type 0
+IsJournalFault Disk = Unit {0}
+IsJournalFault NoMemory = Unit {0}
+IsJournalFault (Damaged offset) = ⊥
+IsJournalFault (TooLong bytes) = ⊥
+IsJournalFault Closed = ⊥
+
 -- a refusal that has nothing to do with the bytes of the journal
 abbrev pub IsStoreFault : StoreError → Type 0
 IsStoreFault Folder = Unit {0}
-IsStoreFault (OfJournal e) = IsFault e
+IsStoreFault (OfJournal e) = IsJournalFault e
 IsStoreFault Memory = Unit {0}

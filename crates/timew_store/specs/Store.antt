@@ -4,17 +4,18 @@ use Rattle.tw_world.specs.Disk.{DiskModel, Rose}
 use Rattle.tw_world.specs.Disk as disk
 use Rattle.tw_world.specs.Crash.{Settled, Tells}
 use Rattle.tw_world.specs.Folder.{Files, FolderModel}
-use Rattle.tw_journal.specs.Open.{Records, IsFault}
-use Rattle.tw_journal.specs.Journal.{is_closed, journal_end, IsOpenOn, AppendRefused}
+use Rattle.tw_journal.specs.Open.{Records}
+use Rattle.tw_journal.specs.Journal.{is_closed, journal_end, IsOpenOn}
 use Rattle.tw_journal.specs.declared.journal.Journal.{Journal}
-use Rattle.tw_journal.specs.declared.journal.JournalError.{JournalError}
+use Rattle.tw_journal.specs.declared.error.JournalError.{JournalError}
 use Rattle.timew_store.specs.Body.{FileChange, body_of}
 use Rattle.timew_store.specs.Body.Step.{Change}
 use Rattle.timew_store.specs.History.{History, Stands}
 use Rattle.timew_store.specs.Held.{magic, Held, OpensTo, IsAtRest, finished, held_by, replaced}
 use Rattle.timew_store.specs.Months.{changes_to}
 use Rattle.timew_store.specs.Gathered.{files_of, months_in}
-use Rattle.timew_store.specs.Loading.{OpeningRefused}
+use Rattle.timew_store.specs.Loading.{OpeningRefused, IsJournalFault, StandAsBefore}
+use Rattle.timew_store.specs.Writing.{RecordRefused}
 use Rattle.timew_store.specs.Rows.{rows_of}
 use Rattle.timew_store.specs.declared.interval.Interval.{Interval}
 use Rattle.timew_store.specs.declared.kept.Months.{Months}
@@ -54,6 +55,7 @@ store_end store = journal_end store.journal
 pub record IsLoadedStore {F D : Type 0} (m : FolderModel F) (n : DiskModel D) (f0 f1 : F) (d0 d1 : D) (store : Store) : Type 0 where
   pub bodies : List (List ℕ)
   pub records : Records magic (n.seen d0) bodies
+  pub places : StandAsBefore (n.seen d0) (n.seen d1) bodies
   pub on : (history : History) → Stands bodies history → IsStoreOn m n store f1 d1 bodies history
   pub finished_now : (history : History) → Stands bodies history → m.seen f1 ≡ finished (m.seen f0) history.last
   -- whatever the records stand for
@@ -99,7 +101,7 @@ LoadRefused m n f0 f1 d0 d1 Memory = Unit {0}
 -- a refusal that has nothing to do with the bytes of the journal
 abbrev pub IsLoadFault : LoadError → Type 0
 IsLoadFault Folder = Unit {0}
-IsLoadFault (OfJournal e) = IsFault e
+IsLoadFault (OfJournal e) = IsJournalFault e
 IsLoadFault (BadLine file line) = Unit {0}
 IsLoadFault Memory = Unit {0}
 
@@ -127,7 +129,7 @@ pub record IsMovedTo {F D : Type 0} (m : FolderModel F) (n : DiskModel D) (store
 
 -- the journal refused this body, and the folder was not used
 pub record IsRefusedBody {D : Type 0} (n : DiskModel D) (old new : Store) (d0 d1 : D) (body : List ℕ) (e : JournalError) : Type 0 where
-  pub refused : AppendRefused n old.journal new.journal d0 d1 (length body + 5) e
+  pub refused : RecordRefused n old.journal new.journal d0 d1 (length body + 5) e
   pub months : new.months ≡ old.months
 
 -- the record of this body stands

@@ -3,11 +3,12 @@ use Rattle.std.specs.Prelude.{◌≡◌, true, ◌⊎◌, ◌<◌, ◌+◌, ◌^
 use Rattle.tw_world.specs.Disk.{DiskModel, Rose, Untouched}
 use Rattle.tw_world.specs.Disk as disk
 use Rattle.tw_world.specs.Folder.{Files, FolderModel}
-use Rattle.tw_journal.specs.Record.{rows}
-use Rattle.tw_journal.specs.Journal.{IsOpenOn, AppendRefused}
+use Rattle.tw_journal.specs.Journal.{IsOpenOn}
 use Rattle.tw_journal.specs.declared.journal.Journal.{Journal}
-use Rattle.tw_journal.specs.declared.journal.JournalError.{JournalError}
-use Rattle.tw_journal.specs.declared.journal.JournalError.TheVariants as cause
+use Rattle.tw_journal.specs.declared.error.ReadError.{ReadError}
+use Rattle.tw_journal.specs.declared.error.ReadError.TheVariants as reads
+use Rattle.tw_journal.specs.declared.error.JournalError.{JournalError}
+use Rattle.tw_journal.specs.declared.error.JournalError.TheVariants as cause
 use Rattle.timew_store.specs.Body.{FileChange, body_of, step_of}
 use Rattle.timew_store.specs.Body.Step.{Undo}
 use Rattle.timew_store.specs.History.{History, Stands, exchanged}
@@ -36,12 +37,11 @@ not_read_back (read.BadLine file line) = BadLine file line
 not_read_back read.Memory = Memory
 
 -- Why the change is not found: as damaged only at a record that holds no step.
-abbrev pub WalkRefused : {D : Type 0} → DiskModel D → (before after : D) → Journal → JournalError → Type 0
-WalkRefused n before after journal cause.Disk = Rose (n.faults before) (n.faults after)
-WalkRefused n before after journal cause.Memory = Unit {0}
-WalkRefused n before after journal (cause.Damaged offset) = disk.Tells n before → (bodies : List (List ℕ)) → IsOpenOn n magic journal before bodies → (k : ℕ) × (k < length bodies) × IsNoStep bodies k offset
-WalkRefused n before after journal (cause.TooLong bytes) = ⊥
-WalkRefused n before after journal cause.Closed = journal.closed ≡ true
+abbrev pub WalkRefused : {D : Type 0} → DiskModel D → (before after : D) → Journal → ReadError → Type 0
+WalkRefused n before after journal reads.Disk = Rose (n.faults before) (n.faults after)
+WalkRefused n before after journal reads.Memory = Unit {0}
+WalkRefused n before after journal (reads.Damaged offset) = disk.Tells n before → (bodies : List (List ℕ)) → IsOpenOn n magic journal before bodies → (k : ℕ) × (k < length bodies) × IsNoStep (n.seen before) bodies k offset
+WalkRefused n before after journal reads.Closed = journal.closed ≡ true
 
 -- why the old bytes of a change are not put back into these month files
 abbrev pub BackRefused : Months → List FileChange → UndoError → Type 0
@@ -98,7 +98,7 @@ JournalRead n old new d0 d1 = (new ≡ old) × Untouched n d0 d1
 abbrev pub UndoJournalRefused : {F D : Type 0} → FolderModel F → DiskModel D → (old new : Store) (f0 : F) (d0 d1 : D) → JournalError → Type 0
 UndoJournalRefused m n old new f0 d0 d1 cause.Disk = Rose (n.faults d0) (n.faults d1)
 UndoJournalRefused m n old new f0 d0 d1 cause.Memory = Unit {0}
-UndoJournalRefused m n old new f0 d0 d1 (cause.Damaged offset) = disk.Tells n d0 → (bodies : List (List ℕ)) → IsOpenOn n magic old.journal d0 bodies → (k : ℕ) × (k < length bodies) × IsNoStep bodies k offset
+UndoJournalRefused m n old new f0 d0 d1 (cause.Damaged offset) = disk.Tells n d0 → (bodies : List (List ℕ)) → IsOpenOn n magic old.journal d0 bodies → (k : ℕ) × (k < length bodies) × IsNoStep (n.seen d0) bodies k offset
 UndoJournalRefused m n old new f0 d0 d1 (cause.TooLong bytes) = (2 ^ 30 < bytes) × JournalRead n old new d0 d1 × ((bodies : List (List ℕ)) (history : History) → IsStoreOn m n old f0 d0 bodies history → WritesBytes m f0 history bytes)
 UndoJournalRefused m n old new f0 d0 d1 cause.Closed = old.journal.closed ≡ true
 

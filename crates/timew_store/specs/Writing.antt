@@ -5,6 +5,9 @@ use Rattle.tw_world.specs.Disk.{DiskModel, Rose}
 use Rattle.tw_world.specs.Folder.{FolderModel, is_file_name}
 use Rattle.tw_journal.specs.Journal.{IsOpenOn, AppendRefused}
 use Rattle.tw_journal.specs.declared.journal.Journal.{Journal}
+use Rattle.tw_journal.specs.declared.error.AppendError.TheVariants as appends
+use Rattle.tw_journal.specs.declared.error.JournalError.{JournalError}
+use Rattle.tw_journal.specs.declared.error.JournalError.TheVariants as errors
 use Rattle.tw_world.specs.declared.folder.FolderError.{FolderError}
 use Rattle.tw_world.specs.declared.folder.FolderError.TheVariants.{Failed, Memory as NoRoom}
 use Rattle.timew_store.specs.Body.{FileChange}
@@ -37,8 +40,16 @@ pub record IsReadyFor {F D : Type 0} (m : FolderModel F) (n : DiskModel D) (jour
   pub old : HasOld (m.seen folder) changes
   pub apart : AreApart changes
 
+-- why the journal refuses a record of so many bytes
+abbrev pub RecordRefused : {D : Type 0} → DiskModel D → (old new : Journal) (before after : D) (size : ℕ) → JournalError → Type 0
+RecordRefused n old new before after size errors.Disk = AppendRefused n old new before after size appends.Disk
+RecordRefused n old new before after size errors.Closed = AppendRefused n old new before after size appends.Closed
+RecordRefused n old new before after size (errors.TooLong bytes) = AppendRefused n old new before after size (appends.TooLong bytes)
+RecordRefused n old new before after size (errors.Damaged offset) = ⊥
+RecordRefused n old new before after size errors.Memory = ⊥
+
 -- why a change is not written: where the journal refuses, the folder was not used
 abbrev pub WriteRefused : {F D : Type 0} → FolderModel F → DiskModel D → (old new : Journal) (f0 f1 : F) (d0 d1 : D) (body : List ℕ) → StoreError → Type 0
-WriteRefused m n old new f0 f1 d0 d1 body (OfJournal e) = AppendRefused n old new d0 d1 (length body + 5) e × (f1 ≡ f0)
+WriteRefused m n old new f0 f1 d0 d1 body (OfJournal e) = RecordRefused n old new d0 d1 (length body + 5) e × (f1 ≡ f0)
 WriteRefused m n old new f0 f1 d0 d1 body Folder = Rose (m.faults f0) (m.faults f1) × ((bodies : List (List ℕ)) → IsOpenOn n magic old d0 bodies → IsOpenOn n magic new d1 (bodies ++ body ∷ []))
 WriteRefused m n old new f0 f1 d0 d1 body Memory = ⊥

@@ -2,7 +2,7 @@
 
 use crate::rows::RowsError;
 use std::alloc::AllocFailed;
-use tw_journal::JournalError;
+use tw_journal::{AppendError, JournalError, OpenError, ReadError};
 use tw_world::{FolderError, Memory, Text};
 
 /// Why a folder and a journal are not used together.
@@ -27,14 +27,39 @@ impl From<Memory> for StoreError {
     }
 }
 
-impl From<JournalError> for StoreError {
+impl From<OpenError> for StoreError {
     ghost use Rattle.std.specs.Prelude.{◌≡◌};
+    ghost use Rattle.tw_journal.specs.Errors.{open_in_all};
     ghost use Rattle.timew_store.specs.declared.error.StoreError.TheVariants.{Journal as OfJournal};
 
-    ghost from_gives = { λ error e. e ≡ OfJournal error };
+    ghost from_gives = { λ error e. e ≡ OfJournal (open_in_all error) };
 
-    fn from(error: JournalError) -> StoreError {
-        StoreError::Journal(error)
+    fn from(error: OpenError) -> StoreError {
+        StoreError::Journal(JournalError::from(error))
+    }
+}
+
+impl From<ReadError> for StoreError {
+    ghost use Rattle.std.specs.Prelude.{◌≡◌};
+    ghost use Rattle.tw_journal.specs.Errors.{read_in_all};
+    ghost use Rattle.timew_store.specs.declared.error.StoreError.TheVariants.{Journal as OfJournal};
+
+    ghost from_gives = { λ error e. e ≡ OfJournal (read_in_all error) };
+
+    fn from(error: ReadError) -> StoreError {
+        StoreError::Journal(JournalError::from(error))
+    }
+}
+
+impl From<AppendError> for StoreError {
+    ghost use Rattle.std.specs.Prelude.{◌≡◌};
+    ghost use Rattle.tw_journal.specs.Errors.{append_in_all};
+    ghost use Rattle.timew_store.specs.declared.error.StoreError.TheVariants.{Journal as OfJournal};
+
+    ghost from_gives = { λ error e. e ≡ OfJournal (append_in_all error) };
+
+    fn from(error: AppendError) -> StoreError {
+        StoreError::Journal(JournalError::from(error))
     }
 }
 
@@ -151,14 +176,15 @@ impl From<RowsError> for UndoError {
     }
 }
 
-impl From<JournalError> for UndoError {
+impl From<ReadError> for UndoError {
     ghost use Rattle.std.specs.Prelude.{◌≡◌};
+    ghost use Rattle.tw_journal.specs.Errors.{read_in_all};
     ghost use Rattle.timew_store.specs.declared.error.UndoError.TheVariants.{Journal as OfJournal};
 
-    ghost from_gives = { λ error e. e ≡ OfJournal error };
+    ghost from_gives = { λ error e. e ≡ OfJournal (read_in_all error) };
 
-    fn from(error: JournalError) -> UndoError {
-        UndoError::Journal(error)
+    fn from(error: ReadError) -> UndoError {
+        UndoError::Journal(JournalError::from(error))
     }
 }
 

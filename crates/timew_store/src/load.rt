@@ -14,10 +14,10 @@ ghost use Rattle.timew_store.specs.Writing.{change_of, changes_of, AreFileNames}
 
 use crate::body::{Record, read_record};
 use crate::error::StoreError;
-use crate::fields::ReadError;
+use crate::fields::ReadError as BodyError;
 use crate::write::NewFile;
 use std::alloc::Global;
-use tw_journal::{Journal, JournalError};
+use tw_journal::{Journal, ReadError};
 use tw_world::{Disk, Folder, FolderError};
 
 // Whether a file has these bytes. One that is not there has none.
@@ -74,7 +74,7 @@ pub(crate) fn read_step<D: Disk>(
     journal: &Journal,
     disk: &mut D,
     n: u64,
-) -> Result<Record, JournalError>
+) -> Result<Record, ReadError>
     requires inside { n < journal_count journal.now }
     requires length { is_closed journal.now ≡ false → D.model.len disk.old ≡ journal_end journal.now }
     ensures step { IfOk result (λ held. (bodies : List (List ℕ)) → IsOpenOn D.model magic journal.now disk.old bodies → step_of (slice_index_or bodies n []) ≡ Some (step_in held)) }
@@ -86,10 +86,10 @@ pub(crate) fn read_step<D: Disk>(
     let body = journal.body(alloc, disk, n)?;
     match read_record(alloc, &body) {
         Ok(held) => Ok(held),
-        Err(ReadError::Memory) => Err(JournalError::Memory),
-        Err(ReadError::Malformed) => {
+        Err(BodyError::Memory) => Err(ReadError::Memory),
+        Err(BodyError::Malformed) => {
             let offset = journal.offset(disk, n)?;
-            Err(JournalError::Damaged { offset })
+            Err(ReadError::Damaged { offset })
         }
     }
 }
@@ -99,7 +99,7 @@ fn last_files<D: Disk>(
     alloc: Global,
     journal: &Journal,
     disk: &mut D,
-) -> Result<Vec<NewFile>, JournalError>
+) -> Result<Vec<NewFile>, ReadError>
     requires length { is_closed journal.now ≡ false → D.model.len disk.old ≡ journal_end journal.now }
     ensures value { IfOk result (λ files. (bodies : List (List ℕ)) → IsOpenOn D.model magic journal.now disk.old bodies → last_of bodies ≡ Some (changes_of files.items)) }
     ensures names { IfOk result (λ files. AreFileNames files.items) }

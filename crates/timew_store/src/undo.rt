@@ -26,7 +26,7 @@ use crate::record::undo_body;
 use crate::rows::read_rows;
 use crate::write::NewFile;
 use std::alloc::Global;
-use tw_journal::{Journal, JournalError};
+use tw_journal::{Journal, ReadError};
 use tw_world::{Disk, Memory, Text};
 
 /// The last change that is not undone, found from the last record back: an undo takes back one change more.
@@ -34,7 +34,7 @@ pub(crate) fn last_change<D: Disk>(
     alloc: Global,
     journal: &Journal,
     disk: &mut D,
-) -> Result<Option<Vec<NewFile>>, JournalError>
+) -> Result<Option<Vec<NewFile>>, ReadError>
     requires length { is_closed journal.now ≡ false → D.model.len disk.old ≡ journal_end journal.now }
     ensures found { IfOk result (λ found. (bodies : List (List ℕ)) (history : History) → IsOpenOn D.model magic journal.now disk.old bodies → Stands bodies history → option_map (λ files. changes_of files.items) found ≡ slice_get history.undoable 0) }
     ensures months { IfOk result (λ found. IfSome found (λ files. AreMonths (changes_of files.items))) }

@@ -57,7 +57,7 @@ pub(crate) fn write_change<F: Folder, D: Disk>(
     ensures disk { tells.Kept D.model disk.old disk.new }
 {
     if let Err(error) = journal.append(disk, body) {
-        return Err(StoreError::Journal(error));
+        return Err(StoreError::from(error));
     }
     if let Err(_) = replace_all(folder, files) {
         return Err(StoreError::Folder);

@@ -3,7 +3,7 @@ use Rattle.std.specs.Prelude.{ℕ, ◌^◌, ◌-◌, ◌==◌, ◌&&◌, nat_le,
 use Rattle.tw_text.specs.Natural.{natural}
 use Rattle.tw_files.specs.declared.connection.Limits.{Limits}
 use Rattle.tw.specs.declared.server_words.Service.{Service}
-use Rattle.tw_journal.specs.declared.journal.JournalError.TheVariants as journal
+use Rattle.tw_journal.specs.declared.error.JournalError.TheVariants as journal
 use Rattle.tw_server.specs.declared.server.ServerError.{ServerError}
 use Rattle.tw_server.specs.declared.server.ServerError.TheVariants as refused
 use Rattle.tw_server.specs.declared.serve.ServeEnd.{ServeEnd}

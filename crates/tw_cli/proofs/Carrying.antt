@@ -128,7 +128,7 @@ module _ {D : Type 0} (m : DiskModel D) (request : Request) (ids : IdWords) wher
         where
           by : IsOpenedReplica m d0 mid old → HasMore (m.seen d0) (m.seen d1) (step_bodies is.step) (held_state old) (prepared_state ready.prepared) × Settled m d1
           by o = let n : IsReplicaOn m new d1 (o.bodies ++ step_bodies is.step) = prepared_on m old is.step ready.prepared is.prepared o.bodies mid d1 o.now new state opens in
-              (record { bodies = o.bodies; had = o.records; stood = o.now.stands; has = records_of m d1 (o.bodies ++ step_bodies is.step) n.open_on.rest; stands = subst (Stands (o.bodies ++ step_bodies is.step)) state n.stands }, n.open_on.rest.settled)
+              (record { bodies = o.bodies; had = o.records; stood = o.now.stands; has = records_of m d1 new (o.bodies ++ step_bodies is.step) n; stands = subst (Stands (o.bodies ++ step_bodies is.step)) state n.stands }, n.open_on.rest.settled)
 
       -- a write that passes the limit
       pub passes_limit : (bytes : ℕ) → PreparedRefused m ready.prepared mid d1 (writes.TooLong bytes) → PassesLimit m request ids d0 d1 bytes

@@ -5,8 +5,8 @@ use Rattle.tw_world.specs.Sink.{SinkModel, Got, GotPart}
 use Rattle.tw_world.specs.Source.{SourceModel}
 use Rattle.tw_world.specs.declared.ids.IdWords.{IdWords}
 use Rattle.tw_http.specs.Link.{LinkModel}
-use Rattle.tw_journal.specs.declared.journal.JournalError.{JournalError}
-use Rattle.tw_journal.specs.declared.journal.JournalError.TheVariants as journal
+use Rattle.tw_journal.specs.declared.error.AppendError.{AppendError}
+use Rattle.tw_journal.specs.declared.error.AppendError.TheVariants as journal
 use Rattle.tw_sync.specs.declared.error.SyncError.{SyncError}
 use Rattle.tw_sync.specs.declared.error.SyncError.TheVariants as syncs
 use Rattle.tw_commands.specs.declared.request.Request.{Request}
@@ -56,12 +56,10 @@ carry_fails (carry.TooLong bytes) = refl
 carry_fails carry.Disk = refl
 carry_fails carry.Memory = refl
 
-journal_fails : (e : JournalError) → end_of (journal_cause e) ≡ Failed
+journal_fails : (e : AppendError) → end_of (journal_cause e) ≡ Failed
 journal_fails journal.Disk = refl
 journal_fails journal.Closed = refl
-journal_fails (journal.Damaged offset) = refl
 journal_fails (journal.TooLong bytes) = refl
-journal_fails journal.Memory = refl
 
 sync_fails : (e : SyncError) → end_of (sync_cause e) ≡ Failed
 sync_fails (syncs.Journal e) = journal_fails e

@@ -1,7 +1,7 @@
 -- What a cause says, and the cause that each error becomes.
 use Rattle.std.specs.Prelude.{Bool, true, false, Result, Ok, Err}
-use Rattle.tw_journal.specs.declared.journal.JournalError.{JournalError}
-use Rattle.tw_journal.specs.declared.journal.JournalError.TheVariants as journal
+use Rattle.tw_journal.specs.declared.error.AppendError.{AppendError}
+use Rattle.tw_journal.specs.declared.error.AppendError.TheVariants as journal
 use Rattle.tw_sync.specs.declared.error.SyncError.{SyncError}
 use Rattle.tw_sync.specs.declared.error.SyncError.TheVariants as syncs
 use Rattle.tw_words.specs.declared.word_error.WordError.TheVariants as wrong
@@ -78,13 +78,11 @@ carry_cause (carry.TooLong bytes) = RecordTooLong bytes
 carry_cause carry.Disk = DiskFault
 carry_cause carry.Memory = Memory
 
--- of a journal
-abbrev pub journal_cause : JournalError → Cause
+-- of a record that is not written
+abbrev pub journal_cause : AppendError → Cause
 journal_cause journal.Disk = DiskFault
 journal_cause journal.Closed = DiskFault
-journal_cause (journal.Damaged offset) = Damaged offset
 journal_cause (journal.TooLong bytes) = RecordTooLong bytes
-journal_cause journal.Memory = Memory
 
 -- of a sync that was refused
 abbrev pub sync_cause : SyncError → Cause

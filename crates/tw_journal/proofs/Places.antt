@@ -1,13 +1,15 @@
 -- Where the records of a row stand.
-use Rattle.std.specs.Prelude.{All, slice_index_or}
+use Rattle.std.specs.Prelude.{All, slice_index_or, Option, Some, unwrap_or}
 use Rattle.std.specs.Int.{to_be_bytes, from_be_bytes, w32}
-use Rattle.std.proofs.Common.{◌≡◌, inl, inr, ℕ, ◌+◌, ◌<◌, List, [], ◌∷◌, ◌++◌, length, get_or, take, drop, refl, sym, ◌∙◌, ap, arith, append_assoc, length-append, take-append-drop}
-use Rattle.std.proofs.lemmas.List.{drop_at, take_more, drop_more, drop-drop}
+use Rattle.std.proofs.Common.{◌≡◌, inl, inr, ⊎_elim, ℕ, ◌+◌, ◌-◌, ◌<◌, ◌≤◌, List, [], ◌∷◌, ◌++◌, length, get_or, take, drop, refl, sym, ◌∙◌, ap, subst, arith, append_assoc, length-append, take-append-drop}
+use Rattle.std.proofs.lemmas.List.{drop_at, take_more, drop_more, drop-drop, drop-take, take-take, append-nil}
 use Rattle.std.proofs.lemmas.Nat.{from_be_bytes-to_be_bytes_4}
 use Rattle.tw_world.specs.Disk.{DiskModel, Untouched}
-use Rattle.tw_journal.specs.Record.{behind_gate, rows, IsRecordLength, HoldsRows}
-use Rattle.tw_journal.specs.Open.{IsBroken, IsNoRecord, IsSizeAt}
-use Rattle.tw_journal.specs.Journal.{IsOpenOn}
+use Rattle.tw_journal.specs.Record.{behind_gate, rows, IsRecordLength}
+use Rattle.tw_journal.specs.Form.{Records, IsSameForm, selector_in, start_in, place_in}
+use Rattle.tw_journal.specs.Reading.{HoldsRows, IsNoRecord, IsSizeAt}
+use Rattle.tw_journal.specs.Open.{IsBroken}
+use Rattle.tw_journal.specs.Journal.{IsOpenOn, IsOpened}
 use Rattle.tw_journal.specs.declared.journal.Journal.{Journal}
 use Rattle.tw_journal.proofs.Unique.{same_first}
 use Rattle.tw_journal.proofs.Added.{length-rows-push}
@@ -34,15 +36,18 @@ broken_is_none (gate ∷ more) (inl above) = inl (λ is. omega (arith, above, is
 broken_is_none (gate ∷ more) (inr short) = inr short.1
 
 -- what stands at the place of a record
-module _ (all : List (List ℕ)) (file : List ℕ) (at number : ℕ) (is : file ≡ rows all) (lengths : All IsRecordLength all) (inside : number < length all) (place : at ≡ length (rows (take number all))) where
+module _ (all : List (List ℕ)) (file : List ℕ) (start at number : ℕ) (is : drop start file ≡ rows all) (lengths : All IsRecordLength all) (inside : number < length all) (place : at ≡ start + length (rows (take number all))) where
   abbrev this : List ℕ
   this = slice_index_or all number []
 
   pub rest_is : drop at file ≡ 1 ∷ behind_gate this ++ rows (drop (number + 1) all)
   rest_is =
       let parts : all ≡ take number all ++ drop number all = sym (take-append-drop number all) in
-      ap (λ (l : List ℕ). drop at l) (is ∙ ap rows parts ∙ rows-append (take number all) (drop number all))
-      ∙ drop_at (rows (take number all)) (rows (drop number all)) at (sym place)
+      let before = length (rows (take number all)) in
+      ap (λ (k : ℕ). drop k file) (omega (arith, place))
+      ∙ sym (drop-drop before start file)
+      ∙ ap (λ (l : List ℕ). drop before l) (is ∙ ap rows parts ∙ rows-append (take number all) (drop number all))
+      ∙ drop_at (rows (take number all)) (rows (drop number all)) before refl
       ∙ ap rows (drop_more all number [] inside)
 
   pub fits : IsRecordLength this
@@ -62,29 +67,65 @@ module _ (all : List (List ℕ)) (file : List ℕ) (at number : ℕ) (is : file 
   pub body_is : (size : ℕ) → IsSizeAt (drop at file) size → take size (drop (at + 5) file) ≡ this
   body_is size here = ap (λ (l : List ℕ). take size l) (sym (drop-drop 5 at file)) ∙ (both size here).0
 
-  pub next_place : (size : ℕ) → IsSizeAt (drop at file) size → at + (5 + size) ≡ length (rows (take (number + 1) all))
-  next_place size here =
-      let long : size ≡ length this = sym here.head.1 ∙ ap length (both size here).0 in
-      omega (arith, place, long, ap (λ (l : List (List ℕ)). length (rows l)) (take_more all number [] inside), length-rows-push (take number all) this)
+  pub size_is : (size : ℕ) → IsSizeAt (drop at file) size → size ≡ length this
+  size_is size here = sym here.head.1 ∙ ap length (both size here).0
+
+  -- a part of the body
+  pub part_is : (size from len : ℕ) → IsSizeAt (drop at file) size → from + len ≤ size → take len (drop (at + 5 + from) file) ≡ take len (drop from this)
+  part_is size from len here le =
+      let n : size ≡ from + (size - from) = omega (arith, le) in
+      ap (λ (l : List ℕ). take len l) (sym (drop-drop from (at + 5) file))
+      ∙ sym (take-take len (size - from) (drop from (drop (at + 5) file)) (omega (arith, le)))
+      ∙ ap (λ (l : List ℕ). take len l) (sym (drop-take from (size - from) (drop (at + 5) file)))
+      ∙ ap (λ (k : ℕ). take len (drop from (take k (drop (at + 5) file)))) (sym n)
+      ∙ ap (λ (l : List ℕ). take len (drop from l)) (body_is size here)
+
+  pub next_place : (size : ℕ) → IsSizeAt (drop at file) size → at + (5 + size) ≡ start + length (rows (take (number + 1) all))
+  next_place size here = omega (arith, place, size_is size here, ap (λ (l : List (List ℕ)). length (rows l)) (take_more all number [] inside), length-rows-push (take number all) this)
 
 -- a disk on which a journal is open holds its rows, also after reads
-pub holds_rows : {D : Type 0} (m : DiskModel D) (magic : List ℕ) (journal : Journal) (disk : D) (bodies : List (List ℕ)) → IsOpenOn m magic journal disk bodies → HoldsRows m disk (magic ∷ bodies)
+pub holds_rows : {D : Type 0} (m : DiskModel D) (magic : List ℕ) (journal : Journal) (disk : D) (bodies : List (List ℕ)) → IsOpenOn m magic journal disk bodies → HoldsRows m disk journal.start bodies
 holds_rows m magic journal disk bodies on = record { tells = on.rest.tells; file = on.rest.file; lengths = on.rest.lengths }
 
-pub still_holds : {D : Type 0} (m : DiskModel D) (before after : D) (all : List (List ℕ)) → Untouched m before after → HoldsRows m before all → HoldsRows m after all
-still_holds m before after all untouched held = record { tells = untouched.kept.tells ∙ held.tells; file = untouched.seen held.tells ∙ held.file; lengths = held.lengths }
+pub still_holds : {D : Type 0} (m : DiskModel D) (before after : D) (start : ℕ) (all : List (List ℕ)) → Untouched m before after → HoldsRows m before start all → HoldsRows m after start all
+still_holds m before after start all untouched held = record { tells = untouched.kept.tells ∙ held.tells; file = ap (drop start) (untouched.seen held.tells) ∙ held.file; lengths = held.lengths }
 
 -- a journal that is open on a disk is open on it after reads
 pub still_open : {D : Type 0} (m : DiskModel D) (magic : List ℕ) (journal : Journal) (before after : D) (bodies : List (List ℕ)) → Untouched m before after → IsOpenOn m magic journal before bodies → IsOpenOn m magic journal after bodies
-still_open m magic journal before after bodies untouched on = record {
-  rest = record {
-    tells = untouched.kept.tells ∙ on.rest.tells;
-    file = untouched.seen on.rest.tells ∙ on.rest.file;
-    lengths = on.rest.lengths;
-    settled = λ c left. on.rest.settled c (untouched.images on.rest.tells c left) ∙ sym (untouched.seen on.rest.tells);
-  };
-  open_now = on.open_now;
-  end = on.end;
-  count = on.count;
-  places = on.places;
-}
+still_open m magic journal before after bodies untouched on =
+    let same = untouched.seen on.rest.tells in
+    record {
+      rest = record {
+        tells = untouched.kept.tells ∙ on.rest.tells;
+        settled = λ c left. on.rest.settled c (untouched.images on.rest.tells c left) ∙ sym same;
+        form = ap (start_in magic) same ∙ on.rest.form;
+        selector_is = ap selector_in same ∙ on.rest.selector_is;
+        file = ap (drop journal.start) same ∙ on.rest.file;
+        lengths = on.rest.lengths;
+      };
+      open_now = on.open_now;
+      end = on.end ∙ ap length (sym same);
+      count = on.count;
+      places = on.places;
+    }
+
+-- the disk has the records, and so does each image that it may leave
+pub open_records : {D : Type 0} (m : DiskModel D) (magic : List ℕ) (journal : Journal) (disk : D) (bodies : List (List ℕ)) → IsOpenOn m magic journal disk bodies → Records magic (m.seen disk) bodies
+open_records m magic journal disk bodies on = inl (record {
+  start = journal.start;
+  form = on.rest.form;
+  image = record { tail = []; split = on.rest.file ∙ sym (append-nil (rows bodies)); lengths = on.rest.lengths; closed = tt };
+})
+
+pub left_records : {D : Type 0} (m : DiskModel D) (magic : List ℕ) (journal : Journal) (disk : D) (bodies : List (List ℕ)) → IsOpenOn m magic journal disk bodies → (c : List ℕ) → m.leaves disk c → Records magic c bodies
+left_records m magic journal disk bodies on c left = subst (λ (f : List ℕ). Records magic f bodies) (sym (on.rest.settled c left)) (open_records m magic journal disk bodies on)
+
+-- where a record of it stands
+pub open_place : {D : Type 0} (m : DiskModel D) (magic : List ℕ) (journal : Journal) (disk : D) (bodies : List (List ℕ)) (n : ℕ) → IsOpenOn m magic journal disk bodies → place_in magic (m.seen disk) bodies n ≡ journal.start + length (rows (take n bodies))
+open_place m magic journal disk bodies n on = ap (λ (o : Option ℕ). unwrap_or o 0 + length (rows (take n bodies))) on.rest.form
+
+-- it stood there before the journal was opened
+pub same_place : {D : Type 0} (m : DiskModel D) (magic : List ℕ) (before after : D) (journal : Journal) (o : IsOpened m magic before after journal) (n : ℕ) → n < length o.bodies → place_in magic (m.seen after) o.bodies n ≡ place_in magic (m.seen before) o.bodies n
+same_place m magic before after journal o n inside =
+    ⊎_elim (λ none. absurd (omega (arith, inside, ap length none)))
+    (λ (same : IsSameForm magic (m.seen before) (m.seen after)). ap (λ (s : Option ℕ). unwrap_or s 0 + length (rows (take n o.bodies))) same.start) o.form

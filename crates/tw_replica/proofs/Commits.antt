@@ -14,7 +14,7 @@ use Rattle.tw_model.specs.declared.Change.{Change}
 use Rattle.tw_model.proofs.Leading.{changes_lead}
 use Rattle.tw_replica.specs.Body.{is_group, has_no_point}
 use Rattle.tw_replica.specs.State.{State, is_idle, misfit, unless, moved_to, packed_if, committed}
-use Rattle.tw_replica.specs.Settle.{settled}
+use Rattle.tw_replica.specs.Assign.{assigned}
 use Rattle.tw_replica.proofs.Standing.{is_committed}
 use Rattle.tw_replica.proofs.Changes.{not_first, not_second}
 use Rattle.tw_model.proofs.Maps.{get-set_at_apart}
@@ -84,12 +84,12 @@ idle_is_committed renumber changes at old new idle base pending tasks numbers =
 
 -- else their operations are
 pub changes_are_committed : (renumber : Bool) (changes : List Change) (at : Moment) (old new : State) → is_idle renumber (group_of (ops_of_all old.tasks changes at)) ≡ false → new.base ≡ old.base → new.pending ≡ old.pending ++ group_of (ops_of_all old.tasks changes at)
-    → new.tasks ≡ changed_all old.tasks changes → new.numbers ≡ packed_if renumber (settled old.numbers (changed_all old.tasks changes)) → committed renumber (group_of (ops_of_all old.tasks changes at)) old ≡ Some new
+    → new.tasks ≡ changed_all old.tasks changes → new.numbers ≡ packed_if renumber (assigned old.numbers (changed_all old.tasks changes)) → committed renumber (group_of (ops_of_all old.tasks changes at)) old ≡ Some new
 changes_are_committed renumber changes at old new busy base pending tasks numbers =
     let ops = ops_of_all old.tasks changes at in
     let leads = changes_lead old.tasks changes at in
     let to : apply_all_local old.tasks (group_of ops) ≡ changed_all old.tasks changes = group_leads old.tasks ops ∙ leads.1 in
-    is_committed renumber (group_of ops) old new busy (none_misfits 0 old.tasks (group_of ops) (group_fits old.tasks ops leads.0)) base pending (tasks ∙ sym to) (numbers ∙ ap (λ t. packed_if renumber (settled old.numbers t)) (sym to))
+    is_committed renumber (group_of ops) old new busy (none_misfits 0 old.tasks (group_of ops) (group_fits old.tasks ops leads.0)) base pending (tasks ∙ sym to) (numbers ∙ ap (λ t. packed_if renumber (assigned old.numbers t)) (sym to))
 
 -- ---- one change more
 

@@ -9,15 +9,15 @@ use Rattle.tw_model.specs.declared.Change.{Change}
 use Rattle.tw_model.proofs.Leading.{changed_all-append, ops_of_all-append}
 use Rattle.tw_replica.specs.Body.{IsOp, is_group, IsStep}
 use Rattle.tw_replica.specs.Body.Step.{Commit}
-use Rattle.tw_replica.specs.Settle.{settled}
-use Rattle.tw_replica.specs.Settled.{IsSettledIn, IsReadyFor}
+use Rattle.tw_replica.specs.Assign.{assigned}
+use Rattle.tw_replica.specs.Assigned.{IsAssignedIn, IsReadyFor}
 use Rattle.tw_replica.specs.State.{is_idle, packed_if, committed}
 use Rattle.tw_replica.specs.Core.{state_of}
 use Rattle.tw_replica.specs.Prepared.{IsEditing, ChangedAmong}
 use Rattle.tw_replica.specs.declared.held.Core.{Core}
 use Rattle.tw_replica.specs.declared.editing.Editing.{Editing}
 use Rattle.tw_replica.specs.declared.replica.Replica.{Replica}
-use Rattle.tw_replica.proofs.Stepping.{settled_then}
+use Rattle.tw_replica.proofs.Stepping.{assigned_then}
 use Rattle.tw_replica.proofs.Commits.{no_ops, changes_are_group, idle_same, idle_is_committed, changes_are_committed}
 
 -- a step without operations is one of the program
@@ -26,12 +26,12 @@ nothing_is renumber ops idle group = (subst (λ o. AllByRecursion IsOp (group_of
 
 module _ (old : Replica) (made : List Change) (at : Moment) (editing : Editing) (is : IsEditing old made at editing) where
   pub editing_ready : IsReadyFor editing.core.numbers.items editing.core.tasks editing.touched.keys
-  editing_ready = record { before = old.core.tasks; settled = subst (λ ps. IsSettledIn ps old.core.tasks) (sym is.numbers) old.settled; same = is.among }
+  editing_ready = record { before = old.core.tasks; assigned = subst (λ ps. IsAssignedIn ps old.core.tasks) (sym is.numbers) old.assigned; same = is.among }
 
   module _ (renumber : Bool) (core : Core) (base : core.base ≡ editing.core.base) (tasks : core.tasks ≡ editing.core.tasks)
       (idle : is_idle renumber (group_of editing.ops.items) ≡ true → core ≡ editing.core)
       (pending : is_idle renumber (group_of editing.ops.items) ≡ false → core.pending ≡ editing.core.pending ++ group_of editing.ops.items)
-      (numbers : is_idle renumber (group_of editing.ops.items) ≡ false → IsReadyFor editing.core.numbers.items editing.core.tasks editing.touched.keys → core.numbers.items ≡ packed_if renumber (settled editing.core.numbers.items editing.core.tasks)) where
+      (numbers : is_idle renumber (group_of editing.ops.items) ≡ false → IsReadyFor editing.core.numbers.items editing.core.tasks editing.touched.keys → core.numbers.items ≡ packed_if renumber (assigned editing.core.numbers.items editing.core.tasks)) where
     -- the operations, as the step has them
     ops_are : group_of editing.ops.items ≡ group_of (ops_of_all old.core.tasks made at)
     ops_are = ap group_of is.ops
@@ -39,8 +39,8 @@ module _ (old : Replica) (made : List Change) (at : Moment) (editing : Editing) 
     to : core.tasks ≡ changed_all old.core.tasks made
     to = tasks ∙ is.tasks
 
-    places : is_idle renumber (group_of editing.ops.items) ≡ false → core.numbers.items ≡ packed_if renumber (settled old.core.numbers.items (changed_all old.core.tasks made))
-    places busy = numbers busy editing_ready ∙ ap (λ ps. packed_if renumber (settled ps editing.core.tasks)) is.numbers ∙ ap (λ ts. packed_if renumber (settled old.core.numbers.items ts)) is.tasks
+    places : is_idle renumber (group_of editing.ops.items) ≡ false → core.numbers.items ≡ packed_if renumber (assigned old.core.numbers.items (changed_all old.core.tasks made))
+    places busy = numbers busy editing_ready ∙ ap (λ ps. packed_if renumber (assigned ps editing.core.tasks)) is.numbers ∙ ap (λ ts. packed_if renumber (assigned old.core.numbers.items ts)) is.tasks
 
     pub edited_leads : committed renumber (group_of (ops_of_all old.core.tasks made at)) (state_of old.core) ≡ Some (state_of core)
     edited_leads = by (is_idle renumber (group_of editing.ops.items)) refl
@@ -53,16 +53,16 @@ module _ (old : Replica) (made : List Change) (at : Moment) (editing : Editing) 
             changes_are_committed renumber made at (state_of old.core) (state_of core) (ap (is_idle renumber) (sym ops_are) ∙ e) (base ∙ is.base)
             (pending e ∙ ap (λ ps. ps ++ group_of editing.ops.items) is.pending ∙ ap (λ ops. old.core.pending ++ ops) ops_are) to (places e)
 
-    pub edited_settled : IsSettledIn core.numbers.items core.tasks
-    edited_settled = by (is_idle renumber (group_of editing.ops.items)) refl
+    pub edited_assigned : IsAssignedIn core.numbers.items core.tasks
+    edited_assigned = by (is_idle renumber (group_of editing.ops.items)) refl
       where
-        by : (b : Bool) → is_idle renumber (group_of editing.ops.items) ≡ b → IsSettledIn core.numbers.items core.tasks
+        by : (b : Bool) → is_idle renumber (group_of editing.ops.items) ≡ b → IsAssignedIn core.numbers.items core.tasks
         by true e =
             let stays : core.tasks ≡ old.core.tasks = to ∙ idle_same renumber old.core.tasks made at (ap (is_idle renumber) (sym ops_are) ∙ e) in
-            subst (λ ts. IsSettledIn core.numbers.items ts) (sym stays) (subst (λ ps. IsSettledIn ps old.core.tasks) (sym (ap (λ (c : Core). c.numbers.items) (idle e) ∙ is.numbers)) old.settled)
+            subst (λ ts. IsAssignedIn core.numbers.items ts) (sym stays) (subst (λ ps. IsAssignedIn ps old.core.tasks) (sym (ap (λ (c : Core). c.numbers.items) (idle e) ∙ is.numbers)) old.assigned)
         by false e =
-            settled_then renumber old.core.numbers.items (settled old.core.numbers.items core.tasks) core.numbers.items old.core.tasks core.tasks old.settled refl
-            (places e ∙ ap (λ ts. packed_if renumber (settled old.core.numbers.items ts)) (sym to))
+            assigned_then renumber old.core.numbers.items (assigned old.core.numbers.items core.tasks) core.numbers.items old.core.tasks core.tasks old.assigned refl
+            (places e ∙ ap (λ ts. packed_if renumber (assigned old.core.numbers.items ts)) (sym to))
 
     pub edited_is : (is_idle renumber (group_of editing.ops.items) ≡ false → AllByRecursion IsOp (group_of editing.ops.items)) → IsStep (Commit renumber (group_of (ops_of_all old.core.tasks made at)))
     edited_is all = subst (λ ops. IsStep (Commit renumber ops)) ops_are (by (is_idle renumber (group_of editing.ops.items)) refl)

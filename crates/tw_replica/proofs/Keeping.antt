@@ -12,7 +12,7 @@ use Rattle.tw_model.specs.declared.Op.{Op}
 use Rattle.tw_replica.specs.Body.{Step, body_of, IsStep, is_undo_point, has_no_point, is_group}
 use Rattle.tw_replica.specs.Body.Step.{Commit, Undo, Sync}
 use Rattle.tw_replica.specs.Reading.{◌>>=◌, number_at, uuid_at, many_at, group_of, commit_of, sync_op_at, sync_of, step_of}
-use Rattle.tw_replica.specs.Settled.{is_about, is_touched}
+use Rattle.tw_replica.specs.Assigned.{is_about, is_touched}
 use Rattle.tw_replica.specs.State.{in_front, split_group}
 use Rattle.tw_replica.specs.Kept.{ops_or_none, group_in, groups_in, IsKept, AreKept, IsLastOf, IsLast}
 use Rattle.tw_replica.specs.declared.pending.Kept.{Kept}

@@ -7,8 +7,8 @@ use Rattle.tw_model.specs.Maps.{same_bytes}
 use Rattle.tw_model.specs.Ops.{TasksValue}
 use Rattle.tw_model.specs.Places.{Places, has_uuid, uuid_at}
 use Rattle.tw_model.proofs.Placing.{uuid_at_get}
-use Rattle.tw_replica.specs.Settle.{is_open, is_placed, is_unplaced}
-use Rattle.tw_replica.specs.Settled.{IsOnce, without, vacated}
+use Rattle.tw_replica.specs.Assign.{is_open, is_placed, is_unplaced}
+use Rattle.tw_replica.specs.Assigned.{IsOnce, without, vacated}
 use Rattle.tw_replica.proofs.Ranks.{same_uuid}
 use Rattle.tw_replica.proofs.Touched.{placed-append}
 use Rattle.tw_replica.proofs.Places.{some_is, none_some, at_placed, set_without}

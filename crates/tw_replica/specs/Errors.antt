@@ -1,6 +1,13 @@
 -- What an error is in the words of another call.
-use Rattle.tw_journal.specs.declared.journal.JournalError.{JournalError}
-use Rattle.tw_journal.specs.declared.journal.JournalError.TheVariants as journal
+use Rattle.tw_journal.specs.Errors.{append_in_all}
+use Rattle.tw_journal.specs.declared.error.OpenError.{OpenError as JournalOpenError}
+use Rattle.tw_journal.specs.declared.error.OpenError.TheVariants as opening
+use Rattle.tw_journal.specs.declared.error.ReadError.{ReadError}
+use Rattle.tw_journal.specs.declared.error.ReadError.TheVariants as reads
+use Rattle.tw_journal.specs.declared.error.AppendError.{AppendError}
+use Rattle.tw_journal.specs.declared.error.AppendError.TheVariants as appends
+use Rattle.tw_journal.specs.declared.error.JournalError.{JournalError}
+use Rattle.tw_journal.specs.declared.error.JournalError.TheVariants as journal
 use Rattle.tw_replica.specs.declared.replica.records.RecordError.{RecordError}
 use Rattle.tw_replica.specs.declared.replica.records.RecordError.TheVariants as records
 use Rattle.tw_replica.specs.declared.steps.PrepareError.{PrepareError}
@@ -16,26 +23,30 @@ use Rattle.tw_replica.specs.declared.error.UndoError.TheVariants as undos
 use Rattle.tw_replica.specs.declared.error.ReplicaError.{ReplicaError}
 use Rattle.tw_replica.specs.declared.error.ReplicaError.TheVariants as errors
 
--- the causes for which a journal is not opened or read
-abbrev pub IsOpenCause : JournalError → Type 0
-IsOpenCause journal.Disk = Unit {0}
-IsOpenCause (journal.Damaged offset) = Unit {0}
-IsOpenCause journal.Memory = Unit {0}
-IsOpenCause e = ⊥
+-- the causes for which a record of an open journal is not read
+abbrev pub IsReadCause : ReadError → Type 0
+IsReadCause reads.Closed = ⊥
+IsReadCause e = Unit {0}
 
--- the causes for which a record is not added
-abbrev pub IsWriteCause : JournalError → Type 0
-IsWriteCause journal.Disk = Unit {0}
-IsWriteCause journal.Closed = Unit {0}
-IsWriteCause (journal.TooLong bytes) = Unit {0}
-IsWriteCause e = ⊥
+-- the cause that it was of a record that is not read
+abbrev pub of_open : OpenError → ReadError
+of_open opens.Disk = reads.Disk
+of_open (opens.Damaged offset) = reads.Damaged offset
+of_open opens.Memory = reads.Memory
+
+-- the same cause of a journal that is not opened
+abbrev pub journal_in_open : JournalOpenError → OpenError
+journal_in_open opening.Disk = opens.Disk
+journal_in_open (opening.Damaged offset) = opens.Damaged offset
+journal_in_open opening.Memory = opens.Memory
+
+-- the same cause of a record that is not added
+abbrev pub append_in_write : AppendError → WriteError
+append_in_write appends.Disk = writes.Disk
+append_in_write appends.Closed = writes.Closed
+append_in_write (appends.TooLong bytes) = writes.TooLong bytes
 
 -- the journal's error that it was
-abbrev pub of_open : OpenError → JournalError
-of_open opens.Disk = journal.Disk
-of_open (opens.Damaged offset) = journal.Damaged offset
-of_open opens.Memory = journal.Memory
-
 abbrev pub of_write : WriteError → JournalError
 of_write writes.Disk = journal.Disk
 of_write writes.Closed = journal.Closed
@@ -57,12 +68,12 @@ record_in_undo records.Memory = undos.Memory
 
 -- as one of several calls tells it
 abbrev pub commit_in_all : CommitError → ReplicaError
-commit_in_all (commits.Journal e) = errors.Journal e
+commit_in_all (commits.Journal e) = errors.Journal (append_in_all e)
 commit_in_all (commits.Invalid index) = errors.Invalid index
 commit_in_all commits.Memory = errors.Memory
 
 abbrev pub undo_in_all : UndoError → ReplicaError
-undo_in_all (undos.Journal e) = errors.Journal e
+undo_in_all (undos.Journal e) = errors.Journal (append_in_all e)
 undo_in_all undos.NothingToUndo = errors.NothingToUndo
 undo_in_all undos.Memory = errors.Memory
 

@@ -9,9 +9,9 @@ ghost use Rattle.tw_model.specs.Ops.{TasksValue};
 ghost use Rattle.tw_replica.specs.Body.{IsOp, body_of, is_group};
 ghost use Rattle.tw_replica.specs.Body.Step.{Commit, Undo};
 ghost use Rattle.tw_replica.specs.Kept.{group_in, IsLastOf};
-ghost use Rattle.tw_replica.specs.Settle.{settled};
+ghost use Rattle.tw_replica.specs.Assign.{assigned};
 ghost use Rattle.tw_replica.specs.State.{is_idle, packed_if};
-ghost use Rattle.tw_replica.specs.Settled.{IsSettledIn, IsReadyFor};
+ghost use Rattle.tw_replica.specs.Assigned.{IsAssignedIn, IsReadyFor};
 ghost use Rattle.tw_replica.specs.Prepared.{ChangedAmong, bodies_in, step_bodies};
 
 use crate::about::touched_uuids;
@@ -99,7 +99,7 @@ pub(crate) fn commit_core(
     ensures tasks { core.new.tasks ≡ core.old.tasks }
     ensures idle { OnOk result (is_idle renumber (group_of ops.items) ≡ true → core.new ≡ core.old) }
     ensures pending { OnOk result (is_idle renumber (group_of ops.items) ≡ false → core.new.pending ≡ core.old.pending ++ group_of ops.items) }
-    ensures numbers { OnOk result (is_idle renumber (group_of ops.items) ≡ false → IsReadyFor core.old.numbers.items core.old.tasks touched.now.keys → core.new.numbers.items ≡ packed_if renumber (settled core.old.numbers.items core.old.tasks)) }
+    ensures numbers { OnOk result (is_idle renumber (group_of ops.items) ≡ false → IsReadyFor core.old.numbers.items core.old.tasks touched.now.keys → core.new.numbers.items ≡ packed_if renumber (assigned core.old.numbers.items core.old.tasks)) }
     ensures body { IfOk result (λ body. bodies_in body ≡ step_bodies (Commit renumber (group_of ops.items))) }
     ensures is { OnOk result (is_idle renumber (group_of ops.items) ≡ false → AllByRecursion IsOp (group_of ops.items)) }
 {
@@ -116,12 +116,12 @@ pub(crate) fn commit_core(
 /// Takes the last group back: the operations behind an undo point, and the point with them.
 pub(crate) fn take_back_core(alloc: Global, core: &mut Core, group: &Vec<Op>) -> Result<(), Memory>
     requires last { IsLastOf core.old.pending group.now.items }
-    requires settled { IsSettledIn core.old.numbers.items core.old.tasks }
+    requires assigned { IsAssignedIn core.old.numbers.items core.old.tasks }
     ensures base { OnOk result (core.new.base ≡ core.old.base) }
     ensures pending { OnOk result ((last : IsLastOf core.old.pending group.now.items) → core.new.pending ≡ last.left) }
     ensures tasks { OnOk result (core.new.tasks ≡ take_back_all core.old.tasks (drop 1 group.now.items)) }
-    ensures numbers { OnOk result (core.new.numbers.items ≡ settled core.old.numbers.items core.new.tasks) }
-    ensures settled { OnOk result (IsSettledIn core.new.numbers.items core.new.tasks) }
+    ensures numbers { OnOk result (core.new.numbers.items ≡ assigned core.old.numbers.items core.new.tasks) }
+    ensures assigned { OnOk result (IsAssignedIn core.new.numbers.items core.new.tasks) }
 {
     let touched = touched_uuids(alloc, group, 1)?;
     take_back_from(alloc, &mut core.tasks, group, 1)?;

@@ -1,10 +1,10 @@
 // Why the calls of a replica are refused.
 ghost use Rattle.std.specs.Prelude.{◌≡◌};
-ghost use Rattle.tw_replica.specs.Errors.{IsOpenCause, IsWriteCause, of_open, of_write};
+ghost use Rattle.tw_replica.specs.Errors.{IsReadCause, of_open};
 
 use crate::replica::RecordError;
 use std::alloc::AllocError;
-use tw_journal::JournalError;
+use tw_journal::{AppendError, JournalError, ReadError};
 use tw_world::Memory;
 
 /// Why no replica is opened.
@@ -22,7 +22,7 @@ pub enum OpenError {
 #[derive(Clone, Copy, Debug, PartialEq, Eq, Drop)]
 pub enum CommitError {
     /// The journal refused: a fault of the disk, which closes the replica, or a record above its limit.
-    Journal(JournalError),
+    Journal(AppendError),
     /// The operation with this number, counted from 0, does not fit what those before it leave. Nothing has changed.
     Invalid { index: u64 },
     /// There was no memory left. Nothing has changed.
@@ -33,7 +33,7 @@ pub enum CommitError {
 #[derive(Clone, Copy, Debug, PartialEq, Eq, Drop)]
 pub enum UndoError {
     /// The journal refused: a fault of the disk, which closes the replica.
-    Journal(JournalError),
+    Journal(AppendError),
     /// There is no undo point among the pending operations. Nothing has changed.
     NothingToUndo,
     /// There was no memory left. Nothing has changed.
@@ -73,29 +73,46 @@ pub enum ReplicaError {
     Memory,
 }
 
-/// The same cause, of a journal that is opened or read.
-pub(crate) fn open_error(error: JournalError) -> OpenError
-    requires { IsOpenCause error }
+/// The same cause, of a record of an open journal that is not read.
+pub(crate) fn read_error(error: ReadError) -> OpenError
+    requires { IsReadCause error }
     ensures { of_open result ≡ error }
 {
     match error {
-        JournalError::Disk => OpenError::Disk,
-        JournalError::Damaged { offset } => OpenError::Damaged { offset },
-        JournalError::Memory => OpenError::Memory,
-        JournalError::Closed | JournalError::TooLong { .. } => unreachable!(),
+        ReadError::Disk => OpenError::Disk,
+        ReadError::Damaged { offset } => OpenError::Damaged { offset },
+        ReadError::Memory => OpenError::Memory,
+        ReadError::Closed => unreachable!(),
     }
 }
 
-/// The same cause, of a record that is added.
-pub(crate) fn write_error(error: JournalError) -> WriteError
-    requires { IsWriteCause error }
-    ensures { of_write result ≡ error }
-{
-    match error {
-        JournalError::Disk => WriteError::Disk,
-        JournalError::Closed => WriteError::Closed,
-        JournalError::TooLong { bytes } => WriteError::TooLong { bytes },
-        JournalError::Damaged { .. } | JournalError::Memory => unreachable!(),
+impl From<tw_journal::OpenError> for OpenError {
+    ghost use Rattle.std.specs.Prelude.{◌≡◌};
+    ghost use Rattle.tw_replica.specs.Errors.{journal_in_open};
+
+    ghost from_gives = { λ error e. e ≡ journal_in_open error };
+
+    fn from(error: tw_journal::OpenError) -> OpenError {
+        match error {
+            tw_journal::OpenError::Disk => OpenError::Disk,
+            tw_journal::OpenError::Damaged { offset } => OpenError::Damaged { offset },
+            tw_journal::OpenError::Memory => OpenError::Memory,
+        }
+    }
+}
+
+impl From<AppendError> for WriteError {
+    ghost use Rattle.std.specs.Prelude.{◌≡◌};
+    ghost use Rattle.tw_replica.specs.Errors.{append_in_write};
+
+    ghost from_gives = { λ error e. e ≡ append_in_write error };
+
+    fn from(error: AppendError) -> WriteError {
+        match error {
+            AppendError::Disk => WriteError::Disk,
+            AppendError::Closed => WriteError::Closed,
+            AppendError::TooLong { bytes } => WriteError::TooLong { bytes },
+        }
     }
 }
 
@@ -201,7 +218,7 @@ impl From<CommitError> for ReplicaError {
 
     fn from(error: CommitError) -> ReplicaError {
         match error {
-            CommitError::Journal(error) => ReplicaError::Journal(error),
+            CommitError::Journal(error) => ReplicaError::Journal(JournalError::from(error)),
             CommitError::Invalid { index } => ReplicaError::Invalid { index },
             CommitError::Memory => ReplicaError::Memory,
         }
@@ -216,7 +233,7 @@ impl From<UndoError> for ReplicaError {
 
     fn from(error: UndoError) -> ReplicaError {
         match error {
-            UndoError::Journal(error) => ReplicaError::Journal(error),
+            UndoError::Journal(error) => ReplicaError::Journal(JournalError::from(error)),
             UndoError::NothingToUndo => ReplicaError::NothingToUndo,
             UndoError::Memory => ReplicaError::Memory,
         }

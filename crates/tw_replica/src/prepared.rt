@@ -1,9 +1,9 @@
 // A step that is made in memory, and then written.
-ghost use Rattle.tw_replica.specs.Settled.{IsSettledIn, settled_prop};
+ghost use Rattle.tw_replica.specs.Assigned.{IsAssignedIn, assigned_prop};
 
 use crate::changing::{commit_core, take_back_core, undo_body};
 use crate::editing::Editing;
-use crate::error::{TakeBackError, WriteError, write_error};
+use crate::error::{TakeBackError, WriteError};
 use crate::held::Core;
 use crate::pending::Pending;
 use crate::replica::Replica;
@@ -19,7 +19,7 @@ pub struct Prepared {
     journal: Journal,
     core: Core,
     body: Option<Vec<u8>>,
-    ghost settled: { IsSettledIn core.numbers.items core.tasks } by { settled_prop core.numbers.items core.tasks },
+    ghost assigned: { IsAssignedIn core.numbers.items core.tasks } by { assigned_prop core.numbers.items core.tasks },
 }
 
 impl Replica {
@@ -132,7 +132,7 @@ impl Prepared {
         let mut journal = journal;
         match journal.append(disk, body.as_slice()) {
             Ok(()) => Ok(Replica { journal, core }),
-            Err(error) => Err(write_error(error)),
+            Err(error) => Err(WriteError::from(error)),
         }
     }
 }

@@ -1,13 +1,13 @@
-// Settling few tasks: the place of each is looked for among all places.
+// Assigning few tasks: the place of each is looked for among all places.
 ghost use Rattle.std.specs.Prelude.{◌≡◌, Some, false, map as list_map, OnOk, IfSome, IfNone};
 ghost use Rattle.std.specs.Option.{option_copied};
 ghost use Rattle.tw_model.specs.Maps.{same_bytes};
 ghost use Rattle.tw_model.specs.Places.{has_uuid, uuid_at};
-ghost use Rattle.tw_replica.specs.Settle.{is_placed, with_rank, settled};
-ghost use Rattle.tw_replica.specs.Settled.{IsOnce, IsReadyFor, without, vacated};
+ghost use Rattle.tw_replica.specs.Assign.{is_placed, with_rank, assigned};
+ghost use Rattle.tw_replica.specs.Assigned.{IsOnce, IsReadyFor, without, vacated};
 ghost use Rattle.tw_replica.specs.State.{packed_if};
 
-use crate::numbers::{is_open, pack, push_ranks, rank, settled};
+use crate::numbers::{assigned, is_open, pack, push_ranks, rank};
 use std::alloc::Global;
 use std::collections::BTreeSet;
 use tw_model::Tasks;
@@ -84,14 +84,14 @@ fn look_for(
     Ok(())
 }
 
-/// Settles tasks in places in which they were settled before some of them changed. It looks through the places once for each of these.
-pub(crate) fn settle_few(
+/// Assigns the places anew after some tasks have changed. It looks through the places once for each of these.
+pub(crate) fn assign_few(
     alloc: Global,
     places: &mut Vec<Option<Uuid>>,
     tasks: &Tasks,
     touched: &BTreeSet<Uuid>,
 ) -> Result<(), Memory>
-    ensures { OnOk result (IsReadyFor places.old.items tasks.now touched.now.keys → places.new.items ≡ settled places.old.items tasks.now) }
+    ensures { OnOk result (IsReadyFor places.old.items tasks.now touched.now.keys → places.new.items ≡ assigned places.old.items tasks.now) }
 {
     let mut ranks = BTreeSet::new(alloc);
     for uuid in touched {
@@ -100,23 +100,23 @@ pub(crate) fn settle_few(
     push_ranks(places, &ranks)
 }
 
-// Settles tasks in places in which they were settled before some of them changed.
-fn settle_changed(
+// Assigns the places anew after some tasks have changed.
+fn assign_changed(
     alloc: Global,
     places: &mut Vec<Option<Uuid>>,
     tasks: &Tasks,
     touched: &BTreeSet<Uuid>,
 ) -> Result<(), Memory>
-    ensures { OnOk result (IsReadyFor places.old.items tasks.now touched.now.keys → places.new.items ≡ settled places.old.items tasks.now) }
+    ensures { OnOk result (IsReadyFor places.old.items tasks.now touched.now.keys → places.new.items ≡ assigned places.old.items tasks.now) }
 {
     if touched.len() <= FEW {
-        return settle_few(alloc, places, tasks, touched);
+        return assign_few(alloc, places, tasks, touched);
     }
-    *places = settled(alloc, places, tasks, touched)?;
+    *places = assigned(alloc, places, tasks, touched)?;
     Ok(())
 }
 
-/// Settles tasks in places in which they were settled before some of them changed, and packs the places if it is asked.
+/// Assigns the places anew after some tasks have changed, and packs the places if it is asked.
 pub(crate) fn renew_places(
     alloc: Global,
     places: &mut Vec<Option<Uuid>>,
@@ -124,9 +124,9 @@ pub(crate) fn renew_places(
     touched: &BTreeSet<Uuid>,
     renumber: bool,
 ) -> Result<(), Memory>
-    ensures { OnOk result (IsReadyFor places.old.items tasks.now touched.now.keys → places.new.items ≡ packed_if renumber (settled places.old.items tasks.now)) }
+    ensures { OnOk result (IsReadyFor places.old.items tasks.now touched.now.keys → places.new.items ≡ packed_if renumber (assigned places.old.items tasks.now)) }
 {
-    settle_changed(alloc, places, tasks, touched)?;
+    assign_changed(alloc, places, tasks, touched)?;
     if renumber {
         pack(places);
     }

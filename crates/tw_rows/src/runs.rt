@@ -6,9 +6,11 @@ use std::test::Fail;
 use tw_cli::{Cause, Outcome, WordKind};
 use tw_world::MemoryDisk;
 
-// The journal after a task was added to an empty store: its magic, and one commit of six operations.
-const ADDED: [u8; 263] = [
-    1, 0, 0, 0, 8, 84, 87, 82, 69, 80, 76, 48, 49, 1, 0, 0, 0, 245, 1, 0, 0, 0, 0, 6, 4, 1, 0, 0,
+// The journal after a task was added to an empty store: its magic, two slots of which the first tells 29, and one commit of six
+// operations.
+const ADDED: [u8; 279] = [
+    2, 0, 0, 0, 8, 84, 87, 82, 69, 80, 76, 48, 49, 0, 0, 0, 0, 0, 0, 0, 29, 0, 0, 0, 0, 0, 0, 0, 0,
+    1, 0, 0, 0, 245, 1, 0, 0, 0, 0, 6, 4, 1, 0, 0,
     0, 0, 0, 0, 64, 0, 128, 0, 0, 0, 0, 0, 0, 1, 3, 0, 0, 0, 0, 0, 0, 64, 0, 128, 0, 0, 0, 0, 0, 0,
     1, 0, 0, 0, 11, 100, 101, 115, 99, 114, 105, 112, 116, 105, 111, 110, 0, 1, 0, 0, 0, 8, 66,
     117, 121, 32, 109, 105, 108, 107, 0, 0, 0, 0, 101, 83, 241, 0, 0, 0, 0, 0, 3, 0, 0, 0, 0, 0, 0,

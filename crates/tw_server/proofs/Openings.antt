@@ -1,5 +1,5 @@
 -- What an opening reads from body to body.
-use Rattle.std.proofs.Common.{◌≡◌, ◌∙◌, inr, ℕ, ◌+◌, ◌<◌, ◌≤◌, Bool, true, false, not, ◌&&◌, ◌==◌, nat_le, if◌then◌else◌, Some, None, List, [], ◌∷◌, ◌++◌, length, get_or, take, drop, map, refl, sym, ap, subst, arith, All}
+use Rattle.std.proofs.Common.{◌≡◌, ◌∙◌, inl, inr, ℕ, ◌+◌, ◌<◌, ◌≤◌, Bool, true, false, not, ◌&&◌, ◌==◌, nat_le, if◌then◌else◌, Some, None, List, [], ◌∷◌, ◌++◌, length, get_or, take, drop, map, refl, sym, ap, subst, arith, All}
 use Rattle.std.proofs.lemmas.Bool.{false≢true, and_parts}
 use Rattle.std.proofs.lemmas.Bool.Decides.{nat_tests}
 use Rattle.std.proofs.lemmas.List.{map-append, take_all, take_more, drop-drop, take-append-drop, length-take, length-drop}
@@ -7,14 +7,19 @@ use Rattle.std.proofs.lemmas.List.Elements.{All-take, All-drop, All-nil}
 use Rattle.uuid.specs.Parts.{zero_bytes}
 use Rattle.tw_world.specs.Disk.{DiskModel, Tells, LeavesOnly, Untouched}
 use Rattle.tw_world.proofs.Moments.{CountsNow, joined, weaker}
-use Rattle.tw_journal.specs.Open.{Records}
+use Rattle.tw_journal.specs.Open.{Records, OpenRefused}
 use Rattle.tw_server.specs.declared.server.ServerError.{ServerError}
 use Rattle.tw_server.specs.declared.server.ServerError.TheVariants as errors
-use Rattle.tw_server.proofs.Disks.{open_stays}
-use Rattle.tw_journal.specs.Journal.{IsOpenOn, ReadRefused}
+use Rattle.tw_journal.proofs.Places.{still_open, same_place}
+use Rattle.tw_journal.specs.Form.{place_in}
+use Rattle.tw_journal.specs.Errors.{open_in_all, read_in_all}
+use Rattle.tw_journal.specs.declared.error.OpenError.{OpenError}
+use Rattle.tw_journal.specs.declared.error.OpenError.TheVariants as opening
+use Rattle.tw_journal.specs.Journal.{IsOpenOn, IsOpened, ReadRefused}
 use Rattle.tw_journal.specs.declared.journal.Journal.{Journal}
-use Rattle.tw_journal.specs.declared.journal.JournalError.{JournalError}
-use Rattle.tw_journal.specs.declared.journal.JournalError.TheVariants as journal
+use Rattle.tw_journal.specs.declared.error.ReadError.{ReadError}
+use Rattle.tw_journal.specs.declared.error.ReadError.TheVariants as reads
+use Rattle.tw_journal.specs.declared.error.JournalError.TheVariants as journal
 use Rattle.tw_protocol.specs.Chain.{Version, IsUuid, same_id, latest, has_id}
 use Rattle.tw_protocol.proofs.Chains.{same_id_exact}
 use Rattle.tw_server.specs.declared.entry.Entry.{Entry}
@@ -26,13 +31,34 @@ use Rattle.tw_server.specs.Versions.{is_held}
 use Rattle.tw_server.specs.Server.{magic, IsReadTo, IsBadBody, IsOpenedOn, TakeRefused, ServerOpenRefused}
 use Rattle.tw_server.proofs.Logs.{sound-push, list_any-held}
 
+-- a journal that is not opened refuses the opening
+pub not_opened : {D : Type 0} (m : DiskModel D) (before after : D) (e : OpenError) → OpenRefused m before after magic e → ServerOpenRefused m before after (error_of (open_in_all e))
+not_opened m before after opening.Disk refused = refused
+not_opened m before after (opening.Damaged offset) refused = λ tells. inl (refused tells)
+not_opened m before after opening.Memory refused = tt
+
 -- a read is never refused as damaged where the journal is open
-pub read_not_bad : {D : Type 0} (m : DiskModel D) (j : Journal) (before after : D) (bodies : List (List ℕ)) (n : ℕ) (e : JournalError) → ReadRefused m before after j e → IsOpenOn m magic j before bodies → IsBadBody bodies n (error_of e)
-read_not_bad m j before after bodies n journal.Disk refused on = tt
-read_not_bad m j before after bodies n journal.Closed refused on = tt
-read_not_bad m j before after bodies n (journal.Damaged offset) refused on = absurd (refused on.rest.tells magic bodies on)
-read_not_bad m j before after bodies n (journal.TooLong bytes) refused on = tt
-read_not_bad m j before after bodies n journal.Memory refused on = tt
+pub read_not_bad : {D : Type 0} (m : DiskModel D) (j : Journal) (before after : D) (file : List ℕ) (bodies : List (List ℕ)) (n : ℕ) (e : ReadError) → ReadRefused m before after j e → IsOpenOn m magic j before bodies → IsBadBody file bodies n (error_of (read_in_all e))
+read_not_bad m j before after file bodies n reads.Disk refused on = tt
+read_not_bad m j before after file bodies n reads.Closed refused on = tt
+read_not_bad m j before after file bodies n (reads.Damaged offset) refused on = absurd (refused on.rest.tells magic bodies on)
+read_not_bad m j before after file bodies n reads.Memory refused on = tt
+
+-- a body that may not follow stood where it stands before the journal was opened
+pub bad_before : {D : Type 0} (m : DiskModel D) (old mid now : D) (j : Journal) (o : IsOpened m magic old mid j) (n : ℕ) (e : ServerError) → m.seen now ≡ m.seen mid → IsBadBody (m.seen now) o.bodies n e → IsBadBody (m.seen old) o.bodies n e
+bad_before m old mid now j o n (errors.Journal journal.Disk) same bad = tt
+bad_before m old mid now j o n (errors.Journal journal.Closed) same bad = tt
+bad_before m old mid now j o n (errors.Journal (journal.Damaged offset)) same bad = record {
+  log = bad.log;
+  same = bad.same;
+  sound = bad.sound;
+  inside = bad.inside;
+  bad = bad.bad;
+  place = bad.place ∙ ap (λ (s : List ℕ). place_in magic s o.bodies n) same ∙ same_place m magic old mid j o n bad.inside;
+}
+bad_before m old mid now j o n (errors.Journal (journal.TooLong bytes)) same bad = tt
+bad_before m old mid now j o n (errors.Journal journal.Memory) same bad = tt
+bad_before m old mid now j o n errors.Memory same bad = tt
 
 pub none_false : {X : Type 0} (t : Bool) (x : X) → None ≡ (if t then Some x else None) → t ≡ false
 none_false true x e = let no : ⊥ = cc in absurd no
@@ -121,11 +147,11 @@ after_reads m old mid new P counts_now first tells second =
 
 -- the journal that is still open after reads
 pub open_now : {D : Type 0} (m : DiskModel D) (opened held : Journal) (mid now : D) (bodies : List (List ℕ)) → held ≡ opened → Untouched m mid now → IsOpenOn m magic opened mid bodies → IsOpenOn m magic held now bodies
-open_now m opened held mid now bodies same reads on = subst (λ j. IsOpenOn m magic j now bodies) (sym same) (open_stays m opened mid now bodies reads on)
+open_now m opened held mid now bodies same reads on = subst (λ j. IsOpenOn m magic j now bodies) (sym same) (still_open m magic opened mid now bodies reads on)
 
 -- a body that is not taken refuses the opening
 pub open_refused : {D : Type 0} (m : DiskModel D) (old mid now new : D) (n : ℕ) (e : ServerError) → m.faults old ≤ m.faults mid → m.faults mid ≤ m.faults now → TakeRefused m now new e
-    → (Tells m old → (bodies : List (List ℕ)) × Records magic (m.seen old) bodies × IsBadBody bodies n e) → ServerOpenRefused m old new e
+    → (Tells m old → (bodies : List (List ℕ)) × Records magic (m.seen old) bodies × IsBadBody (m.seen old) bodies n e) → ServerOpenRefused m old new e
 open_refused m old mid now new n (errors.Journal journal.Disk) first second refused bad = omega (arith, first, second, refused)
 open_refused m old mid now new n (errors.Journal journal.Closed) first second refused bad = absurd refused
 open_refused m old mid now new n (errors.Journal (journal.Damaged offset)) first second refused bad = λ tells. let b = bad tells in inr (record { bodies = b.0; records = b.1; number = n; bad = b.2 })

@@ -2,9 +2,9 @@
 use Rattle.std.specs.Prelude.{◌≡◌, ◌⊎◌, ℕ, ◌+◌, ◌%◌, ◌<◌, ◌^◌, Bool, true, false, List, [], ◌∷◌, ◌++◌, codes, length, take, slice_index_or, map, if◌then◌else◌}
 use Rattle.tw_world.specs.Disk.{DiskModel, Tells, Rose}
 use Rattle.tw_journal.specs.Journal.{IsOpenOn, is_closed as is_journal_closed, journal_end}
+use Rattle.tw_journal.specs.Form.{place_in}
 use Rattle.tw_journal.specs.Open.{Records, IsDamagedAt}
-use Rattle.tw_journal.specs.Record.{rows}
-use Rattle.tw_journal.specs.declared.journal.JournalError.TheVariants as journal
+use Rattle.tw_journal.specs.declared.error.JournalError.TheVariants as journal
 use Rattle.tw_server.specs.declared.server.Server.{Server}
 use Rattle.tw_server.specs.declared.server.ServerError.{ServerError}
 use Rattle.tw_server.specs.declared.server.ServerError.TheVariants.{Journal, Memory}
@@ -85,21 +85,21 @@ pub record IsOpenedOn {D : Type 0} (m : DiskModel D) (before after : D) (server 
   pub records : Records magic (m.seen before) (bodies_of log)
   pub now : IsServerOn m server after log
 
--- the versions of the bodies up to this place are chains, and the body there is none that may follow
-pub record IsBadAt (bodies : List (List ℕ)) (n offset : ℕ) : Type 0 where
+-- of a file with these bodies the versions up to this place are chains, and the body there is none that may follow
+pub record IsBadAt (file : List ℕ) (bodies : List (List ℕ)) (n offset : ℕ) : Type 0 where
   pub log : List Accepted
   pub same : bodies_of log ≡ take n bodies
   pub sound : IsSound log
   pub inside : n < length bodies
   pub bad : follows log (slice_index_or bodies n []) ≡ false
-  pub place : offset ≡ length (rows (magic ∷ take n bodies))
+  pub place : offset ≡ place_in magic file bodies n
 
 -- the file's records are no versions, from this place on
 pub record IsDamagedLog (file : List ℕ) (offset : ℕ) : Type 0 where
   pub bodies : List (List ℕ)
   pub records : Records magic file bodies
   pub number : ℕ
-  pub bad : IsBadAt bodies number offset
+  pub bad : IsBadAt file bodies number offset
 
 -- why a body is not taken
 abbrev pub TakeRefused : {D : Type 0} → DiskModel D → (before after : D) → ServerError → Type 0
@@ -111,13 +111,13 @@ TakeRefused m before after (Journal journal.Memory) = ⊥
 TakeRefused m before after Memory = Unit {0}
 
 -- where a body is damaged, it is none that may follow
-abbrev pub IsBadBody : List (List ℕ) → ℕ → ServerError → Type 0
-IsBadBody bodies n (Journal journal.Disk) = Unit {0}
-IsBadBody bodies n (Journal journal.Closed) = Unit {0}
-IsBadBody bodies n (Journal (journal.Damaged offset)) = IsBadAt bodies n offset
-IsBadBody bodies n (Journal (journal.TooLong bytes)) = Unit {0}
-IsBadBody bodies n (Journal journal.Memory) = Unit {0}
-IsBadBody bodies n Memory = Unit {0}
+abbrev pub IsBadBody : List ℕ → List (List ℕ) → ℕ → ServerError → Type 0
+IsBadBody file bodies n (Journal journal.Disk) = Unit {0}
+IsBadBody file bodies n (Journal journal.Closed) = Unit {0}
+IsBadBody file bodies n (Journal (journal.Damaged offset)) = IsBadAt file bodies n offset
+IsBadBody file bodies n (Journal (journal.TooLong bytes)) = Unit {0}
+IsBadBody file bodies n (Journal journal.Memory) = Unit {0}
+IsBadBody file bodies n Memory = Unit {0}
 
 -- why a server is not opened
 abbrev pub ServerOpenRefused : {D : Type 0} → DiskModel D → (before after : D) → ServerError → Type 0

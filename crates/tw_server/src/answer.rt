@@ -2,7 +2,7 @@
 ghost use Rattle.std.specs.Prelude.{◌≡◌, ◌<◌, true, false, length, List, ℕ, Err, IfOk, IfErr, OnErr};
 ghost use Rattle.tw_world.specs.Disk.{LeavesOnly, Kept, Untouched};
 ghost use Rattle.tw_http.specs.declared.message.Request.TheVariants as asks;
-ghost use Rattle.tw_journal.specs.declared.journal.JournalError.TheVariants as journal_error;
+ghost use Rattle.tw_journal.specs.declared.error.JournalError.TheVariants as journal_error;
 ghost use Rattle.tw_server.specs.declared.server.ServerError.TheVariants as server_error;
 ghost use Rattle.tw_server.specs.Log.{Accepted, added, told};
 ghost use Rattle.tw_server.specs.Server.{Knows, drawn_id, IsServerOn, IsAnswer, LogOrMore, AnswerRefused, is_closed, server_end};

@@ -15,12 +15,12 @@ use tw_journal::{Journal, JournalError, Window};
 use tw_world::Disk;
 use uuid::Uuid;
 
-/// The body of the first record of a server's file.
+/// The magic of a server's file.
 const MAGIC: [u8; 8] = *b"TWSERV01";
 
 impl Server {
-    /// Opens the server of a disk, and makes its file where the disk has no record: one record whose body is
-    /// `TWSERV01`, and one for each accepted version.
+    /// Opens the server of a disk, and makes its file where the disk has no record: a journal of the magic
+    /// `TWSERV01`, with a record for each accepted version.
     ///
     /// A crash at any moment of the call leaves an image that the disk could leave before, or the records that were
     /// read. `Damaged` names the place of the first record that is none, or that is no version of its client's chain.
@@ -64,7 +64,7 @@ impl Server {
         ensures untouched { Untouched D.model disk.old disk.new }
 
         ensures refused { IfErr result (TakeRefused D.model disk.old disk.new) }
-        ensures damaged { IfErr result (λ e. (bodies : List (List ℕ)) → IsOpenOn D.model magic self.old.journal disk.old bodies → IsReadTo self.old bodies n → IsBadBody bodies n e) }
+        ensures damaged { IfErr result (λ e. (bodies : List (List ℕ)) → IsOpenOn D.model magic self.old.journal disk.old bodies → IsReadTo self.old bodies n → IsBadBody (D.model.seen disk.old) bodies n e) }
     {
         let body = self.journal.body_through(alloc, window, disk, n)?;
         let Some(entry) = self.next_entry(body.as_slice()) else {

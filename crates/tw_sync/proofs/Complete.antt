@@ -4,7 +4,7 @@ use Rattle.std.proofs.lemmas.List.{length-append}
 use Rattle.std.proofs.lemmas.Bool.{true≢false}
 use Rattle.tw_world.specs.Disk.{DiskModel}
 use Rattle.tw_model.specs.declared.SyncOp.{SyncOp}
-use Rattle.tw_journal.specs.declared.journal.JournalError.TheVariants as journal
+use Rattle.tw_journal.specs.declared.error.AppendError.TheVariants as journal
 use Rattle.tw_protocol.specs.Chain.{Version}
 use Rattle.tw_http.specs.Link.{LinkModel}
 use Rattle.tw_segment.specs.Segment.{max_len, IsSegment}
@@ -63,5 +63,3 @@ can_sync m links old new before after first last client (errors.Journal (journal
     let long = r.0 in
     let len = h.len in
     absurd (omega (arith, within, long, len))
-can_sync m links old new before after first last client (errors.Journal (journal.Damaged offset)) can r h = absurd r
-can_sync m links old new before after first last client (errors.Journal journal.Memory) can r h = absurd r

@@ -8,7 +8,7 @@ use Rattle.tw_model.proofs.LocalOps.{plain_same}
 use Rattle.tw_protocol.specs.Chain.{Version, IsChain}
 use Rattle.tw_replica.specs.State.{State, start}
 use Rattle.tw_replica.specs.Sound.{IsSound, start_of}
-use Rattle.tw_replica.proofs.Touched.{settled_in}
+use Rattle.tw_replica.proofs.Touched.{assigned_in}
 use Rattle.tw_replica.proofs.Soundness as replica
 use Rattle.tw_sync.specs.Fold.{IsFold, Agrees}
 use Rattle.tw_sync.specs.End.{ServerChain, IsLeft, IsPushed, stands_at}
@@ -26,7 +26,7 @@ new_replica_agrees chain = record {
 
 -- a sound replica that is moved to a version, with nothing pending, is sound
 pub stands_sound : (old : State) (v : List ℕ) (tasks : TasksValue) → IsSound old → IsSound (stands_at old v tasks)
-stands_sound old v tasks sound = record { begins = tt; fits = tt; tasks = refl; settled = settled_in old.numbers tasks sound.settled.once }
+stands_sound old v tasks sound = record { begins = tt; fits = tt; tasks = refl; assigned = assigned_in old.numbers tasks sound.assigned.once }
 
 stands_agrees : (old new : State) (chain : List Version) (v : List ℕ) (tasks : TasksValue) → IsSound old → IsFold chain v tasks → new ≡ stands_at old v tasks → Agrees new chain
 stands_agrees old new chain v tasks sound f e = subst (λ s. Agrees s chain) (sym e) (record { sound = stands_sound old v tasks sound; folded = f })

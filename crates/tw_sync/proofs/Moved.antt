@@ -10,11 +10,11 @@ use Rattle.tw_protocol.specs.Chain.{Version, same_id, IsChain, IsBetween, HoldsA
 use Rattle.tw_protocol.proofs.Chains.{same_id_exact}
 use Rattle.tw_protocol.proofs.Between.{between_is_one}
 use Rattle.tw_journal.specs.Journal.{is_closed}
-use Rattle.tw_journal.specs.declared.journal.JournalError.{JournalError}
-use Rattle.tw_journal.specs.declared.journal.JournalError.TheVariants as journal
+use Rattle.tw_journal.specs.declared.error.AppendError.{AppendError}
+use Rattle.tw_journal.specs.declared.error.AppendError.TheVariants as journal
 use Rattle.tw_http.specs.Link.{LinkModel}
 use Rattle.tw_transform.specs.Grid.{grid}
-use Rattle.tw_replica.specs.Settle.{settled}
+use Rattle.tw_replica.specs.Assign.{assigned}
 use Rattle.tw_replica.specs.State.{State, synced}
 use Rattle.tw_replica.specs.Sound.{start_of}
 use Rattle.tw_replica.specs.Core.{state_of}
@@ -100,7 +100,7 @@ module _ {L : Type 0} (m : LinkModel L) (state : State) (first now : L) (cursor 
         reads_back = e.reads_back;
         within = e.within;
         sent = e.behind;
-        state = λ i. record { base = e.at i; pending = []; tasks = tasks i; numbers = settled state.numbers (tasks i) };
+        state = λ i. record { base = e.at i; pending = []; tasks = tasks i; numbers = assigned state.numbers (tasks i) };
         pulled_last = e.pulled_last;
         last = e.last;
         mine = e.mine;
@@ -196,12 +196,10 @@ stopped_refused m links old disk first last e live cause = by e cause
 
 -- where the replica is not moved
 module _ {D L : Type 0} (m : DiskModel D) (links : LinkModel L) (client : List ℕ) (old new : Replica) (before after : D) (first last : L) (cursor : Cursor) (sent : ℕ) (live : is_closed old.journal ≡ false) where
-  journal_refused : (e : JournalError) → StepRefused m old new before after (length (record_body cursor.at cursor.remote.items)) e → JournalRefused m old new before after first last e
+  journal_refused : (e : AppendError) → StepRefused m old new before after (length (record_body cursor.at cursor.remote.items)) e → JournalRefused m old new before after first last e
   journal_refused journal.Disk r = (r.0.0, r.1, live, r.0.1)
   journal_refused journal.Closed r = absurd (true≢false (sym r.0.0 ∙ live))
   journal_refused (journal.TooLong bytes) r = (let a = r.0.0 in let b = r.0.1 in omega (arith, a, b), record { same = record { state = r.1; journal = r.0.3; disk = r.0.4 }; is_open = live })
-  journal_refused (journal.Damaged offset) r = absurd r.0
-  journal_refused journal.Memory r = absurd r.0
 
   pub unmoved_refused : (e : RecordError) → IsNotMoved m old new before after cursor e → SyncRefused m links old new before after first last (of_record e)
   unmoved_refused (records.Journal e) r = journal_refused e r
@@ -216,16 +214,12 @@ module _ {D L : Type 0} (m : DiskModel D) (links : LinkModel L) (client : List �
   unmoved_honest met (records.Journal journal.Disk) r = tt
   unmoved_honest met (records.Journal journal.Closed) r = tt
   unmoved_honest met (records.Journal (journal.TooLong bytes)) r = long_record bytes met r.0.0
-  unmoved_honest met (records.Journal (journal.Damaged offset)) r = absurd r.0
-  unmoved_honest met (records.Journal journal.Memory) r = absurd r.0
   unmoved_honest met records.Memory r = tt
 
   pub unmoved_may_add : (e : RecordError) → IsNotMoved m old new before after cursor e → MayAdd (of_record e)
   unmoved_may_add (records.Journal journal.Disk) r = tt
   unmoved_may_add (records.Journal journal.Closed) r = absurd (true≢false (sym r.0.0 ∙ live))
   unmoved_may_add (records.Journal (journal.TooLong bytes)) r = tt
-  unmoved_may_add (records.Journal (journal.Damaged offset)) r = absurd r.0
-  unmoved_may_add (records.Journal journal.Memory) r = absurd r.0
   unmoved_may_add records.Memory r = tt
 
   -- its state is the old one

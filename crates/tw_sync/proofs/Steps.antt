@@ -7,10 +7,10 @@ use Rattle.tw_model.proofs.LocalOps.{all_taken_back}
 use Rattle.tw_protocol.specs.Chain.{Version}
 use Rattle.tw_replica.specs.Body.{is_group}
 use Rattle.tw_replica.specs.Reading.{◌>>=◌}
-use Rattle.tw_replica.specs.Settle.{settled}
+use Rattle.tw_replica.specs.Assign.{assigned}
 use Rattle.tw_replica.specs.State.{State, misfit, is_idle, unless, moved_to, split_group, undone}
 use Rattle.tw_replica.specs.Sound.{start_of, IsSound, IsUndone}
-use Rattle.tw_replica.proofs.Touched.{settled_in, packed_if_in}
+use Rattle.tw_replica.proofs.Touched.{assigned_in, packed_if_in}
 use Rattle.tw_replica.proofs.Groups.{group_begins, begins-append}
 use Rattle.tw_replica.proofs.Soundness.{undo_sound, undo_leads_back}
 use Rattle.tw_sync.specs.Fold.{IsFold, Agrees}
@@ -71,7 +71,7 @@ module _ (renumber : Bool) (ops : List Op) (old : State) (sound : IsSound old) (
     begins = begins-append old.pending ops sound.begins (group_begins ops group);
     fits = subst (λ (t : TasksValue). FitAllLocal t (old.pending ++ ops)) (sym start_same) (fit-append (start_of old) old.pending ops sound.fits (subst (λ (t : TasksValue). FitAllLocal t ops) sound.tasks fits));
     tasks = ap (λ (t : TasksValue). apply_all_local t ops) sound.tasks ∙ sym (applied-append (start_of old) old.pending ops) ∙ ap (λ (t : TasksValue). apply_all_local t (old.pending ++ ops)) (sym start_same);
-    settled = packed_if_in renumber (settled old.numbers (apply_all_local old.tasks ops)) (apply_all_local old.tasks ops) (settled_in old.numbers (apply_all_local old.tasks ops) sound.settled.once);
+    assigned = packed_if_in renumber (assigned old.numbers (apply_all_local old.tasks ops)) (apply_all_local old.tasks ops) (assigned_in old.numbers (apply_all_local old.tasks ops) sound.assigned.once);
   }
 
 pub commit_agrees : CommitAgrees

@@ -6,7 +6,7 @@ use Rattle.tw_model.specs.declared.SyncOp.{SyncOp}
 use Rattle.tw_protocol.specs.Chain.{Version, IsBetween, HoldsAll, Grows}
 use Rattle.tw_segment.specs.Segment.{max_len, segment_text, IsSegment}
 use Rattle.tw_transform.specs.Positions.{IsPosition}
-use Rattle.tw_replica.specs.Settle.{settled}
+use Rattle.tw_replica.specs.Assign.{assigned}
 use Rattle.tw_replica.specs.State.{State}
 use Rattle.tw_replica.specs.Sound.{start_of}
 use Rattle.tw_sync.specs.Fold.{Reads}
@@ -25,7 +25,7 @@ pub record IsPulled (old : State) (chain : List Version) (h : List ℕ) (version
 
 -- a replica with these tasks at a version, and with nothing pending
 abbrev pub stands_at : State → List ℕ → TasksValue → State
-stands_at old v tasks = record { base = v; pending = []; tasks = tasks; numbers = settled old.numbers tasks }
+stands_at old v tasks = record { base = v; pending = []; tasks = tasks; numbers = assigned old.numbers tasks }
 
 abbrev pub report_of : (pulled dropped pushed : ℕ) → List ℕ → SyncReport
 report_of pulled dropped pushed base = record { pulled = pulled; dropped = dropped; pushed = pushed; base = base }

@@ -4,7 +4,7 @@ use Rattle.tw_world.specs.Disk.{DiskModel, Rose}
 use Rattle.tw_model.specs.declared.SyncOp.{SyncOp}
 use Rattle.tw_protocol.specs.Chain.{Version, IsBetween}
 use Rattle.tw_journal.specs.Journal.{is_closed}
-use Rattle.tw_journal.specs.declared.journal.JournalError.TheVariants.{TooLong, Disk, Closed, Damaged, Memory as NoMemory}
+use Rattle.tw_journal.specs.declared.error.AppendError.TheVariants.{TooLong, Disk, Closed}
 use Rattle.tw_http.specs.Link.{LinkModel, IsHonest}
 use Rattle.tw_segment.specs.Segment.{max_len, segment_text, IsSegment}
 use Rattle.tw_segment.specs.Refusals.{IsUnread}
@@ -81,8 +81,6 @@ HonestRefused old before after (errors.PullTooLong bytes) = IsLongPull old after
 HonestRefused old before after (errors.Journal (TooLong bytes)) = IsLongRecord old after.chain bytes
 HonestRefused old before after (errors.Journal Disk) = Unit {0}
 HonestRefused old before after (errors.Journal Closed) = Unit {0}
-HonestRefused old before after (errors.Journal (Damaged offset)) = ⊥
-HonestRefused old before after (errors.Journal NoMemory) = ⊥
 HonestRefused old before after errors.Link = Unit {0}
 HonestRefused old before after errors.Memory = Unit {0}
 

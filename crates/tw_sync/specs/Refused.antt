@@ -4,8 +4,8 @@ use Rattle.std.specs.List.{AllByRecursion}
 use Rattle.uuid.specs.Parts.{zero_bytes}
 use Rattle.tw_world.specs.Disk.{DiskModel, Rose}
 use Rattle.tw_journal.specs.Journal.{is_closed}
-use Rattle.tw_journal.specs.declared.journal.JournalError.{JournalError}
-use Rattle.tw_journal.specs.declared.journal.JournalError.TheVariants as journal
+use Rattle.tw_journal.specs.declared.error.AppendError.{AppendError}
+use Rattle.tw_journal.specs.declared.error.AppendError.TheVariants as journal
 use Rattle.tw_http.specs.Link.{LinkModel}
 use Rattle.tw_http.specs.declared.message.Request.TheVariants as asks
 use Rattle.tw_http.specs.declared.message.Response.TheVariants as replies
@@ -139,13 +139,11 @@ pub record IsUnchanged {D : Type 0} (old new : Replica) (before after : D) : Typ
   pub is_open : is_closed old.journal ≡ false
 
 -- why the record is not written, and what stays
-abbrev pub JournalRefused : {D L : Type 0} → DiskModel D → (old new : Replica) (before after : D) (first last : L) → JournalError → Type 0
+abbrev pub JournalRefused : {D L : Type 0} → DiskModel D → (old new : Replica) (before after : D) (first last : L) → AppendError → Type 0
 JournalRefused m old new before after first last journal.Disk =
     Rose (m.faults before) (m.faults after) × (state_of new.core ≡ state_of old.core) × (is_closed old.journal ≡ false) × (is_closed new.journal ≡ true)
 JournalRefused m old new before after first last journal.Closed = (is_closed old.journal ≡ true) × IsSame old new before after × (last ≡ first)
 JournalRefused m old new before after first last (journal.TooLong bytes) = (2 ^ 30 < bytes) × IsUnchanged old new before after
-JournalRefused m old new before after first last (journal.Damaged offset) = ⊥
-JournalRefused m old new before after first last journal.Memory = ⊥
 
 -- why a sync is refused, and what stays. The counts tell the fault of the disk and of the link
 abbrev pub SyncRefused : {D L : Type 0} → DiskModel D → LinkModel L → (old new : Replica) (before after : D) (first last : L) → SyncError → Type 0
@@ -167,8 +165,6 @@ MayAdd errors.Memory = Unit {0}
 MayAdd (errors.Journal journal.Disk) = Unit {0}
 MayAdd (errors.Journal (journal.TooLong bytes)) = Unit {0}
 MayAdd (errors.Journal journal.Closed) = ⊥
-MayAdd (errors.Journal (journal.Damaged offset)) = ⊥
-MayAdd (errors.Journal journal.Memory) = ⊥
 MayAdd (errors.Reply kind) = ⊥
 MayAdd (errors.Gone base) = ⊥
 MayAdd (errors.Busy parent) = ⊥

@@ -2,7 +2,7 @@
 ghost use Rattle.std.specs.Prelude.{◌≡◌, ◌+◌, ◌≤◌, ◌⊎◌, List, ℕ, IsTrue, IfOk, OnOk, IfErr, Err, true, false};
 ghost use Rattle.tw_world.specs.Disk.{Kept, LeavesOnly};
 ghost use Rattle.tw_journal.specs.Journal.{is_closed};
-ghost use Rattle.tw_journal.specs.declared.journal.JournalError.TheVariants as journal;
+ghost use Rattle.tw_journal.specs.declared.error.AppendError.TheVariants as journal;
 ghost use Rattle.tw_http.specs.Link.{IsHonest};
 ghost use Rattle.tw_http.specs.Messages.{IsHost};
 ghost use Rattle.tw_protocol.specs.Chain.{Grows};
@@ -27,7 +27,7 @@ use crate::meeting::meet;
 use crate::report::SyncReport;
 use std::alloc::Global;
 use tw_http::Link;
-use tw_journal::JournalError;
+use tw_journal::AppendError;
 use tw_replica::{RecordError, Replica};
 use tw_world::Disk;
 use uuid::Uuid;
@@ -73,7 +73,7 @@ pub fn sync<D: Disk, L: Link>(
     ensures link_kept { IsLinkKept L.model link.old link.new }
 {
     if replica.is_closed() {
-        return Err(SyncError::Journal(JournalError::Closed));
+        return Err(SyncError::Journal(AppendError::Closed));
     }
     meet_and_move(alloc, replica, disk, link, client, host)
 }

@@ -7,7 +7,7 @@ ghost use Rattle.tw_sync.specs.Causes.{of_link, of_ask, of_take, of_send, of_rec
 
 use std::alloc::AllocError;
 use tw_http::LinkError;
-use tw_journal::JournalError;
+use tw_journal::AppendError;
 use tw_replica::RecordError;
 use tw_world::Memory;
 use uuid::Uuid;
@@ -39,7 +39,7 @@ pub enum ReplyKind {
 #[derive(Clone, Copy, Debug, PartialEq, Eq, Drop)]
 pub enum SyncError {
     /// The record of the sync was not written.
-    Journal(JournalError),
+    Journal(AppendError),
     /// The way to the server failed.
     Link,
     /// A reply is none that a sync goes on from.

@@ -1,6 +1,6 @@
 use Rattle.std.proofs.Common.{◌∙◌, ap, sym, cond}
 use Rattle.std.specs.BTreeSet.{insert_key}
-use Rattle.tw_replica.specs.Settle.{is_open, rank, rank_cmp}
+use Rattle.tw_replica.specs.Assign.{is_open, rank, rank_cmp}
 use Rattle.tw_replica.proofs.Scanning.{scanned_unplaced, both_true, second_false}
 use Rattle.tw_replica.proofs.scan.look_for.Goals as goal
 

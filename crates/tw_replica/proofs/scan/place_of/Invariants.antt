@@ -1,5 +1,5 @@
 use Rattle.std.proofs.Common.{◌≡◌, ◌-◌, ◌≤◌, length, take, false}
-use Rattle.tw_replica.specs.Settle.{is_placed}
+use Rattle.tw_replica.specs.Assign.{is_placed}
 use Rattle.tw_replica.proofs.scan.place_of.Given as goal
 
 abbrev pub invariant-loop-at : goal.invariant-loop-at

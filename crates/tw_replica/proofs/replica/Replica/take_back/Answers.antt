@@ -1,6 +1,6 @@
 use Rattle.std.proofs.Common.{◌∙◌, ◌∷◌, [], List, ℕ, refl, drop, ap}
 use Rattle.tw_replica.specs.Core.{state_of}
-use Rattle.tw_replica.specs.Settle.{settled}
+use Rattle.tw_replica.specs.Assign.{assigned}
 use Rattle.tw_replica.proofs.Standing.{is_undone}
 use Rattle.tw_replica.proofs.Keeping.{last_told, last_split}
 use Rattle.tw_replica.proofs.replica.Replica.take_back.Goals as goal
@@ -12,7 +12,7 @@ returns-clause-prepared c =
     let e = c.in_ok-take_back_core.ensures in
     record {
       journal = refl;
-      leads = is_undone (state_of old) (state_of c.take_back_core.new.core) last.left (drop 1 c.in-Some.group.items) (last_split old.pending c.in-Some.group.items last) e.base (e.pending last) e.tasks (e.numbers ∙ ap (settled old.numbers.items) e.tasks);
+      leads = is_undone (state_of old) (state_of c.take_back_core.new.core) last.left (drop 1 c.in-Some.group.items) (last_split old.pending c.in-Some.group.items last) e.base (e.pending last) e.tasks (e.numbers ∙ ap (assigned old.numbers.items) e.tasks);
       bodies = ap (λ (b : List ℕ). b ∷ []) c.in_ok-undo_body.ensures;
       is = tt;
     }

@@ -53,3 +53,12 @@ returns-in_err-append-clause-any_moment g c log on =
 
 pub returns-in_err-make_room-clause-any_moment : goal.returns-in_err-make_room-clause-any_moment
 returns-in_err-make_room-clause-any_moment g c log on = first_moment g.D.Disk.model c.args.self.now c.args.disk.now log _ g.met.D.Disk.only_now on
+
+pub returns-then-ne-clause-any_moment : goal.returns-then-ne-clause-any_moment
+returns-then-ne-clause-any_moment g c log on = first_moment g.D.Disk.model c.args.self.now c.args.disk.now log _ g.met.D.Disk.only_now on
+
+pub returns-then-has_id-clause-any_moment : goal.returns-then-has_id-clause-any_moment
+returns-then-has_id-clause-any_moment g c log on = first_moment g.D.Disk.model c.args.self.now c.args.disk.now log _ g.met.D.Disk.only_now on
+
+pub returns-in_err-body-clause-any_moment : goal.returns-in_err-body-clause-any_moment
+returns-in_err-body-clause-any_moment g c log on = first_moment g.D.Disk.model c.args.self.now c.args.disk.now log _ g.met.D.Disk.only_now on

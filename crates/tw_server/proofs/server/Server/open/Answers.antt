@@ -2,9 +2,11 @@ use Rattle.std.proofs.Common.{◌∙◌, ◌≤◌, [], length, refl, sym, ap, a
 use Rattle.tw_world.proofs.Moments.{untouched, untouched_join}
 use Rattle.tw_journal.specs.Journal.{is_closed, journal_end}
 use Rattle.tw_journal.specs.Open.{IsImageThen}
+use Rattle.tw_journal.specs.Errors.{open_in_all}
+use Rattle.tw_server.specs.Faults.{error_of}
 use Rattle.tw_server.specs.Server.{magic, ServerOpenRefused}
 use Rattle.tw_server.proofs.Refusals.{from_fault}
-use Rattle.tw_server.proofs.Openings.{nothing_sound, after_reads, open_now, open_refused, opened_on}
+use Rattle.tw_server.proofs.Openings.{nothing_sound, after_reads, open_now, open_refused, opened_on, bad_before, not_opened}
 use Rattle.tw_server.proofs.server.Server.open.Goals as goal
 
 pub loop-n-init : goal.loop-n-init
@@ -45,7 +47,7 @@ returns-in_err-take_body-clause-refused g c =
     from_fault (ServerOpenRefused m c.args.disk.now c.take_body.new.disk) c.from_residual-in_err-take_body.result c.in_err-take_body.field-0.0 c.from_residual-in_err-take_body.ensures.1
     (open_refused m c.args.disk.now c.open.new.disk c.loop-n.disk c.take_body.new.disk c.loop-n.n c.in_err-take_body.field-0.0 c.open.ensures.kept.faults so_far.untouched.kept.faults c.in_err-take_body.ensures.refused
     (λ tells. let o = c.in_ok-journal.ensures.opened tells in
-    (o.bodies, o.records, c.in_err-take_body.ensures.damaged o.bodies (open_now m c.in_ok-journal.journal c.loop-n.server.journal c.open.new.disk c.loop-n.disk o.bodies so_far.same so_far.untouched o.now) (so_far.read o.bodies o.now))))
+    (o.bodies, o.records, bad_before m c.args.disk.now c.open.new.disk c.loop-n.disk c.in_ok-journal.journal o c.loop-n.n c.in_err-take_body.field-0.0 (so_far.untouched.seen o.now.rest.tells) (c.in_err-take_body.ensures.damaged o.bodies (open_now m c.in_ok-journal.journal c.loop-n.server.journal c.open.new.disk c.loop-n.disk o.bodies so_far.same so_far.untouched o.now) (so_far.read o.bodies o.now)))))
 
 pub returns-clause-opened : goal.returns-clause-opened
 returns-clause-opened g c tells =
@@ -59,3 +61,9 @@ pub returns-clause-any_moment : goal.returns-clause-any_moment
 returns-clause-any_moment g c tells =
     let m = g.D.Disk.model in
     after_reads m c.args.disk.now c.open.new.disk c.loop-n.disk (IsImageThen m c.args.disk.now magic) g.met.D.Disk.counts_now (c.open.ensures.any_moment tells) (c.open.ensures.kept.tells ∙ tells) c.loop-n.invariant.untouched
+
+pub returns-in_err-journal-clause-refused : goal.returns-in_err-journal-clause-refused
+returns-in_err-journal-clause-refused g c =
+    let m = g.D.Disk.model in
+    from_fault (ServerOpenRefused m c.args.disk.now c.open.new.disk) c.from_residual.result (error_of (open_in_all c.in_err-journal.field-0.0)) c.from_residual.ensures.1
+    (not_opened m c.args.disk.now c.open.new.disk c.in_err-journal.field-0.0 c.in_err-journal.ensures.refused)

@@ -1,0 +1,4 @@
+use Rattle.tw_journal.proofs.journal.Journal.length.Goals as goal
+
+pub returns-clause-length : goal.returns-clause-length
+returns-clause-length g c = λ magic bodies on. (c.in_ok-look_up.ensures.found magic bodies on).size
