@@ -14,7 +14,7 @@ use Rattle.tw_http.specs.Fields.{Fields, uuid_field}
 use Rattle.tw_http.specs.Bodies.{body_of, body_len}
 use Rattle.tw_http.specs.Requests.{asked_of, type_of, is_add, request_made, request_after, IsRequestHeadAnswer, IsRequestAnswerAt, IsRequestAnswer}
 use Rattle.tw_http.specs.Responses.{kind_in, response_made, response_after, IsResponseHeadAnswer, IsResponseAnswerAt, IsResponseAnswer}
-use Rattle.tw_http.specs.Faults.{Unless, Settled}
+use Rattle.tw_http.specs.Faults.{Unless, Decided}
 use Rattle.tw_http.proofs.Ends.{found_here, not_here}
 
 -- ---- the end of the head
@@ -124,18 +124,18 @@ response-same what status fs rest more r ready e =
     bind-same (body_len true fs) _ _ r (λ n.
     body-same n rest more (λ body. Ok (response_made kind body)) r ready)) e
 
--- ---- settled
+-- ---- decided
 
-settle : {A : Type 0} (P Q : Result A HttpError → Type 0) (r : Result A HttpError) → Unless P r → (r ≢ Err NotYet → P r → Q r) → Settled Q r
-settle P Q (Ok x) u h = h (λ e. cc) u
-settle P Q (Err Memory) u h = tt
-settle P Q (Err NotYet) u h = tt
-settle P Q (Err Head) u h = h (λ e. cc) u
-settle P Q (Err Path) u h = h (λ e. cc) u
-settle P Q (Err Header) u h = h (λ e. cc) u
-settle P Q (Err Length) u h = h (λ e. cc) u
-settle P Q (Err (Status code)) u h = h (λ e. cc) u
-settle P Q (Err TooLong) u h = h (λ e. cc) u
+decide : {A : Type 0} (P Q : Result A HttpError → Type 0) (r : Result A HttpError) → Unless P r → (r ≢ Err NotYet → P r → Q r) → Decided Q r
+decide P Q (Ok x) u h = h (λ e. cc) u
+decide P Q (Err Memory) u h = tt
+decide P Q (Err NotYet) u h = tt
+decide P Q (Err Head) u h = h (λ e. cc) u
+decide P Q (Err Path) u h = h (λ e. cc) u
+decide P Q (Err Header) u h = h (λ e. cc) u
+decide P Q (Err Length) u h = h (λ e. cc) u
+decide P Q (Err (Status code)) u h = h (λ e. cc) u
+decide P Q (Err TooLong) u h = h (λ e. cc) u
 
 request_head-same : (front rest more : List ℕ) (r : Result Request HttpError) → r ≢ Err NotYet → IsRequestHeadAnswer front rest r → IsRequestHeadAnswer front (rest ++ more) r
 request_head-same front rest more r ready (inl (h, reads, few, is)) = inl (h, reads, few, request-same _ _ _ rest more r ready is)
@@ -145,23 +145,23 @@ response_head-same : (what : Asked) (front rest more : List ℕ) (r : Result Res
 response_head-same what front rest more r ready (inl (h, reads, few, is)) = inl (h, reads, few, response-same what _ _ rest more r ready is)
 response_head-same what front rest more r ready (inr x) = inr x
 
-pub request_settled : (bytes more : List ℕ) (n : ℕ) (r : Result Request HttpError) → head_len (take max_head bytes) ≡ Some n → Unless (IsRequestHeadAnswer (take n bytes) (drop n bytes)) r → Settled (IsRequestAnswer (bytes ++ more)) r
-request_settled bytes more n r e u =
+pub request_decided : (bytes more : List ℕ) (n : ℕ) (r : Result Request HttpError) → head_len (take max_head bytes) ≡ Some n → Unless (IsRequestHeadAnswer (take n bytes) (drop n bytes)) r → Decided (IsRequestAnswer (bytes ++ more)) r
+request_decided bytes more n r e u =
     let stays = head_stays bytes more n e in
     let front = take-append-le n bytes more stays.1 in
     let rest = drop-append-le n bytes more stays.1 in
-    settle (IsRequestHeadAnswer (take n bytes) (drop n bytes)) (IsRequestAnswer (bytes ++ more)) r u (λ ready x.
+    decide (IsRequestHeadAnswer (take n bytes) (drop n bytes)) (IsRequestAnswer (bytes ++ more)) r u (λ ready x.
     subst (λ o. IsRequestAnswerAt o (bytes ++ more) r) (sym stays.0)
     (subst (λ f. IsRequestHeadAnswer f (drop n (bytes ++ more)) r) (sym front)
     (subst (λ q. IsRequestHeadAnswer (take n bytes) q r) (sym rest)
     (request_head-same (take n bytes) (drop n bytes) more r ready x))))
 
-pub response_settled : (what : Asked) (bytes more : List ℕ) (n : ℕ) (r : Result Response HttpError) → head_len (take max_head bytes) ≡ Some n → Unless (IsResponseHeadAnswer what (take n bytes) (drop n bytes)) r → Settled (IsResponseAnswer what (bytes ++ more)) r
-response_settled what bytes more n r e u =
+pub response_decided : (what : Asked) (bytes more : List ℕ) (n : ℕ) (r : Result Response HttpError) → head_len (take max_head bytes) ≡ Some n → Unless (IsResponseHeadAnswer what (take n bytes) (drop n bytes)) r → Decided (IsResponseAnswer what (bytes ++ more)) r
+response_decided what bytes more n r e u =
     let stays = head_stays bytes more n e in
     let front = take-append-le n bytes more stays.1 in
     let rest = drop-append-le n bytes more stays.1 in
-    settle (IsResponseHeadAnswer what (take n bytes) (drop n bytes)) (IsResponseAnswer what (bytes ++ more)) r u (λ ready x.
+    decide (IsResponseHeadAnswer what (take n bytes) (drop n bytes)) (IsResponseAnswer what (bytes ++ more)) r u (λ ready x.
     subst (λ o. IsResponseAnswerAt what o (bytes ++ more) r) (sym stays.0)
     (subst (λ f. IsResponseHeadAnswer what f (drop n (bytes ++ more)) r) (sym front)
     (subst (λ q. IsResponseHeadAnswer what (take n bytes) q r) (sym rest)
@@ -177,18 +177,18 @@ late bytes past = rw (le-ltb (length bytes) max_head past) refl
 late_stays : (bytes more : List ℕ) → max_head ≤ length bytes → head_len (take max_head bytes) ≡ None → head_len (take max_head (bytes ++ more)) ≡ None
 late_stays bytes more past e = ap head_len (take-append-le max_head bytes more past) ∙ e
 
-pub no_request_settled : (bytes more : List ℕ) → head_len (take max_head bytes) ≡ None → Settled (IsRequestAnswer (bytes ++ more)) (Err (no_head bytes))
-no_request_settled bytes more e =
+pub no_request_decided : (bytes more : List ℕ) → head_len (take max_head bytes) ≡ None → Decided (IsRequestAnswer (bytes ++ more)) (Err (no_head bytes))
+no_request_decided bytes more e =
     elim (cases_lt (length bytes) max_head) [
-      | inl less ↦ subst (λ h. Settled (IsRequestAnswer (bytes ++ more)) (Err h)) (sym (early bytes less)) tt
-      | inr past ↦ subst (λ h. Settled (IsRequestAnswer (bytes ++ more)) (Err h)) (sym (late bytes past))
+      | inl less ↦ subst (λ h. Decided (IsRequestAnswer (bytes ++ more)) (Err h)) (sym (early bytes less)) tt
+      | inr past ↦ subst (λ h. Decided (IsRequestAnswer (bytes ++ more)) (Err h)) (sym (late bytes past))
           (subst (λ o. IsRequestAnswerAt o (bytes ++ more) (Err TooLong)) (sym (late_stays bytes more past e)) (ap Err (sym (late (bytes ++ more) (omega (arith, past, length-append bytes more))))))
     ]
 
-pub no_response_settled : (what : Asked) (bytes more : List ℕ) → head_len (take max_head bytes) ≡ None → Settled (IsResponseAnswer what (bytes ++ more)) (Err (no_head bytes))
-no_response_settled what bytes more e =
+pub no_response_decided : (what : Asked) (bytes more : List ℕ) → head_len (take max_head bytes) ≡ None → Decided (IsResponseAnswer what (bytes ++ more)) (Err (no_head bytes))
+no_response_decided what bytes more e =
     elim (cases_lt (length bytes) max_head) [
-      | inl less ↦ subst (λ h. Settled (IsResponseAnswer what (bytes ++ more)) (Err h)) (sym (early bytes less)) tt
-      | inr past ↦ subst (λ h. Settled (IsResponseAnswer what (bytes ++ more)) (Err h)) (sym (late bytes past))
+      | inl less ↦ subst (λ h. Decided (IsResponseAnswer what (bytes ++ more)) (Err h)) (sym (early bytes less)) tt
+      | inr past ↦ subst (λ h. Decided (IsResponseAnswer what (bytes ++ more)) (Err h)) (sym (late bytes past))
           (subst (λ o. IsResponseAnswerAt what o (bytes ++ more) (Err TooLong)) (sym (late_stays bytes more past e)) (ap Err (sym (late (bytes ++ more) (omega (arith, past, length-append bytes more))))))
     ]
