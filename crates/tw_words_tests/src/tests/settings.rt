@@ -1,7 +1,7 @@
 // Settings, and what they say of a run.
 
 use super::{halves, words_of};
-use crate::{Settings, WordError, cut_words, data_folder, link_address, read_settings};
+use tw_words::{Settings, WordError, cut_words, data_folder, link_address, read_settings};
 use std::alloc::Global;
 use std::test::Fail;
 use tw_world::Memory;

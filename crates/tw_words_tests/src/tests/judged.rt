@@ -1,7 +1,7 @@
 // The parts of lines, and the first word that is wrong.
 
 use super::{NOW, halves, line_of, words_of};
-use crate::{Command, Line, WordError, judge_line, read_line};
+use tw_words::{Command, Line, WordError, judge_line, read_line};
 use std::alloc::Global;
 use std::test::Fail;
 use tw_filter::BadWord;

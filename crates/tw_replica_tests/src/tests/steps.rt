@@ -2,7 +2,7 @@
 ghost use Rattle.std.specs.Prelude.{◌≡◌, IfOk};
 
 use super::{ADDED, disk_of, milk};
-use crate::{Prepared, Replica, ReplicaError, TakeBackError};
+use tw_replica::{Prepared, Replica, ReplicaError, TakeBackError};
 use std::alloc::Global;
 use std::test::Fail;
 use tw_model::{Change, TaskMap};

@@ -2,7 +2,7 @@ mod judged;
 mod modified;
 mod settings;
 
-use crate::{Line, cut_words};
+use tw_words::{Line, cut_words};
 use std::alloc::Global;
 use std::test::Fail;
 use tw_world::{Memory, Moment};

@@ -1,7 +1,7 @@
 // What modification words make of a task.
 
 use super::{NOW, halves, line_of};
-use crate::{Line, WordError, changed, first_unnamed};
+use tw_words::{Line, WordError, changed, first_unnamed};
 use std::alloc::Global;
 use std::test::Fail;
 use tw_filter::{BadWord, View, WordKind};
