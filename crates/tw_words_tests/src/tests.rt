@@ -2,9 +2,9 @@ mod judged;
 mod modified;
 mod settings;
 
-use tw_words::{Line, cut_words};
 use std::alloc::Global;
 use std::test::Fail;
+use tw_words::{Line, cut_words};
 use tw_world::{Memory, Moment};
 
 // 2026-03-04T10:00:00Z, a Wednesday.

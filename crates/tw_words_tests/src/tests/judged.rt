@@ -1,11 +1,11 @@
 // The parts of lines, and the first word that is wrong.
 
 use super::{NOW, halves, line_of, words_of};
-use tw_words::{Command, Line, WordError, judge_line, read_line};
 use std::alloc::Global;
 use std::test::Fail;
 use tw_filter::BadWord;
 use tw_time::Zone;
+use tw_words::{Command, Line, WordError, judge_line, read_line};
 use tw_world::Memory;
 
 // Words with bars between them, and the first that is wrong: by its number, from 0, and its kind.

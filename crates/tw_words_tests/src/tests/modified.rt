@@ -1,12 +1,12 @@
 // What modification words make of a task.
 
 use super::{NOW, halves, line_of};
-use tw_words::{Line, WordError, changed, first_unnamed};
 use std::alloc::Global;
 use std::test::Fail;
 use tw_filter::{BadWord, View, WordKind};
 use tw_model::{TaskMap, Tasks};
 use tw_time::Zone;
+use tw_words::{Line, WordError, changed, first_unnamed};
 use tw_world::Memory;
 use uuid::Uuid;
 

@@ -1,9 +1,9 @@
 // Settings, and what they say of a run.
 
 use super::{halves, words_of};
-use tw_words::{Settings, WordError, cut_words, data_folder, link_address, read_settings};
 use std::alloc::Global;
 use std::test::Fail;
+use tw_words::{Settings, WordError, cut_words, data_folder, link_address, read_settings};
 use tw_world::Memory;
 
 // A file of settings as Taskwarrior 2.6.2 makes it and a user goes on with it.
