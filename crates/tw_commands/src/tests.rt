@@ -172,18 +172,6 @@ fn each_command_has_its_text(rt: HostRuntime) -> Result<(), Fail> {
     Ok(())
 }
 
-const REFUSED: [(&str, &str); 2] = [("undo", "NothingToUndo"), ("9 done", "NoMatch")];
-
-#[test]
-fn what_is_refused_draws_nothing(rt: HostRuntime) -> Result<(), Fail> {
-    let alloc = rt.alloc();
-    let mut disk = empty_disk(alloc)?;
-    let mut ids = ids_from(1);
-    compare_all(alloc, &mut ids, &mut disk, &REFUSED)?;
-    assert_eq!(rt; ids.start, 1);
-    Ok(())
-}
-
 #[test]
 fn a_uuid_that_is_taken_is_told(rt: HostRuntime) -> Result<(), Fail> {
     let alloc = rt.alloc();

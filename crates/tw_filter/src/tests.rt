@@ -245,24 +245,3 @@ fn ten_thousand_words_and_a_hundred_brackets_are_read(rt: HostRuntime) -> Result
     }
     Ok(())
 }
-
-#[test]
-fn a_filter_is_a_range_of_the_words(rt: HostRuntime) -> Result<(), Fail> {
-    let alloc = rt.alloc();
-    let (words, _) = words_of(alloc, "( ( 1 done")?;
-    assert!(rt; words.len() == 4);
-    let utc = Zone::utc();
-    let none = read_filter(alloc, &words, 1, 1, 9, now(), &utc).or(Err("no filter"))?;
-    assert!(rt; none.is_empty() && Filter::all(alloc).is_empty());
-    let one = read_filter(alloc, &words, 2, 3, 9, now(), &utc).or(Err("no filter"))?;
-    assert!(rt; !one.is_empty());
-    let end = BadWord {
-        word: 3,
-        kind: WordKind::End,
-    };
-    assert_eq!(rt;
-        read_filter(alloc, &words, 1, 3, 9, now(), &utc).err(),
-        Some(FilterError::Bad(end))
-    );
-    Ok(())
-}

@@ -34,8 +34,6 @@ const NOW: Moment = Moment {
     nanos: 0,
 };
 
-const FIRST: u128 = 0x00000000_0000_4000_8000_000000000001;
-
 fn add(alloc: Global, tasks: &mut Tasks, uuid: u128, pairs: &[(&str, &str)]) -> Result<(), Memory> {
     let mut task = TaskMap::new(alloc);
     for (property, value) in pairs {
@@ -63,43 +61,6 @@ fn places_of(alloc: Global, uuids: &[u128]) -> Result<Vec<Option<Uuid>>, Memory>
         }
     }
     Ok(places)
-}
-
-#[test]
-fn an_added_task_is_listed_and_told(rt: HostRuntime) -> Result<(), Fail> {
-    let alloc = rt.alloc();
-    let mut tasks = Tasks::new(alloc);
-    let milk = [
-        ("description", "Buy milk"),
-        ("entry", "1700000000"),
-        ("modified", "1700000000"),
-        ("status", "pending"),
-    ];
-    add(alloc, &mut tasks, FIRST, &milk)?;
-    let numbers = places_of(alloc, &[FIRST])?;
-    let zone = Zone::utc();
-    let view = View {
-        tasks: &tasks,
-        numbers: &numbers,
-        now: NOW,
-        zone: &zone,
-    };
-    let rows = rows_of(alloc, &[FIRST])?;
-    let reports = [
-        (
-            Report::List,
-            "ID Project Pri Due Description\n 1                 Buy milk\n\n1 task\n",
-        ),
-        (
-            Report::Next,
-            "ID   Urg Project Due Description\n 1 0.000             Buy milk\n\n1 task\n",
-        ),
-    ];
-    for (report, want) in reports {
-        let text = report_text(alloc, report, &rows, &view, &WEIGHTS)?;
-        assert_eq!(rt; str::from_utf8(text.as_slice()).ok(), Some(want));
-    }
-    Ok(())
 }
 
 // The urgencies are those of taskrc(5)'s defaults; ties stand by uuid, and a place of the second number is vacant.

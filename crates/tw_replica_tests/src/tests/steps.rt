@@ -2,10 +2,10 @@
 ghost use Rattle.std.specs.Prelude.{◌≡◌, IfOk};
 
 use super::{ADDED, disk_of, milk};
-use tw_replica::{Prepared, Replica, ReplicaError, TakeBackError};
 use std::alloc::Global;
 use std::test::Fail;
 use tw_model::{Change, TaskMap};
+use tw_replica::{Prepared, Replica, ReplicaError, TakeBackError};
 use tw_world::{Memory, Moment};
 
 // The step by which the one task gets a status.

@@ -114,17 +114,3 @@ fn words_change_a_task(rt: HostRuntime) -> Result<(), Fail> {
     assert_eq!(rt; made.as_str(), want);
     Ok(())
 }
-
-#[test]
-fn a_line_of_100_words_is_taken(rt: HostRuntime) -> Result<(), Fail> {
-    let alloc = rt.alloc();
-    let mut words = String::from_str(alloc, "1|modify|project:Work")?;
-    for _ in 0..97 {
-        words.push_str("|word")?;
-    }
-    let (made, is_unnamed) = made_by(alloc, words.as_str(), &Zone::utc())?;
-    assert!(rt; made.as_str().starts_with("description=word word word"));
-    assert!(rt; made.as_str().ends_with(" word|project=Work|tag_b=|"));
-    assert_eq!(rt; (made.len(), is_unnamed), (12 + 97 * 5 - 1 + 21, false));
-    Ok(())
-}
