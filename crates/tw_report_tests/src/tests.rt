@@ -1,9 +1,9 @@
-use crate::{Report, information_text, projects_text, report_text, tags_text};
 use std::alloc::Global;
 use std::str;
 use std::test::Fail;
 use tw_filter::View;
 use tw_model::{TaskMap, Tasks};
+use tw_report::{Report, information_text, projects_text, report_text, tags_text};
 use tw_time::Zone;
 use tw_urgency::Coefficients;
 use tw_world::{Memory, Moment};

@@ -1,6 +1,5 @@
 // Each command over a task of each status.
 use super::*;
-use crate::ready::make_changes;
 
 // Tasks that are pending, waiting, completed, deleted, recurring, and of another status.
 const TASKS: [&str; 6] = [
@@ -46,14 +45,8 @@ fn disk_with(alloc: Global, text: &str) -> Result<MemoryDisk, Fail> {
         uuid: uuid_of(1),
         task: Some(task_of(alloc, text)?),
     })?;
-    let Ok(replica) = Replica::open(alloc, &mut disk) else {
-        return Err(Fail::new("no replica"));
-    };
-    let prepared = make_changes(alloc, replica, changes, &Vec::new(alloc), moment(1)?, false)?;
-    match prepared.write(&mut disk) {
-        Ok(_) => Ok(disk),
-        Err(_) => Err(Fail::new("not written")),
-    }
+    write_changes(alloc, &mut disk, changes)?;
+    Ok(disk)
 }
 
 fn exported(alloc: Global, disk: &mut MemoryDisk) -> Result<String, Fail> {

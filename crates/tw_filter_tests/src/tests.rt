@@ -1,10 +1,11 @@
 mod filters;
 mod modifiers;
 
-use super::*;
-use crate::named::are_names;
 use std::alloc::Global;
 use std::test::Fail;
+use tw_filter::{
+    Filter, FilterError, Looks, View, chosen_of, number_in, read_filter, select, uuid_of_36,
+};
 use tw_model::{TaskMap, Tasks};
 use tw_time::Zone;
 use tw_world::{Memory, Moment};
@@ -114,11 +115,49 @@ fn holds_alone(filter: &Filter, view: &View<'_>, uuid: Uuid) -> bool {
     view.tasks.get(uuid).is_some() && filter.holds(view, uuid, &mut Looks::new())
 }
 
-// The last digits of the tasks that are selected, each of which is held alone too.
-fn digits_of(alloc: Global, filter: &Filter, view: &View<'_>) -> Result<String, Fail> {
+fn is_range(part: &str) -> bool {
+    match part.split_once('-') {
+        Some((first, last)) => match (number_in(first), number_in(last)) {
+            (Some(first), Some(last)) => first <= last,
+            _ => false,
+        },
+        None => number_in(part).is_some(),
+    }
+}
+
+// Whether a word is a list of numbers and ranges, or a uuid.
+fn is_name(word: &str) -> bool {
+    if uuid_of_36(word).is_some() {
+        return true;
+    }
+    for part in word.split(',') {
+        if !is_range(part) {
+            return false;
+        }
+    }
+    true
+}
+
+// Whether there is a word, and each is a number, a list of them or a uuid, and none stands behind `--`.
+fn are_names(words: &Vec<String>, plain: u64) -> bool {
+    for word in words {
+        if !is_name(word.as_str()) {
+            return false;
+        }
+    }
+    !words.is_empty() && words.len() as u64 <= plain
+}
+
+// The last digits of the tasks that are selected, each of which is held alone too. Words that only name tasks look at no others.
+fn digits_of(
+    alloc: Global,
+    filter: &Filter,
+    are_names: bool,
+    view: &View<'_>,
+) -> Result<String, Fail> {
     let mut looks = Looks::new();
     let uuids = select(alloc, filter, view, &mut looks)?;
-    let looked = if are_names(&filter.tokens) {
+    let looked = if are_names {
         uuids.len() as u128
     } else {
         u128::from(view.tasks.len())
@@ -156,7 +195,7 @@ fn answer_to(
         view.now,
         view.zone,
     ) {
-        Ok(filter) => digits_of(alloc, &filter, view),
+        Ok(filter) => digits_of(alloc, &filter, are_names(words, plain), view),
         Err(FilterError::Bad(bad)) => Ok(format!(in alloc; "{:?} {}", bad.kind, bad.word)?),
         Err(FilterError::Memory) => Err("no memory")?,
     }

@@ -1,6 +1,5 @@
 // Circles of dependencies.
 use super::*;
-use crate::ready::make_changes;
 
 // Lines, one after another, and the number of the dependency for which each is refused, or 0.
 const ROWS: [(&str, u128); 16] = [
@@ -66,14 +65,8 @@ fn chained(alloc: Global, length: u64) -> Result<MemoryDisk, Fail> {
             task: Some(task),
         })?;
     }
-    let Ok(replica) = Replica::open(alloc, &mut disk) else {
-        return Err(Fail::new("no replica"));
-    };
-    let prepared = make_changes(alloc, replica, changes, &Vec::new(alloc), moment(1)?, false)?;
-    match prepared.write(&mut disk) {
-        Ok(_) => Ok(disk),
-        Err(_) => Err(Fail::new("not written")),
-    }
+    write_changes(alloc, &mut disk, changes)?;
+    Ok(disk)
 }
 
 #[test]

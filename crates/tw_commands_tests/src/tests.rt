@@ -5,9 +5,9 @@ mod recurrence;
 mod reports;
 mod statuses;
 
-use crate::{Input, Ready, Refusal, Request, decide};
 use std::alloc::Global;
 use std::test::Fail;
+use tw_commands::{Input, Ready, Refusal, Request, decide};
 use tw_model::{Change, TaskMap};
 use tw_replica::Replica;
 use tw_time::Zone;
@@ -39,6 +39,20 @@ fn opened(alloc: Global, disk: &mut MemoryDisk) -> Result<Replica, Fail> {
     match Replica::open(alloc, disk) {
         Ok(replica) => Ok(replica),
         Err(_) => Err(Fail::new("no replica")),
+    }
+}
+
+// Makes changes, without a command, in the replica of a disk.
+fn write_changes(alloc: Global, disk: &mut MemoryDisk, changes: Vec<Change>) -> Result<(), Fail> {
+    let Ok(replica) = Replica::open(alloc, disk) else {
+        return Err(Fail::new("no replica"));
+    };
+    let mut editing = replica.edit(alloc);
+    editing.make(alloc, changes, moment(1)?)?;
+    let prepared = editing.prepare(alloc, false)?;
+    match prepared.write(disk) {
+        Ok(_) => Ok(()),
+        Err(_) => Err(Fail::new("not written")),
     }
 }
 

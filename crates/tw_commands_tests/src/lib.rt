@@ -1,0 +1,5 @@
+//! The tests of `tw_commands`: a crate that has tests is proved twice, so those of a large one stand apart.
+#![tactic(auto)]
+
+#[cfg(test)]
+mod tests;
