@@ -47,8 +47,9 @@ fn write_changes(alloc: Global, disk: &mut MemoryDisk, changes: Vec<Change>) -> 
     let Ok(replica) = Replica::open(alloc, disk) else {
         return Err(Fail::new("no replica"));
     };
+    let at = moment(1)?;
     let mut editing = replica.edit(alloc);
-    editing.make(alloc, changes, moment(1)?)?;
+    editing.make(alloc, changes, at)?;
     let prepared = editing.prepare(alloc, false)?;
     match prepared.write(disk) {
         Ok(_) => Ok(()),

@@ -152,12 +152,12 @@ fn are_names(words: &Vec<String>, plain: u64) -> bool {
 fn digits_of(
     alloc: Global,
     filter: &Filter,
-    are_names: bool,
+    names_alone: bool,
     view: &View<'_>,
 ) -> Result<String, Fail> {
     let mut looks = Looks::new();
     let uuids = select(alloc, filter, view, &mut looks)?;
-    let looked = if are_names {
+    let looked = if names_alone {
         uuids.len() as u128
     } else {
         u128::from(view.tasks.len())
