@@ -1,7 +1,7 @@
-use super::*;
 use serde_json::Value;
 use std::alloc::Global;
 use std::test::Fail;
+use tw_export::export_text;
 use tw_model::{TaskMap, Tasks};
 use tw_urgency::Coefficients;
 use tw_world::{Memory, Moment};

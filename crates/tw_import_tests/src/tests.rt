@@ -1,6 +1,6 @@
-use crate::{ImportError, Imported, read_import};
 use std::alloc::Global;
 use std::test::Fail;
+use tw_import::{ImportError, Imported, read_import};
 use tw_world::{Memory, Moment};
 
 // 2023-11-14T22:13:20Z
