@@ -1,6 +1,6 @@
 use Rattle.std.proofs.Common.{[], Result, Ok, Err, IfOk}
 use Rattle.tw_replica.specs.Prepared.{IsEditing}
-use Rattle.tw_replica.proofs.tests.steps.with_status.Goals as goal
+use Rattle.tw_replica_tests.proofs.tests.steps.with_status.Goals as goal
 
 pub prepare-requires : goal.prepare-requires
 prepare-requires c =
