@@ -1,4 +1,6 @@
 // What commands come to in a replica in memory.
+ghost use Rattle.std.specs.Prelude.{◌≡◌, IfOk};
+
 mod circles;
 mod imports;
 mod recurrence;
@@ -9,10 +11,10 @@ use std::alloc::Global;
 use std::test::Fail;
 use tw_commands::{Input, Ready, Refusal, Request, decide};
 use tw_model::{Change, TaskMap};
-use tw_replica::Replica;
+use tw_replica::{Prepared, Replica};
 use tw_time::Zone;
 use tw_words::{cut_words, judge_line, read_settings};
-use tw_world::{IdWords, MemoryDisk, Moment};
+use tw_world::{IdWords, Memory, MemoryDisk, Moment};
 use uuid::Uuid;
 
 // 2023-11-14T22:13:20Z.
@@ -42,15 +44,27 @@ fn opened(alloc: Global, disk: &mut MemoryDisk) -> Result<Replica, Fail> {
     }
 }
 
-// Makes changes, without a command, in the replica of a disk.
+// Makes changes in memory, without a command.
+fn made(
+    alloc: Global,
+    replica: Replica,
+    changes: Vec<Change>,
+    at: Moment,
+) -> Result<Prepared, Memory>
+    ensures { IfOk result (λ prepared. prepared.journal ≡ replica.journal) }
+{
+    let mut editing = replica.edit(alloc);
+    editing.make(alloc, changes, at)?;
+    editing.prepare(alloc, false)
+}
+
+// Makes changes in the replica of a disk, and writes them.
 fn write_changes(alloc: Global, disk: &mut MemoryDisk, changes: Vec<Change>) -> Result<(), Fail> {
+    let at = moment(1)?;
     let Ok(replica) = Replica::open(alloc, disk) else {
         return Err(Fail::new("no replica"));
     };
-    let at = moment(1)?;
-    let mut editing = replica.edit(alloc);
-    editing.make(alloc, changes, at)?;
-    let prepared = editing.prepare(alloc, false)?;
+    let prepared = made(alloc, replica, changes, at)?;
     match prepared.write(disk) {
         Ok(_) => Ok(()),
         Err(_) => Err(Fail::new("not written")),
