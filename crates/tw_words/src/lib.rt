@@ -39,4 +39,3 @@ pub use naming::first_unnamed;
 pub use server::ServerSettings;
 pub use settings::{Settings, read_settings};
 pub use word_error::WordError;
-
