@@ -24,7 +24,8 @@ impl Server {
     /// `TWSERV01`, with a record for each accepted version.
     ///
     /// A crash at any moment of the call leaves an image that the disk could leave before, or the records that were
-    /// read. `Damaged` names the place of the first record that is none, or that is no version of its client's chain.
+    /// read. `Damaged` is at 0 where the file has another form, at the first record that is none or, where all are whole,
+    /// at the first that is no version of its client's chain.
     pub fn open<D: Disk>(alloc: Global, disk: &mut D) -> Result<Server, ServerError>
         ensures opened { IfOk result (λ server. Tells D.model disk.old → IsOpenedOn D.model disk.old disk.new server) }
         ensures any_moment { Tells D.model disk.old → LeavesOnly D.model disk.old disk.new (IsImageThen D.model disk.old magic) }
