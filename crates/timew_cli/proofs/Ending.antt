@@ -88,7 +88,6 @@ module _ {F D : Type 0} (m : FolderModel F) (n : DiskModel D) where
   plan_ends w held bodies planned_is (plan.AlreadyOpen id) is rest = (ap (changes held) is, rest)
   plan_ends w held bodies planned_is (plan.NoInterval id) is rest = (ap (changes held) is, rest)
   plan_ends w held bodies planned_is (plan.Range word) is rest = (ap (changes held) is, rest)
-  plan_ends w held bodies planned_is (plan.Bad bad) is rest = (ap (changes held) is, rest)
   plan_ends w held bodies planned_is plan.Memory is rest = tt
 
   pub plan_fault : (w : Outside F D) (store : Store) (e : TimewError) → IsFaultOf m n w store (plan_cause e)
@@ -97,7 +96,6 @@ module _ {F D : Type 0} (m : FolderModel F) (n : DiskModel D) where
   plan_fault w store (plan.AlreadyOpen id) = tt
   plan_fault w store (plan.NoInterval id) = tt
   plan_fault w store (plan.Range word) = tt
-  plan_fault w store (plan.Bad bad) = tt
   plan_fault w store plan.Memory = tt
 
   -- ---- a change

@@ -82,5 +82,4 @@ plan_cause plan.NoOpen = NoOpen
 plan_cause (plan.AlreadyOpen id) = AlreadyOpen id
 plan_cause (plan.NoInterval id) = NoInterval id
 plan_cause (plan.Range word) = Range word
-plan_cause (plan.Bad bad) = word_cause bad
 plan_cause plan.Memory = Memory

@@ -139,7 +139,6 @@ impl From<TimewError> for Cause {
             TimewError::AlreadyOpen { id } => Cause::AlreadyOpen { id },
             TimewError::NoInterval { id } => Cause::NoInterval { id },
             TimewError::Range { word } => Cause::Range { word },
-            TimewError::Bad(BadWord { word, kind }) => Cause::BadWords { word, kind },
             TimewError::Memory => Cause::Memory,
         }
     }

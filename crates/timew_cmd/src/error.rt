@@ -35,8 +35,6 @@ pub enum TimewError {
     NoInterval { id: u64 },
     /// The moment or the length of this word leads out of range; the word is 0 where there is none.
     Range { word: u64 },
-    /// The words are no command.
-    Bad(BadWord),
     /// There was no memory.
     Memory,
 }

@@ -14,8 +14,6 @@ mod ready;
 mod refusal;
 mod request;
 mod spaced;
-#[cfg(test)]
-mod tests;
 mod texts;
 mod worded;
 

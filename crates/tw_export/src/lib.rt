@@ -8,7 +8,5 @@ mod export;
 mod members;
 mod own;
 mod property;
-#[cfg(test)]
-mod tests;
 
 pub use export::export_text;

@@ -1,5 +1,5 @@
 -- A replica that is open on a disk in memory, and a step of it that is made and then written.
-use Rattle.std.proofs.Common.{◌≡◌, ◌∙◌, ap, sym, ℕ, List, ◌++◌, length}
+use Rattle.std.proofs.Common.{◌≡◌, ◌∙◌, ap, sym, ℕ, List, ◌++◌}
 use Rattle.tw_world.specs.Memory.{memory_model}
 use Rattle.tw_world.specs.declared.memory.MemoryDisk.{MemoryDisk}
 use Rattle.tw_journal.specs.Journal.{IsOpenOn}
@@ -14,7 +14,7 @@ use Rattle.tw_replica.proofs.Preparing.{prepared_on}
 module _ (old : Replica) (disk : MemoryDisk) (bodies : List (List ℕ)) (on : IsReplicaOn memory_model old disk bodies) (step : Step) (prepared : Prepared) (is : IsPrepared old step prepared) where
   -- the disk has the length that the journal left
   pub length_ready : IsLengthReady memory_model prepared disk
-  length_ready live = ap length on.open_on.rest.file ∙ sym (ap (λ (j : Journal). j.end) is.journal ∙ on.open_on.end)
+  length_ready live = sym (ap (λ (j : Journal). j.end) is.journal ∙ on.open_on.end)
 
   -- the replica is open on the disk after the write
   pub on_written : (new : Replica) (after : MemoryDisk) → held_state new ≡ prepared_state prepared

@@ -94,7 +94,8 @@ impl Machine {
     pub(crate) fn segment_bytes(&self, alloc: Global) -> Result<u64, Memory>
         ensures { IfOk result (λ bytes. bytes ≡ length (segment_text (plain (held_state self.now.replica).pending))) }
     {
-        segment_bytes(alloc, self.replica.pending())
+        let ops = self.replica.pending().ops(alloc)?;
+        segment_bytes(alloc, &ops)
     }
 
     /// The export of all tasks.

@@ -23,7 +23,7 @@ use Rattle.tw_http.specs.Heads.{◌>>=◌, head_len, or_err}
 use Rattle.tw_http.specs.Fields.{Fields, uuid_field}
 use Rattle.tw_http.specs.Requests.{asked_of, request_after, IsRequestHeadAnswer, IsRequestAnswerAt, IsRequestAnswer}
 use Rattle.tw_http.specs.Bodies.{length_of, body_len, body_of}
-use Rattle.tw_http.proofs.Settles.{there, take-append}
+use Rattle.tw_http.proofs.Deciding.{there, take-append}
 use Rattle.tw_http.proofs.Visible.{Visible, all_on, no_return, uuid_long, uuid_visible, decimal_visible, length_reads, trimmed, value_text, uri_text, ascii_text}
 use Rattle.tw_http.proofs.Written.{IsLine, IsHeadText, line_on, last_line}
 

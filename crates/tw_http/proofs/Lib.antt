@@ -2,7 +2,7 @@ pub mod Appends
 pub mod Options
 pub mod Ends
 pub mod Numbers
-pub mod Settles
+pub mod Deciding
 pub mod OneAnswer
 pub mod Visible
 pub mod Uuids

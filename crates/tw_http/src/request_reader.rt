@@ -2,7 +2,7 @@
 ghost use Rattle.std.specs.Prelude.{◌≡◌, ◌++◌, ◌≤◌, length, map, take, drop, All, option_map, List, ℕ};
 ghost use Rattle.httparse.specs.Spans.{IsHeaderWithin, header_bytes};
 ghost use Rattle.tw_http.specs.Requests.{after_prefix, asked_of, is_type, type_of, request_after, IsRequestHeadAnswer, IsRequestAnswer};
-ghost use Rattle.tw_http.specs.Faults.{Unless, Settled};
+ghost use Rattle.tw_http.specs.Faults.{Unless, Decided};
 
 use crate::body::{body_len, body_of};
 use crate::fields::{only_value, read_uuid, uuid_field};
@@ -23,7 +23,7 @@ use uuid::Uuid;
 /// An answer other than `NotYet` and `Memory` is the same whatever bytes follow.
 pub fn read_request(alloc: Global, bytes: &[u8]) -> Result<Request, HttpError>
     ensures answer { Unless (IsRequestAnswer bytes.now) result }
-    ensures settled { (more : List ℕ) → Settled (IsRequestAnswer (bytes.now ++ more)) result }
+    ensures decided { (more : List ℕ) → Decided (IsRequestAnswer (bytes.now ++ more)) result }
 {
     match head_len(first_bytes(bytes)) {
         Some(n) => request_at(alloc, bytes, n),

@@ -2,7 +2,7 @@
 ghost use Rattle.std.specs.Prelude.{◌≡◌, ◌++◌, ◌≤◌, length, map, take, drop, All, List, ℕ};
 ghost use Rattle.httparse.specs.Spans.{IsHeaderWithin, header_bytes};
 ghost use Rattle.tw_http.specs.Responses.{refused, added_in, conflict_in, child_in, kind_in, response_made, response_after, IsResponseHeadAnswer, IsResponseAnswer};
-ghost use Rattle.tw_http.specs.Faults.{Unless, Settled};
+ghost use Rattle.tw_http.specs.Faults.{Unless, Decided};
 
 use crate::body::{body_len, body_of};
 use crate::fields::uuid_field;
@@ -24,7 +24,7 @@ use uuid::Uuid;
 /// An answer other than `NotYet` and `Memory` is the same whatever bytes follow.
 pub fn read_response(alloc: Global, bytes: &[u8], asked: Asked) -> Result<Response, HttpError>
     ensures answer { Unless (IsResponseAnswer asked bytes.now) result }
-    ensures settled { (more : List ℕ) → Settled (IsResponseAnswer asked (bytes.now ++ more)) result }
+    ensures decided { (more : List ℕ) → Decided (IsResponseAnswer asked (bytes.now ++ more)) result }
 {
     match head_len(first_bytes(bytes)) {
         Some(n) => response_at(alloc, asked, bytes, n),

@@ -18,6 +18,3 @@ mod seconds;
 mod told;
 
 pub use import::{ImportError, Imported, read_import};
-
-#[cfg(test)]
-mod tests;

@@ -15,6 +15,3 @@ mod report;
 pub use information::information_text;
 pub use names::{projects_text, tags_text};
 pub use report::{Report, report_text};
-
-#[cfg(test)]
-mod tests;

@@ -4,7 +4,6 @@ use crate::machine::{Given, drawn, held, link, machine, run_given};
 use std::alloc::Global;
 use std::process::Abort;
 use std::test::Fail;
-use tw_cli::{Cause, Outcome};
 use tw_time::Zone;
 use tw_world::MemoryDisk;
 
@@ -68,7 +67,8 @@ const ANNOTATED: [(&str, u8, &str); 12] = [
     ("1|modify|depends:9", 2, "task: bad word 2"),
 ];
 
-const FILTERED: [(&str, u8, &str); 14] = [
+// At the end the line number 15 draws 15 and 16, and the next one 16 once more.
+const FILTERED: [(&str, u8, &str); 17] = [
     ("add|a|project:a.b", 0, "Created task 1."),
     ("project:a|count", 0, "1"),
     ("project.is:a|count", 0, "0"),
@@ -87,6 +87,13 @@ const FILTERED: [(&str, u8, &str); 14] = [
         "task: line 0 of the settings is no setting",
     ),
     ("rc.gc=off|count|2-3", 0, "2"),
+    ("1|2|duplicate", 0, "Duplicated 2 tasks."),
+    (
+        "add|d",
+        2,
+        "task: 00000000-0000-4000-8000-000000000010 is taken",
+    ),
+    ("count", 0, "5"),
 ];
 
 // After an undo the tasks that are open again stand behind all numbers that were given.
@@ -241,43 +248,6 @@ fn a_moment_is_stored(rt: HostRuntime) -> Result<(), Fail> {
         done(&rt, alloc, &given, line, &mut disk)?;
         let due = stored(alloc, &mut disk, "due")?;
         assert_eq!(rt; due.as_str(), value, "{line}");
-    }
-    Ok(())
-}
-
-// Lines over one store, and a property of its task after each: two annotations of one moment, of which the first is taken away.
-const NOTES: [(&str, &str, &str); 5] = [
-    ("add|Buy|milk", "annotation_1700000000", "none"),
-    ("1|annotate|one", "annotation_1700000000", "one"),
-    ("1|annotate|two", "annotation_1700000001", "two"),
-    ("1|denotate|o", "annotation_1700000000", "none"),
-    ("count", "annotation_1700000001", "two"),
-];
-
-#[test]
-fn annotations_of_one_moment_stand_at_seconds_of_their_own(rt: HostRuntime) -> Result<(), Fail> {
-    let alloc = rt.alloc();
-    let mut disk = machine(alloc)?;
-    for (line, property, value) in NOTES {
-        done(&rt, alloc, &Given::new(1, SECOND), line, &mut disk)?;
-        let text = stored(alloc, &mut disk, property)?;
-        assert_eq!(rt; text.as_str(), value, "{line}");
-    }
-    Ok(())
-}
-
-#[test]
-fn a_setting_that_is_none_ends_every_command(rt: HostRuntime) -> Result<(), Fail> {
-    let alloc = rt.alloc();
-    let mut given = Given::new(1, SECOND);
-    given.settings = "urgency.due.coefficient=abc";
-    for line in ["add|Buy|milk", "add", "count", "sync", "rc.gc=maybe|undo"] {
-        let mut disk = machine(alloc)?;
-        let mut none = link(alloc, Vec::new(alloc))?;
-        let ended = run_given(alloc, &given, line, &mut disk, &mut none, &[])?;
-        let cause = Cause::BadSetting { line: 1 };
-        assert_eq!(rt; ended.outcome, Outcome { status: 2, cause }, "{line}");
-        assert_eq!(rt; disk.calls(), 0);
     }
     Ok(())
 }

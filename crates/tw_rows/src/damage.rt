@@ -19,10 +19,14 @@ fn disk_of(alloc: Global, bytes: Vec<u8>) -> Result<MemoryDisk, Fail> {
     Ok(MemoryDisk::new(alloc, bytes, Vec::new(alloc))?)
 }
 
-// The damage of a store whose byte at this place is 255: at the record that has the byte. Where it is the last byte of the length
-// of the first commit, the record takes ten bytes of the next one, and what stands behind them is no gate.
+// The damage of a store whose byte at this place is 255: at the record that has the byte. Where it is the last byte of the slot that
+// counts, the records begin at 255: there the value of a property of the first commit reads as a record, `pending`, which is no step.
+// Where it is the last byte of the length of the first commit, the record takes ten bytes of the next one, and what stands behind
+// them is no gate.
 fn damage_at(place: u64) -> u64 {
-    if place == 33 {
+    if place == 20 {
+        255
+    } else if place == 33 {
         289
     } else if place < RECORDS[1] {
         RECORDS[0]

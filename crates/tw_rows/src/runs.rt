@@ -10,16 +10,16 @@ use tw_world::MemoryDisk;
 // operations.
 const ADDED: [u8; 279] = [
     2, 0, 0, 0, 8, 84, 87, 82, 69, 80, 76, 48, 49, 0, 0, 0, 0, 0, 0, 0, 29, 0, 0, 0, 0, 0, 0, 0, 0,
-    1, 0, 0, 0, 245, 1, 0, 0, 0, 0, 6, 4, 1, 0, 0,
-    0, 0, 0, 0, 64, 0, 128, 0, 0, 0, 0, 0, 0, 1, 3, 0, 0, 0, 0, 0, 0, 64, 0, 128, 0, 0, 0, 0, 0, 0,
-    1, 0, 0, 0, 11, 100, 101, 115, 99, 114, 105, 112, 116, 105, 111, 110, 0, 1, 0, 0, 0, 8, 66,
-    117, 121, 32, 109, 105, 108, 107, 0, 0, 0, 0, 101, 83, 241, 0, 0, 0, 0, 0, 3, 0, 0, 0, 0, 0, 0,
-    64, 0, 128, 0, 0, 0, 0, 0, 0, 1, 0, 0, 0, 5, 101, 110, 116, 114, 121, 0, 1, 0, 0, 0, 10, 49,
-    55, 48, 48, 48, 48, 48, 48, 48, 48, 0, 0, 0, 0, 101, 83, 241, 0, 0, 0, 0, 0, 3, 0, 0, 0, 0, 0,
-    0, 64, 0, 128, 0, 0, 0, 0, 0, 0, 1, 0, 0, 0, 8, 109, 111, 100, 105, 102, 105, 101, 100, 0, 1,
-    0, 0, 0, 10, 49, 55, 48, 48, 48, 48, 48, 48, 48, 48, 0, 0, 0, 0, 101, 83, 241, 0, 0, 0, 0, 0,
-    3, 0, 0, 0, 0, 0, 0, 64, 0, 128, 0, 0, 0, 0, 0, 0, 1, 0, 0, 0, 6, 115, 116, 97, 116, 117, 115,
-    0, 1, 0, 0, 0, 7, 112, 101, 110, 100, 105, 110, 103, 0, 0, 0, 0, 101, 83, 241, 0, 0, 0, 0, 0,
+    1, 0, 0, 0, 245, 1, 0, 0, 0, 0, 6, 4, 1, 0, 0, 0, 0, 0, 0, 64, 0, 128, 0, 0, 0, 0, 0, 0, 1, 3,
+    0, 0, 0, 0, 0, 0, 64, 0, 128, 0, 0, 0, 0, 0, 0, 1, 0, 0, 0, 11, 100, 101, 115, 99, 114, 105,
+    112, 116, 105, 111, 110, 0, 1, 0, 0, 0, 8, 66, 117, 121, 32, 109, 105, 108, 107, 0, 0, 0, 0,
+    101, 83, 241, 0, 0, 0, 0, 0, 3, 0, 0, 0, 0, 0, 0, 64, 0, 128, 0, 0, 0, 0, 0, 0, 1, 0, 0, 0, 5,
+    101, 110, 116, 114, 121, 0, 1, 0, 0, 0, 10, 49, 55, 48, 48, 48, 48, 48, 48, 48, 48, 0, 0, 0, 0,
+    101, 83, 241, 0, 0, 0, 0, 0, 3, 0, 0, 0, 0, 0, 0, 64, 0, 128, 0, 0, 0, 0, 0, 0, 1, 0, 0, 0, 8,
+    109, 111, 100, 105, 102, 105, 101, 100, 0, 1, 0, 0, 0, 10, 49, 55, 48, 48, 48, 48, 48, 48, 48,
+    48, 0, 0, 0, 0, 101, 83, 241, 0, 0, 0, 0, 0, 3, 0, 0, 0, 0, 0, 0, 64, 0, 128, 0, 0, 0, 0, 0, 0,
+    1, 0, 0, 0, 6, 115, 116, 97, 116, 117, 115, 0, 1, 0, 0, 0, 7, 112, 101, 110, 100, 105, 110,
+    103, 0, 0, 0, 0, 101, 83, 241, 0, 0, 0, 0, 0,
 ];
 
 // Runs a line at the moment 2023-11-14T22:13:20Z, with identifiers from `first` on.
@@ -65,24 +65,6 @@ fn a_task_is_added(rt: HostRuntime) -> Result<(), Fail> {
     assert_eq!(rt; ended.out.bytes(), b"Created task 1.\n".as_slice());
     assert_eq!(rt; ended.err.bytes(), b"".as_slice());
     assert_eq!(rt; disk.bytes(), ADDED.as_slice());
-    Ok(())
-}
-
-#[test]
-fn a_large_world_leaves_the_disk_as_it_was(rt: HostRuntime) -> Result<(), Fail> {
-    let alloc = rt.alloc();
-    let mut disk = empty_disk(alloc, &[])?;
-    let ended = run(alloc, "_generate|1|0", &mut disk)?;
-    assert_eq!(rt;
-        ended.outcome,
-        Outcome {
-            status: 0,
-            cause: Cause::Done
-        }
-    );
-    let told = b"tasks 1, first segment 1206 bytes, dropped 1, pushed 0, exports equal\n";
-    assert_eq!(rt; ended.out.bytes(), told.as_slice());
-    assert_eq!(rt; disk.bytes(), b"".as_slice());
     Ok(())
 }
 
@@ -136,24 +118,6 @@ fn a_task_stands_whose_text_is_not_printed(rt: HostRuntime) -> Result<(), Fail> 
 }
 
 #[test]
-fn an_empty_store_has_nothing_to_undo(rt: HostRuntime) -> Result<(), Fail> {
-    let alloc = rt.alloc();
-    let mut disk = empty_disk(alloc, &[])?;
-    let ended = run(alloc, "undo", &mut disk)?;
-    assert_eq!(rt;
-        ended.outcome,
-        Outcome {
-            status: 1,
-            cause: Cause::NothingToUndo
-        }
-    );
-    assert_eq!(rt; ended.err.bytes(), b"task: nothing to undo\n".as_slice());
-    let ended = run(alloc, "count", &mut disk)?;
-    assert_eq!(rt; ended.out.bytes(), b"0\n".as_slice());
-    Ok(())
-}
-
-#[test]
 fn a_task_is_counted_and_undone(rt: HostRuntime) -> Result<(), Fail> {
     let alloc = rt.alloc();
     let mut disk = empty_disk(alloc, &[])?;
@@ -195,21 +159,6 @@ fn a_task_is_exported_until_it_is_undone(rt: HostRuntime) -> Result<(), Fail> {
         run(alloc, "export", &mut disk)?.out.bytes(),
         b"[\n]\n".as_slice()
     );
-    Ok(())
-}
-
-#[test]
-fn a_uuid_is_drawn_once_only(rt: HostRuntime) -> Result<(), Fail> {
-    let alloc = rt.alloc();
-    let mut disk = empty_disk(alloc, &[])?;
-    let _ = run(alloc, "add|Buy|milk", &mut disk)?;
-    let ended = run(alloc, "add|Buy|tea", &mut disk)?;
-    assert_eq!(rt; ended.outcome.status, 2);
-    assert_eq!(rt;
-        ended.err.bytes(),
-        b"task: 00000000-0000-4000-8000-000000000001 is taken\n".as_slice()
-    );
-    assert_eq!(rt; disk.bytes(), ADDED.as_slice());
     Ok(())
 }
 

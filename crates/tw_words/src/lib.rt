@@ -40,5 +40,3 @@ pub use server::ServerSettings;
 pub use settings::{Settings, read_settings};
 pub use word_error::WordError;
 
-#[cfg(test)]
-mod tests;

@@ -1,7 +1,4 @@
-use crate::{
-    Disk, DiskError, FailingDisk, Folder, FolderError, IdWords, MemoryDisk, MemoryFolder,
-    MemoryPeer, MemorySink, MemorySource, Moment, Peer, Sink, Source, StreamError, Text,
-};
+use crate::{Disk, IdWords, MemoryDisk, Moment, Text};
 use std::collections::BTreeMap;
 use std::test::Fail;
 
@@ -35,16 +32,6 @@ fn a_moment_ends_before_the_year_9999(rt: HostRuntime) {
             "{seconds} {nanos}"
         );
     }
-}
-
-#[test]
-fn a_text_is_copied(rt: HostRuntime) -> Result<(), Fail> {
-    for held in &["", "Buy milk", "Sixteen letters!", "Seventeen letters"] {
-        let text = Text::from_str(rt.alloc(), held)?;
-        let copy = text.copy(rt.alloc())?;
-        assert_eq!(rt; copy.as_str(), *held);
-    }
-    Ok(())
 }
 
 // Short texts and long ones stand in one order, and a text is a key.
@@ -91,96 +78,4 @@ fn an_image_goes_by_its_pick(rt: HostRuntime) -> Result<(), Fail> {
         assert_eq!(rt; disk.image(calls, pick)?.as_slice(), want, "{calls} {pick}");
     }
     Ok(())
-}
-
-#[test]
-fn the_named_calls_fail_and_no_other(rt: HostRuntime) -> Result<(), Fail> {
-    let alloc = rt.alloc();
-    let mut disk = MemoryDisk::new(alloc, vec![in alloc; 5; 2]?, [1, 3].to_vec(alloc)?)?;
-    assert_eq!(rt; disk.size(), Ok(2));
-    assert_eq!(rt; disk.size(), Err(DiskError::Failed));
-    assert_eq!(rt; disk.sync(), Ok(()));
-    assert_eq!(rt; disk.sync(), Err(DiskError::Failed));
-    assert_eq!(rt; disk.sync(), Ok(()));
-    assert_eq!(rt; FailingDisk::new().size(), Err(DiskError::Failed));
-    Ok(())
-}
-
-#[test]
-fn a_peer_gives_and_gets(rt: HostRuntime) -> Result<(), Fail> {
-    let alloc = rt.alloc();
-    let mut peer = MemoryPeer::new(alloc, [1, 2, 3].to_vec(alloc)?, [2].to_vec(alloc)?)?;
-    let mut out = [0; 2];
-    assert_eq!(rt; peer.read(&mut out), Ok(2));
-    assert_eq!(rt; out, [1, 2]);
-    assert_eq!(rt; peer.write_all(&[7]), Ok(()));
-    assert_eq!(rt; peer.write_all(&[8]), Err(StreamError::Failed));
-    assert_eq!(rt; peer.read(&mut out), Ok(1));
-    assert_eq!(rt; peer.read(&mut out), Ok(0));
-    assert_eq!(rt; out, [3, 2]);
-    assert_eq!(rt; peer.bytes(), [7].as_slice());
-    Ok(())
-}
-
-#[test]
-fn a_source_gives_and_a_sink_gets(rt: HostRuntime) -> Result<(), Fail> {
-    let alloc = rt.alloc();
-    let mut source = MemorySource::new(alloc, [1, 2, 3].to_vec(alloc)?, [1].to_vec(alloc)?)?;
-    let mut sink = MemorySink::new(alloc, [0].to_vec(alloc)?, [0].to_vec(alloc)?)?;
-    let mut out = [0; 2];
-    assert_eq!(rt; source.read(&mut out), Ok(2));
-    assert_eq!(rt; source.read(&mut out), Err(StreamError::Failed));
-    assert_eq!(rt; out, [1, 2]);
-    assert_eq!(rt; sink.write_all(&out), Err(StreamError::Failed));
-    assert_eq!(rt; sink.write_all(&out), Ok(()));
-    assert_eq!(rt; sink.bytes(), [0, 1, 2].as_slice());
-    assert_eq!(rt; source.read(&mut out), Ok(1));
-    assert_eq!(rt; source.read(&mut out), Ok(0));
-    Ok(())
-}
-
-#[test]
-fn a_folder_keeps_the_last_bytes_of_each_name(rt: HostRuntime) -> Result<(), Fail> {
-    let alloc = rt.alloc();
-    let mut content = Vec::new(alloc);
-    content.push((String::from_str(alloc, "b")?, [7].to_vec(alloc)?))?;
-    content.push((String::from_str(alloc, "a")?, [3].to_vec(alloc)?))?;
-    content.push((String::from_str(alloc, "b")?, [1, 2].to_vec(alloc)?))?;
-    let mut folder = MemoryFolder::new(alloc, content, [0, 2].to_vec(alloc)?)?;
-    assert_eq!(rt; folder.replace("b", &[9]), Err(FolderError::Failed));
-    assert_eq!(rt; folder.replace("c", &[]), Ok(()));
-    assert!(rt; folder.names(alloc).is_err());
-    assert!(rt;
-        folder
-            .read(alloc, "b")
-            .is_ok_and(|file| is_file(&file, &[1, 2]))
-    );
-    assert_eq!(rt; folder.replace("b", &[4]), Ok(()));
-    assert!(rt;
-        folder
-            .read(alloc, "b")
-            .is_ok_and(|file| is_file(&file, &[4]))
-    );
-    assert!(rt;
-        folder
-            .read(alloc, "c")
-            .is_ok_and(|file| is_file(&file, &[]))
-    );
-    assert!(rt; folder.read(alloc, "d").is_ok_and(|file| file.is_none()));
-    let names = folder.names(alloc).ok().ok_or("no names")?;
-    for at in 0..names.len() {
-        assert_eq!(rt;
-            names[at].as_bytes(),
-            [b"a", b"b", b"c"].get(at).ok_or("a fourth")?.as_slice()
-        );
-    }
-    assert_eq!(rt; names.len(), 3);
-    Ok(())
-}
-
-fn is_file(file: &Option<Vec<u8>>, bytes: &[u8]) -> bool {
-    match file {
-        Some(found) => found.as_slice() == bytes,
-        None => false,
-    }
 }

@@ -1,5 +1,5 @@
 // What no clause says: that a question comes to its answer, and that each kind of reply is met.
-use super::{AddAnswer, ChildAnswer, ask_add, ask_child};
+use super::{ChildAnswer, ask_child};
 use crate::error::{AskError, ReplyKind};
 use std::alloc::Global;
 use std::test::Fail;
@@ -139,35 +139,5 @@ fn get_child_version_is_answered(rt: HostRuntime) -> Result<(), Fail> {
     let gone = "HTTP/1.1 410 Gone\r\nContent-Length: 0\r\n\r\n";
     assert!(rt; matches!(ask_over(alloc, Some(gone)), Ok(ChildAnswer::Gone)));
     assert_eq!(rt; ask_over(alloc, None).err(), Some(AskError::Link));
-    Ok(())
-}
-
-#[test]
-fn add_version_is_answered(rt: HostRuntime) -> Result<(), Fail> {
-    let alloc = rt.alloc();
-    let added =
-        "HTTP/1.1 200 OK\r\nContent-Length: 0\r\nX-Version-Id: 00000000-0000-4000-8000-000000000002\r\n\r\n";
-    let mut link = link_of(Some(added));
-    let segment = b"{\"operations\":[]}".to_vec(alloc)?;
-    assert_eq!(rt;
-        ask_add(alloc, &mut link, id(9), HOST, id(1), segment),
-        Ok(AddAnswer::Added { id: id(2) })
-    );
-    let late =
-        "HTTP/1.1 409 Conflict\r\nContent-Length: 0\r\nX-Parent-Version-Id: 00000000-0000-4000-8000-000000000003\r\n\r\n";
-    let mut link = link_of(Some(late));
-    assert_eq!(rt;
-        ask_add(alloc, &mut link, id(9), HOST, id(1), Vec::new(alloc)),
-        Ok(AddAnswer::Conflict { latest: id(3) })
-    );
-    let nil =
-        "HTTP/1.1 200 OK\r\nContent-Length: 0\r\nX-Version-Id: 00000000-0000-0000-0000-000000000000\r\n\r\n";
-    let mut link = link_of(Some(nil));
-    assert_eq!(rt;
-        ask_add(alloc, &mut link, id(9), HOST, id(1), Vec::new(alloc)),
-        Err(AskError::Reply {
-            kind: ReplyKind::Nil
-        })
-    );
     Ok(())
 }

@@ -1,0 +1,257 @@
+// What commands come to in a replica in memory.
+ghost use Rattle.std.specs.Prelude.{◌≡◌, IfOk};
+
+mod circles;
+mod imports;
+mod recurrence;
+mod reports;
+mod statuses;
+
+use std::alloc::Global;
+use std::test::Fail;
+use tw_commands::{Input, Ready, Refusal, Request, decide};
+use tw_model::{Change, TaskMap};
+use tw_replica::{Prepared, Replica};
+use tw_time::Zone;
+use tw_words::{cut_words, judge_line, read_settings};
+use tw_world::{IdWords, Memory, MemoryDisk, Moment};
+use uuid::Uuid;
+
+// 2023-11-14T22:13:20Z.
+const NOW: u64 = 1_700_000_000;
+
+fn moment(second: u64) -> Result<Moment, Fail> {
+    Ok(Moment::new(second, 0).ok_or("no moment")?)
+}
+
+fn empty_disk(alloc: Global) -> Result<MemoryDisk, Fail> {
+    Ok(MemoryDisk::new(alloc, Vec::new(alloc), Vec::new(alloc))?)
+}
+
+fn ids_from(start: u128) -> IdWords {
+    IdWords { start, step: 1 }
+}
+
+// The uuid that is drawn of this number.
+fn uuid_of(number: u128) -> Uuid {
+    Uuid::from_u128(0x00000000_0000_4000_8000_000000000000 | number)
+}
+
+fn opened(alloc: Global, disk: &mut MemoryDisk) -> Result<Replica, Fail> {
+    match Replica::open(alloc, disk) {
+        Ok(replica) => Ok(replica),
+        Err(_) => Err(Fail::new("no replica")),
+    }
+}
+
+// Makes changes in memory, without a command.
+fn made(
+    alloc: Global,
+    replica: Replica,
+    changes: Vec<Change>,
+    at: Moment,
+) -> Result<Prepared, Memory>
+    ensures { IfOk result (λ prepared. prepared.journal ≡ replica.journal) }
+{
+    let mut editing = replica.edit(alloc);
+    editing.make(alloc, changes, at)?;
+    editing.prepare(alloc, false)
+}
+
+// Makes changes in the replica of a disk, and writes them.
+fn write_changes(alloc: Global, disk: &mut MemoryDisk, changes: Vec<Change>) -> Result<(), Fail> {
+    let at = moment(1)?;
+    let Ok(replica) = Replica::open(alloc, disk) else {
+        return Err(Fail::new("no replica"));
+    };
+    let prepared = made(alloc, replica, changes, at)?;
+    match prepared.write(disk) {
+        Ok(_) => Ok(()),
+        Err(_) => Err(Fail::new("not written")),
+    }
+}
+
+fn words_of(alloc: Global, line: &str) -> Result<Vec<String>, Fail> {
+    let mut words = Vec::new(alloc);
+    for word in line.split(' ') {
+        words.push(String::from_str(alloc, word)?)?;
+    }
+    Ok(words)
+}
+
+// Carries a line of words out at a second, over the replica of a disk, and gives what it prints, or why it does nothing.
+fn decided(
+    alloc: Global,
+    line: &str,
+    second: u64,
+    ids: &mut IdWords,
+    disk: &mut MemoryDisk,
+) -> Result<Result<Vec<u8>, Refusal>, Fail> {
+    decided_with(alloc, line, "", second, ids, disk)
+}
+
+// The same with an input.
+fn decided_with(
+    alloc: Global,
+    line: &str,
+    input: &str,
+    second: u64,
+    ids: &mut IdWords,
+    disk: &mut MemoryDisk,
+) -> Result<Result<Vec<u8>, Refusal>, Fail> {
+    let words = words_of(alloc, line)?;
+    let zone = Zone::utc();
+    let at = moment(second)?;
+    let line = cut_words(alloc, &words)?;
+    let Ok(filter) = judge_line(alloc, &line, at, &zone) else {
+        return Err(Fail::new("a wrong word"));
+    };
+    let Ok(settings) = read_settings(alloc, &Vec::new(alloc), &line.overrides) else {
+        return Err(Fail::new("a wrong setting"));
+    };
+    let Ok(replica) = Replica::open(alloc, disk) else {
+        return Err(Fail::new("no replica"));
+    };
+    let request = Request {
+        line,
+        filter,
+        settings,
+        at,
+        zone: &zone,
+        input: Input::new(input.as_bytes().to_vec(alloc)?),
+    };
+    match decide(alloc, &request, ids, replica)? {
+        Ok(Ready { prepared, text }) => match prepared.write(disk) {
+            Ok(_) => Ok(Ok(text)),
+            Err(_) => Err(Fail::new("not written")),
+        },
+        Err(refusal) => Ok(Err(refusal)),
+    }
+}
+
+// Carries a line of words out, and gives what it prints, or the name of its refusal.
+fn carried(
+    alloc: Global,
+    line: &str,
+    second: u64,
+    ids: &mut IdWords,
+    disk: &mut MemoryDisk,
+) -> Result<String, Fail> {
+    match decided(alloc, line, second, ids, disk)? {
+        Ok(text) => Ok(String::from_utf8(text).ok().ok_or("no text")?),
+        Err(refusal) => Ok(format!(in alloc; "{:?}", refusal)?),
+    }
+}
+
+// Carries each line out, and compares what it prints.
+fn compare_all(
+    alloc: Global,
+    ids: &mut IdWords,
+    disk: &mut MemoryDisk,
+    rows: &[(&str, &str)],
+) -> Result<(), Fail> {
+    for (line, wanted) in rows {
+        let printed = carried(alloc, line, NOW, ids, disk)?;
+        if printed.as_str() != *wanted {
+            let told = format!(in alloc; "{}: {}", line, printed)?;
+            return Err(Fail::new(told.as_str()));
+        }
+    }
+    Ok(())
+}
+
+const BOUGHT: &str =
+    "[\n{\"annotations\":[{\"description\":\"two\",\"entry\":\"20231114T221321Z\"}],\"description\":\"Buy milk\",\"entry\":\"20231114T221320Z\",\"modified\":\"20231114T221320Z\",\"status\":\"pending\",\"urgency\":1.600,\"uuid\":\"00000000-0000-4000-8000-000000000001\"}\n]\n";
+
+const DAY: [(&str, &str); 24] = [
+    ("add Buy milk", "Created task 1.\n"),
+    ("1 annotate one", "Annotated 1 task.\n"),
+    ("1 annotate two", "Annotated 1 task.\n"),
+    ("1 denotate o", "Denotated 1 task.\n"),
+    ("rc.urgency.annotations.coefficient:2 export", BOUGHT),
+    ("undo", "Undone 1 operation.\n"),
+    ("1 denotate three", "NoMatch"),
+    ("log Call Ann project:Home", "Logged task.\n"),
+    ("add Rent due:2023-12-01 +flat", "Created task 2.\n"),
+    ("1 2 modify project:Home", "Modified 2 tasks.\n"),
+    ("project:Home count", "3\n"),
+    ("project:Home ids", "1 2\n"),
+    ("+flat uuids", "00000000-0000-4000-8000-000000000003\n"),
+    ("+nothing ids", "\n"),
+    ("1 append and tea", "Modified 1 task.\n"),
+    ("1 prepend please", "Modified 1 task.\n"),
+    ("description.is:nothing done", "NoMatch"),
+    ("9 done", "NoMatch"),
+    ("1 start", "Started 1 task.\n"),
+    ("1 stop", "Stopped 1 task.\n"),
+    ("1 2 duplicate due:", "Duplicated 2 tasks.\n"),
+    ("2 done", "Completed 1 task.\n"),
+    ("1 delete", "Deleted 1 task.\n"),
+    ("status:deleted purge", "Purged 1 task.\n"),
+];
+
+#[test]
+fn each_command_has_its_text(rt: HostRuntime) -> Result<(), Fail> {
+    let alloc = rt.alloc();
+    let mut disk = empty_disk(alloc)?;
+    let mut ids = ids_from(1);
+    compare_all(alloc, &mut ids, &mut disk, &DAY)?;
+    // one for each task that was made
+    assert_eq!(rt; ids.start, 6);
+    Ok(())
+}
+
+#[test]
+fn a_uuid_that_is_taken_is_told(rt: HostRuntime) -> Result<(), Fail> {
+    let alloc = rt.alloc();
+    let mut disk = empty_disk(alloc)?;
+    let _ = carried(alloc, "add a", NOW, &mut ids_from(1), &mut disk)?;
+    let _ = carried(alloc, "add b", NOW, &mut ids_from(2), &mut disk)?;
+    // the start and the step of the identifiers, the number that is taken, and the start that is left
+    let rows = [
+        ("log c", (2, 1), 2, 3),
+        ("1 2 duplicate", (1, 1), 1, 2),
+        ("1 2 duplicate", (0, 1), 1, 2),
+        ("1 2 duplicate", (9, 0), 9, 9),
+    ];
+    for (line, (start, step), taken, left) in rows {
+        let mut ids = IdWords { start, step };
+        let uuid = uuid_of(taken);
+        match decided(alloc, line, NOW, &mut ids, &mut disk)? {
+            Err(refusal) => assert_eq!(rt; refusal, Refusal::IdTaken { uuid }),
+            Ok(_) => return Err(Fail::new(line)),
+        }
+        assert_eq!(rt; ids.start, left);
+    }
+    Ok(())
+}
+
+#[test]
+fn what_changes_nothing_writes_no_record(rt: HostRuntime) -> Result<(), Fail> {
+    let alloc = rt.alloc();
+    let mut disk = empty_disk(alloc)?;
+    let mut ids = ids_from(1);
+    let _ = carried(alloc, "add a project:Home", NOW, &mut ids, &mut disk)?;
+    let before = disk.bytes().len();
+    let lines = ["1 modify project:Home", "1 modify -flat", "count", "ids"];
+    for line in lines {
+        let _ = carried(alloc, line, NOW + 1, &mut ids, &mut disk)?;
+        assert_eq!(rt; disk.bytes().len(), before);
+    }
+    Ok(())
+}
+
+#[test]
+fn a_line_of_a_hundred_words_is_one_description(rt: HostRuntime) -> Result<(), Fail> {
+    let alloc = rt.alloc();
+    let mut disk = empty_disk(alloc)?;
+    let mut ids = ids_from(1);
+    let words = "w ".repeat(alloc, 98)?;
+    let line = format!(in alloc; "add {}w", words)?;
+    let _ = carried(alloc, line.as_str(), NOW, &mut ids, &mut disk)?;
+    let replica = opened(alloc, &mut disk)?;
+    let task = replica.tasks().get(uuid_of(1)).ok_or("no task")?;
+    let description = task.get("description").ok_or("no description")?;
+    assert_eq!(rt; description.len(), 2 * 98 + 1);
+    Ok(())
+}

@@ -1,0 +1,227 @@
+use serde_json::Value;
+use std::alloc::Global;
+use std::test::Fail;
+use tw_export::export_text;
+use tw_model::{TaskMap, Tasks};
+use tw_urgency::Coefficients;
+use tw_world::{Memory, Moment};
+use uuid::Uuid;
+
+// 2023-11-14T22:13:20Z.
+const NOW: u64 = 1_700_000_000;
+
+// 2026-01-01T00:00:00Z.
+const YEAR_2026: u64 = 1_767_225_600;
+
+// 2040-01-01T00:00:00Z.
+const YEAR_2040: u64 = 2_208_988_800;
+
+const RENT: u128 = 0x9a0f5c3e_3f4d_4a6b_8d0e_2b1c6a7d8e9f;
+
+const SHIP: u128 = 0x0b1c2d3e_4f50_4162_8738_495a6b7c8d9e;
+
+// The defaults of taskrc(5).
+const WEIGHTS: Coefficients = Coefficients {
+    tag_next: 15_000,
+    due: 12_000,
+    blocking: 8_000,
+    high: 6_000,
+    medium: 3_900,
+    low: 1_800,
+    scheduled: 5_000,
+    active: 4_000,
+    age: 2_000,
+    annotations: 1_000,
+    tags: 1_000,
+    project: 1_000,
+    blocked: -5_000,
+    waiting: -3_000,
+    age_max: 365,
+};
+
+// The task of a text `property=value|property=value`.
+fn task_of(alloc: Global, text: &str) -> Result<TaskMap, Memory> {
+    let mut task = TaskMap::new(alloc);
+    for pair in text.split('|') {
+        if let Some((property, value)) = pair.split_once('=') {
+            task.set(alloc, property, Some(value))?;
+        }
+    }
+    Ok(task)
+}
+
+fn tasks_of(alloc: Global, tasks: &[(u128, &str)]) -> Result<Tasks, Memory> {
+    let mut made = Tasks::new(alloc);
+    for (number, text) in tasks {
+        let _ = made.insert(Uuid::from_u128(*number), task_of(alloc, text)?)?;
+    }
+    Ok(made)
+}
+
+// The export of the rows at a second.
+fn exported(
+    alloc: Global,
+    tasks: &[(u128, &str)],
+    numbers: &[u128],
+    second: u64,
+) -> Result<String, Fail> {
+    let mut rows = Vec::new(alloc);
+    for number in numbers {
+        rows.push(Uuid::from_u128(*number))?;
+    }
+    let now = Moment::new(second, 0).ok_or("no moment")?;
+    let tasks = tasks_of(alloc, tasks)?;
+    let text = export_text(alloc, &rows, &tasks, now, &WEIGHTS)?;
+    Ok(String::from_utf8(text).ok().ok_or("no text")?)
+}
+
+// Properties, and the task's object. Beside it stands a task that is pending, and that the second row depends on.
+const TASKS: [(&str, &str); 8] = [
+    (
+        "description=Buy milk|entry=1700000000|modified=1700000000|status=pending",
+        "{\"description\":\"Buy milk\",\"entry\":\"20231114T221320Z\",\"modified\":\"20231114T221320Z\",\"status\":\"pending\",\"urgency\":0.000,\"uuid\":\"00000000-0000-0000-0000-000000000002\"}",
+    ),
+    (
+        "dep_00000000-0000-0000-0000-000000000001=|dep_00000000-0000-0000-0000-000000000009=|dep_x=|status=pending|depends=x|description=d",
+        "{\"dep_x\":\"\",\"depends\":[\"00000000-0000-0000-0000-000000000001\",\"00000000-0000-0000-0000-000000000009\"],\"description\":\"d\",\"status\":\"pending\",\"urgency\":-5.000,\"uuid\":\"00000000-0000-0000-0000-000000000002\"}",
+    ),
+    // annotations by their second, and not by the name of their property
+    (
+        "annotation_10=ten|annotation_9=n\"ine|annotation_x=kept|annotation_253370764800=late|annotations=x",
+        "{\"annotation_253370764800\":\"late\",\"annotation_x\":\"kept\",\"annotations\":[{\"description\":\"n\\\"ine\",\"entry\":\"19700101T000009Z\"},{\"description\":\"ten\",\"entry\":\"19700101T000010Z\"}],\"urgency\":0.900,\"uuid\":\"00000000-0000-0000-0000-000000000002\"}",
+    ),
+    (
+        "tag_b=|tag_a=|tag_c=x|tag_=|tag=y|tags=x|tax=z",
+        "{\"tag\":\"y\",\"tag_c\":\"x\",\"tags\":[\"\",\"a\",\"b\"],\"tax\":\"z\",\"urgency\":1.000,\"uuid\":\"00000000-0000-0000-0000-000000000002\"}",
+    ),
+    (
+        "status=pending|wait=1700000001|imask=12|mask=-",
+        "{\"imask\":12,\"mask\":\"-\",\"status\":\"waiting\",\"urgency\":-3.000,\"uuid\":\"00000000-0000-0000-0000-000000000002\",\"wait\":\"20231114T221321Z\"}",
+    ),
+    (
+        "status=completed|wait=1700000001|imask=012",
+        "{\"imask\":\"012\",\"status\":\"completed\",\"urgency\":0.000,\"uuid\":\"00000000-0000-0000-0000-000000000002\",\"wait\":\"20231114T221321Z\"}",
+    ),
+    (
+        "status=strange|imask=1234567890|scheduled=5",
+        "{\"imask\":\"1234567890\",\"scheduled\":\"19700101T000005Z\",\"status\":\"strange\",\"urgency\":5.000,\"uuid\":\"00000000-0000-0000-0000-000000000002\"}",
+    ),
+    (
+        "due=tomorrow|end=253370764800|entry=253370764799|id=x|start=01|until=0|urgency=x|urgent=\"\\/\u{1}|uuid=x|imask=0",
+        "{\"due\":\"tomorrow\",\"end\":\"253370764800\",\"entry\":\"99981231T235959Z\",\"imask\":0,\"start\":\"01\",\"until\":\"19700101T000000Z\",\"urgency\":4.000,\"urgent\":\"\\\"\\\\/\\u0001\",\"uuid\":\"00000000-0000-0000-0000-000000000002\"}",
+    ),
+];
+
+#[test]
+fn a_task_is_one_object(rt: HostRuntime) -> Result<(), Fail> {
+    let alloc = rt.alloc();
+    for (properties, object) in TASKS {
+        let tasks = [(1, "status=pending"), (2, properties)];
+        let printed = exported(alloc, &tasks, &[2], NOW)?;
+        let want = format!(in alloc; "[\n{object}\n]\n")?;
+        assert_eq!(rt; printed.as_str(), want.as_str());
+    }
+    Ok(())
+}
+
+#[test]
+fn rows_are_chosen_in_byte_order(rt: HostRuntime) -> Result<(), Fail> {
+    let alloc = rt.alloc();
+    let tasks = [
+        (2, "uuids=5"),
+        (1, ""),
+        (3, "description=not chosen"),
+        (
+            4,
+            "dep_00000000-0000-0000-0000-000000000001=|status=pending",
+        ),
+    ];
+    let none = exported(alloc, &tasks, &[], NOW)?;
+    assert_eq!(rt; none.as_str(), "[\n]\n");
+    let two = exported(alloc, &tasks, &[2, 9, 1, 2], NOW)?;
+    assert_eq!(rt;
+        two.as_str(),
+        "[\n{\"urgency\":0.000,\"uuid\":\"00000000-0000-0000-0000-000000000001\"},\n{\"urgency\":0.000,\"uuid\":\"00000000-0000-0000-0000-000000000002\",\"uuids\":\"5\"}\n]\n"
+    );
+    Ok(())
+}
+
+// What `task export` of Taskwarrior 2.6.2 printed for the tasks below, years after their entries.
+const REAL: &str =
+    "[\n{\"id\":0,\"description\":\"Ship it\",\"end\":\"20000229T010203Z\",\"entry\":\"19991231T235959Z\",\"modified\":\"20000101T000000Z\",\"scheduled\":\"20000115T080000Z\",\"start\":\"20000101T000000Z\",\"status\":\"completed\",\"until\":\"20991231T000000Z\",\"uuid\":\"0b1c2d3e-4f50-4162-8738-495a6b7c8d9e\",\"urgency\":11},\n{\"id\":1,\"description\":\"Pay \\\"rent\\\" \\\\ caf\u{e9}\\/kiosk\\ttab\",\"due\":\"20240229T120000Z\",\"entry\":\"20240131T235959Z\",\"modified\":\"20240201T000000Z\",\"priority\":\"H\",\"project\":\"Home.Flat\",\"status\":\"pending\",\"uuid\":\"9a0f5c3e-3f4d-4a6b-8d0e-2b1c6a7d8e9f\",\"wait\":\"20380119T031408Z\",\"urgency\":18}\n]\n";
+
+const REAL_TASKS: [(u128, &str); 2] = [
+    (
+        RENT,
+        "description=Pay \"rent\" \\ caf\u{e9}/kiosk\ttab|due=1709208000|entry=1706745599|modified=1706745600|priority=H|project=Home.Flat|status=pending|wait=2147483648",
+    ),
+    (
+        SHIP,
+        "description=Ship it|end=951786123|entry=946684799|modified=946684800|scheduled=947923200|start=946684800|status=completed|until=4102358400",
+    ),
+];
+
+const NAMES: [&str; 13] = [
+    "description",
+    "due",
+    "end",
+    "entry",
+    "modified",
+    "priority",
+    "project",
+    "scheduled",
+    "start",
+    "status",
+    "until",
+    "uuid",
+    "wait",
+];
+
+fn is_same_object(ours: &Value, theirs: &Value) -> bool {
+    for name in NAMES {
+        if ours.get(name).and_then(Value::as_str) != theirs.get(name).and_then(Value::as_str) {
+            return false;
+        }
+    }
+    true
+}
+
+#[test]
+fn a_real_export_has_the_same_tasks(rt: HostRuntime) -> Result<(), Fail> {
+    let alloc = rt.alloc();
+    // once the wait is over: until then `waiting` stands where Taskwarrior prints `pending`
+    let text = exported(alloc, &REAL_TASKS, &[RENT, SHIP], YEAR_2040)?;
+    let ours = Value::from_str(alloc, text.as_str())?;
+    let theirs = Value::from_str(alloc, REAL)?;
+    let (Some(ours), Some(theirs)) = (ours.as_array(), theirs.as_array()) else {
+        return Err(Fail::new("no list"));
+    };
+    assert_eq!(rt; (ours.len(), theirs.len()), (2, 2));
+    for (a, b) in ours.iter().zip(theirs.iter()) {
+        assert!(rt; is_same_object(a, b));
+    }
+    Ok(())
+}
+
+#[test]
+fn a_real_export_has_the_same_urgencies(rt: HostRuntime) -> Result<(), Fail> {
+    let alloc = rt.alloc();
+    let text = exported(alloc, &REAL_TASKS, &[RENT, SHIP], YEAR_2026)?;
+    let ours = Value::from_str(alloc, text.as_str())?;
+    let theirs = Value::from_str(alloc, REAL)?;
+    for n in 0..2 {
+        let urgency = ours.get(n).and_then(|task| task.get("urgency"));
+        let wanted = theirs.get(n).and_then(|task| task.get("urgency"));
+        assert_eq!(rt;
+            urgency.and_then(Value::as_f64),
+            wanted.and_then(Value::as_f64)
+        );
+    }
+    assert_eq!(rt;
+        ours.get(1)
+            .and_then(|task| task.get("status"))
+            .and_then(Value::as_str),
+        Some("waiting")
+    );
+    Ok(())
+}

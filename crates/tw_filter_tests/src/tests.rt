@@ -1,0 +1,286 @@
+mod filters;
+mod modifiers;
+
+use std::alloc::Global;
+use std::test::Fail;
+use tw_filter::{
+    Filter, FilterError, Looks, View, chosen_of, number_in, read_filter, select, uuid_of_36,
+};
+use tw_model::{TaskMap, Tasks};
+use tw_time::Zone;
+use tw_world::{Memory, Moment};
+use uuid::Uuid;
+
+// Tasks by the last two digits of their uuids.
+const TASKS: [(u8, &str); 9] = [
+    (
+        1,
+        "description=Buy milk|status=pending|entry=1700000000|modified=1772600000|project=a.b|priority=H|tag_shop=|due=1772622000",
+    ),
+    (
+        2,
+        "description=Call Ann|status=pending|entry=1772600000|wait=1772618410|project=ab|priority=M|tag_shop=|due=1772668799|scheduled=1772582400",
+    ),
+    (
+        3,
+        "description=milkshake_bar|status=completed|end=1772500000|project=a|priority=L|entry=1772582399",
+    ),
+    (
+        4,
+        "status=deleted|end=1772582400|tag_next=x|annotation_1700000100=Bring milk|project=b.a",
+    ),
+    (
+        5,
+        "description=Rent the a.b|status=recurring|recur=monthly|due=1772582400|until=1803859200|mask=--|project=Home",
+    ),
+    (
+        6,
+        "description=Ship, milk. it|status=pending|dep_00000000-0000-4000-8000-000000000001=|dep_00000000-0000-4000-8000-000000000099=|start=1772618395|due=1772618399|project=a.b.c|annotation_x=hidden",
+    ),
+    (
+        7,
+        "description=cafémilk|status=strange|due=soon|entry=01|dep_00000000-0000-4000-8000-000000000003=|wait=0|start=x|tag_été=",
+    ),
+    (
+        8,
+        "description=milk|status=pending|wait=1772618400|due=253370764799|parent=00000000-0000-4000-8000-000000000005|imask=0|dep_00000000-0000-4000-8000-000000000006=|dep_0000000A-0000-4000-8000-000000000004=|scheduled=1772618400|priority=|modified=253370764800|recur=weekly",
+    ),
+    (9, ""),
+];
+
+// The tasks in the first places, where 0 stands for a vacant one.
+const PLACES: [u8; 8] = [3, 0, 1, 2, 0x99, 0, 9, 6];
+
+fn uuid_ending(digits: u8) -> Uuid {
+    Uuid::from_u128(0x00000000_0000_4000_8000_000000000000 | u128::from(digits))
+}
+
+// The task of a text `property=value|property=value`.
+fn task_of(alloc: Global, text: &str) -> Result<TaskMap, Memory> {
+    let mut task = TaskMap::new(alloc);
+    for pair in text.split('|') {
+        if let Some((property, value)) = pair.split_once('=') {
+            task.set(alloc, property, Some(value))?;
+        }
+    }
+    Ok(task)
+}
+
+fn made_tasks(alloc: Global) -> Result<Tasks, Memory> {
+    let mut tasks = Tasks::new(alloc);
+    for (digits, text) in TASKS {
+        let task = task_of(alloc, text)?;
+        let _ = tasks.insert(uuid_ending(digits), task)?;
+    }
+    Ok(tasks)
+}
+
+fn made_places(alloc: Global) -> Result<Vec<Option<Uuid>>, Memory> {
+    let mut places = Vec::new(alloc);
+    for digits in PLACES {
+        let place = if digits == 0 {
+            None
+        } else {
+            Some(uuid_ending(digits))
+        };
+        places.push(place)?;
+    }
+    Ok(places)
+}
+
+// 2026-03-04T10:00:00Z, a Wednesday.
+fn now() -> Moment {
+    Moment {
+        seconds: 1_772_618_400,
+        nanos: 0,
+    }
+}
+
+// The words of a text, and the number from which on they stand behind `--`.
+fn words_of(alloc: Global, text: &str) -> Result<(Vec<String>, u64), Memory> {
+    let mut words = Vec::new(alloc);
+    let mut plain = u64::MAX;
+    for word in text.split(' ') {
+        if word == "--" && plain == u64::MAX {
+            plain = words.len() as u64;
+        } else {
+            words.push(String::from_str(alloc, word)?)?;
+        }
+    }
+    Ok((words, plain))
+}
+
+// Whether a filter holds for a task, where it is there.
+fn holds_alone(filter: &Filter, view: &View<'_>, uuid: Uuid) -> bool {
+    view.tasks.get(uuid).is_some() && filter.holds(view, uuid, &mut Looks::new())
+}
+
+fn is_range(part: &str) -> bool {
+    match part.split_once('-') {
+        Some((first, last)) => match (number_in(first), number_in(last)) {
+            (Some(first), Some(last)) => first <= last,
+            _ => false,
+        },
+        None => number_in(part).is_some(),
+    }
+}
+
+// Whether a word is a list of numbers and ranges, or a uuid.
+fn is_name(word: &str) -> bool {
+    if uuid_of_36(word).is_some() {
+        return true;
+    }
+    for part in word.split(',') {
+        if !is_range(part) {
+            return false;
+        }
+    }
+    true
+}
+
+// Whether there is a word, and each is a number, a list of them or a uuid, and none stands behind `--`.
+fn are_names(words: &Vec<String>, plain: u64) -> bool {
+    for word in words {
+        if !is_name(word.as_str()) {
+            return false;
+        }
+    }
+    !words.is_empty() && words.len() as u64 <= plain
+}
+
+// The last digits of the tasks that are selected, each of which is held alone too. Words that only name tasks look at no others.
+fn digits_of(
+    alloc: Global,
+    filter: &Filter,
+    names_alone: bool,
+    view: &View<'_>,
+) -> Result<String, Fail> {
+    let mut looks = Looks::new();
+    let uuids = select(alloc, filter, view, &mut looks)?;
+    let looked = if names_alone {
+        uuids.len() as u128
+    } else {
+        u128::from(view.tasks.len())
+    };
+    if looks.taken() != looked {
+        return Err("another count of looks")?;
+    }
+    let chosen = chosen_of(alloc, &uuids)?;
+    let mut digits = String::new(alloc);
+    for (number, _) in TASKS {
+        let holds = holds_alone(filter, view, uuid_ending(number));
+        if holds != chosen.contains(&uuid_ending(number)) {
+            return Err("another answer alone")?;
+        }
+        if holds {
+            digits.push(char::from_digit(u32::from(number), 10).ok_or("no digit")?)?;
+        }
+    }
+    Ok(digits)
+}
+
+// What words select, or the kind and the number of the first bad one.
+fn answer_to(
+    alloc: Global,
+    words: &Vec<String>,
+    plain: u64,
+    view: &View<'_>,
+) -> Result<String, Fail> {
+    match read_filter(
+        alloc,
+        words,
+        0,
+        words.len() as u64,
+        plain,
+        view.now,
+        view.zone,
+    ) {
+        Ok(filter) => digits_of(alloc, &filter, are_names(words, plain), view),
+        Err(FilterError::Bad(bad)) => Ok(format!(in alloc; "{:?} {}", bad.kind, bad.word)?),
+        Err(FilterError::Memory) => Err("no memory")?,
+    }
+}
+
+// The answer to a row, and the one that is wanted.
+fn row_of<'a>(
+    alloc: Global,
+    row: &'a str,
+    tasks: &Tasks,
+    numbers: &Vec<Option<Uuid>>,
+) -> Result<(String, &'a str), Fail> {
+    let mut fields = row.split('|');
+    let zone = Zone::read(fields.next().ok_or("no zone")?).or(Err("no zone"))?;
+    let (words, plain) = words_of(alloc, fields.next().ok_or("no words")?)?;
+    let want = fields.next().ok_or("no answer")?;
+    let view = View {
+        tasks,
+        numbers,
+        now: now(),
+        zone: &zone,
+    };
+    Ok((answer_to(alloc, &words, plain, &view)?, want))
+}
+
+#[test]
+fn words_and_filters_select_what_another_reading_does(rt: HostRuntime) -> Result<(), Fail> {
+    let alloc = rt.alloc();
+    let tasks = made_tasks(alloc)?;
+    let numbers = made_places(alloc)?;
+    for row in modifiers::WORDS
+        .split('\n')
+        .chain(filters::FILTERS.split('\n'))
+    {
+        let (got, want) = row_of(alloc, row, &tasks, &numbers)?;
+        assert_eq!(rt; got.as_str(), want, "at {row}");
+    }
+    Ok(())
+}
+
+// So many brackets round the first number.
+fn nested(alloc: Global, depth: u64) -> Result<Vec<String>, Memory> {
+    let mut words = Vec::new(alloc);
+    for _ in 0..depth {
+        words.push(String::from_str(alloc, "(")?)?;
+    }
+    words.push(String::from_str(alloc, "1")?)?;
+    for _ in 0..depth {
+        words.push(String::from_str(alloc, ")")?)?;
+    }
+    Ok(words)
+}
+
+#[test]
+fn ten_thousand_words_and_a_hundred_brackets_are_read(rt: HostRuntime) -> Result<(), Fail> {
+    let alloc = rt.alloc();
+    let tasks = made_tasks(alloc)?;
+    let numbers = made_places(alloc)?;
+    let view = View {
+        tasks: &tasks,
+        numbers: &numbers,
+        now: now(),
+        zone: &Zone::utc(),
+    };
+    let mut words = Vec::new(alloc);
+    for _ in 0..5_000 {
+        words.push(String::from_str(alloc, "!")?)?;
+        words.push(String::from_str(alloc, "+BLOCKED")?)?;
+    }
+    assert_eq!(rt;
+        answer_to(alloc, &words, 10_000, &view)?.as_str(),
+        "1234579"
+    );
+    words.push(String::from_str(alloc, "or")?)?;
+    assert_eq!(rt;
+        answer_to(alloc, &words, 10_001, &view)?.as_str(),
+        "End 10001"
+    );
+    for (depth, want) in [(1, "3"), (100, "3"), (101, "Bracket 100")] {
+        let words = nested(alloc, depth)?;
+        assert_eq!(rt;
+            answer_to(alloc, &words, 1_000, &view)?.as_str(),
+            want,
+            "at {depth}"
+        );
+    }
+    Ok(())
+}

@@ -1,0 +1,98 @@
+// Steps that are made in memory, and then written.
+ghost use Rattle.std.specs.Prelude.{◌≡◌, IfOk};
+
+use super::{ADDED, disk_of, milk};
+use std::alloc::Global;
+use std::test::Fail;
+use tw_model::{Change, TaskMap};
+use tw_replica::{Prepared, Replica, ReplicaError, TakeBackError};
+use tw_world::{Memory, Moment};
+
+// The step by which the one task gets a status.
+fn with_status(
+    alloc: Global,
+    replica: Replica,
+    status: &str,
+    renumber: bool,
+) -> Result<Prepared, Memory>
+    ensures { IfOk result (λ prepared. prepared.journal ≡ replica.journal) }
+{
+    let mut task = TaskMap::new(alloc);
+    task.set(alloc, "status", Some(status))?;
+    let mut changes = Vec::new(alloc);
+    changes.push(Change {
+        uuid: milk(),
+        task: Some(task),
+    })?;
+    let Some(at) = Moment::new(1_700_000_000, 0) else {
+        return Err(Memory);
+    };
+    let mut editing = replica.edit(alloc);
+    editing.make(alloc, changes, at)?;
+    editing.prepare(alloc, renumber)
+}
+
+#[test]
+fn a_step_is_made_in_memory_and_then_written(rt: HostRuntime) -> Result<(), Fail> {
+    let alloc = rt.alloc();
+    let mut disk = disk_of(alloc, &ADDED[..13])?;
+    let replica = Replica::open(alloc, &mut disk)?;
+    let prepared = with_status(alloc, replica, "pending", false)?;
+    assert_eq!(rt; prepared.tasks().len(), 1);
+    assert_eq!(rt; prepared.pending().len(), 3);
+    assert_eq!(rt; prepared.numbers().as_slice(), [Some(milk())].as_slice());
+    assert_eq!(rt; disk.bytes().len(), 13);
+    assert!(rt; prepared.write(&mut disk).is_ok());
+    assert_eq!(rt; disk.bytes(), ADDED.as_slice());
+    Ok(())
+}
+
+// How many places there are once the task has got a status, and how long the file is then.
+fn written(alloc: Global, status: &str, renumber: bool) -> Result<(usize, usize), ReplicaError> {
+    let mut disk = disk_of(alloc, &ADDED)?;
+    let replica = Replica::open(alloc, &mut disk)?;
+    let prepared = with_status(alloc, replica, status, renumber)?;
+    let places = prepared.numbers().len();
+    prepared.write(&mut disk)?;
+    Ok((places, disk.bytes().len()))
+}
+
+// Each row is a status that the pending task gets, whether the places are packed, how many there are then, and how many
+// bytes its record has with its gate and length.
+#[test]
+fn a_step_that_changes_nothing_writes_nothing(rt: HostRuntime) -> Result<(), Fail> {
+    let alloc = rt.alloc();
+    let table = [
+        ("pending", false, 1, 0),
+        ("pending", true, 1, 11),
+        ("completed", false, 1, 77),
+        ("completed", true, 0, 77),
+    ];
+    for (status, renumber, places, bytes) in table {
+        let (numbers, length) = written(alloc, status, renumber)?;
+        assert_eq!(rt; numbers, places, "{status}");
+        assert_eq!(rt; length, 94 + bytes, "{status}");
+    }
+    Ok(())
+}
+
+#[test]
+fn the_last_group_is_taken_back_in_memory(rt: HostRuntime) -> Result<(), Fail> {
+    let alloc = rt.alloc();
+    let mut disk = disk_of(alloc, &ADDED)?;
+    let prepared = Replica::open(alloc, &mut disk)?.take_back(alloc)?;
+    assert_eq!(rt; prepared.tasks().len(), 0);
+    assert_eq!(rt; prepared.pending().len(), 0);
+    assert_eq!(rt; prepared.numbers().as_slice(), [None].as_slice());
+    assert_eq!(rt; disk.bytes(), ADDED.as_slice());
+    assert!(rt; prepared.write(&mut disk).is_ok());
+    assert_eq!(rt; disk.bytes().get(94..), Some([1, 0, 0, 0, 1, 2].as_slice()));
+
+    let mut disk = disk_of(alloc, &ADDED[..13])?;
+    let replica = Replica::open(alloc, &mut disk)?;
+    assert_eq!(rt;
+        replica.take_back(alloc).err(),
+        Some(TakeBackError::NothingToUndo)
+    );
+    Ok(())
+}

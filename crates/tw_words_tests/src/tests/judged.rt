@@ -1,0 +1,154 @@
+// The parts of lines, and the first word that is wrong.
+
+use super::{NOW, halves, line_of, words_of};
+use std::alloc::Global;
+use std::test::Fail;
+use tw_filter::BadWord;
+use tw_time::Zone;
+use tw_words::{Command, Line, WordError, judge_line, read_line};
+use tw_world::Memory;
+
+// Words with bars between them, and the first that is wrong: by its number, from 0, and its kind.
+const ROWS: &str = "\
+add > 0 Missing
+done > 0 NoFilter
+done|x > 0 NoFilter
+1|modify > 1 Missing
+append|x > 0 NoFilter
+1|annotate > 1 Missing
+1|duplicate > right
+add|due:never > 0 Missing
+add|x|recur:weekly > 0 Missing
+add|x|recur:weekly|due:1d|due: > 0 Missing
+add|x|recur:weekly|due:never > 3 Date
+add|x|due:never|recur:weekly > 2 Date
+add|x|recur:often|due:1d > 2 Value
+add|x|recur:|due: > right
+add|x|--|recur:weekly > right
+log|x|recur:weekly > 2 Attribute
+x|add|y > 0 Extra
+1|done|x > 2 Extra
+undo|x > 1 Extra
+1|modify|due:never2 > 2 Date
+add|x|due:never|+PENDING > 2 Date
+add|x|+PENDING > 2 Attribute
+add|x|-BLOCKED > 2 Attribute
+add|x|modified:1d > 2 Attribute
+add|x|status:pending > 2 Attribute
+add|x|priority:X > 2 Value
+add|x|priority: > right
+add|description:Foo > right
+add|description: > 1 Value
+add| > 1 Value
+add|description:x| > 2 Value
+add|| > right
+1|modify|depends:0 > 2 Value
+1|modify|depends:1-3 > 2 Value
+1|modify|depends:1,,2 > 2 Value
+1|modify|depends:- > 2 Value
+1|modify|depends:99|due:never > 3 Date
+1|modify|priority:X|depends: > 2 Value
+1|duplicate|x|depends:-1 > right
+log|x|depends:1 > right
+1|annotate|depends:1 > right
+depends:1|modify|x > right
+depends:1|recur.any:|count|depends:2 > right
+1|modify|project.is:x > right
+1|modify|--|+PENDING|-- > right
+1|annotate|+PENDING|due:never > right
+(|1|modify > 2 End
+(|1|count > 2 End
+(|1|list > 2 End
+count|(|1|and|) > 4 Value
+count|) > 1 Bracket
+rc.gc:off|count|) > 2 Bracket
+count|project.a.b:x > 1 Modifier
+due:never|done|x > 0 Date
+list > right
+list|( > 2 End
+)|list > 0 Bracket
+x|import|y > 0 Extra
+import|x > 1 Extra
+_generate|0|0 > 1 Value
+_generate|10000|18446744073709551615 > right
+_generate|10001|0 > 1 Value
+_generate|1|18446744073709551616 > 2 Value
+_generate|01|0 > 1 Value
+_generate|1 > 0 Missing
+_generate|1|0|0 > 3 Extra
+x|_generate|1|0 > 0 Extra
+1|--|done > right";
+
+fn text_of<T: Drop>(alloc: Global, judged: Result<T, WordError>) -> Result<String, Memory> {
+    match judged {
+        Ok(_) => Ok(String::from_str(alloc, "right")?),
+        Err(WordError::Bad(BadWord { word, kind })) => Ok(format!(in alloc; "{word} {kind:?}")?),
+        Err(error) => Ok(format!(in alloc; "{error:?}")?),
+    }
+}
+
+#[test]
+fn the_first_bad_word_is_named(rt: HostRuntime) -> Result<(), Fail> {
+    let alloc = rt.alloc();
+    for row in ROWS.split('\n') {
+        let (words, want) = halves(row)?;
+        let line = line_of(alloc, words)?;
+        let judged = text_of(alloc, judge_line(alloc, &line, NOW, &Zone::utc()))?;
+        assert_eq!(rt; judged.as_str(), want, "{row}");
+    }
+    assert_eq!(rt; ROWS.split('\n').count(), 68);
+    Ok(())
+}
+
+#[test]
+fn a_date_is_no_fault_without_a_moment(rt: HostRuntime) -> Result<(), Fail> {
+    let alloc = rt.alloc();
+    let words = words_of(alloc, "add|x|due:never|+PENDING")?;
+    let text = text_of(alloc, read_line(alloc, &words))?;
+    assert_eq!(rt; text.as_str(), "3 Attribute");
+    let text = text_of(alloc, read_line(alloc, &Vec::new(alloc)))?;
+    assert_eq!(rt; text.as_str(), "right");
+    let words = words_of(alloc, "add|x|due:never")?;
+    let text = text_of(alloc, read_line(alloc, &words))?;
+    assert_eq!(rt; text.as_str(), "right");
+    Ok(())
+}
+
+// The parts of a line: its command and that word's place, where the filter ends and where `--` stood, its words with their places,
+// and its overrides.
+fn parts_of(alloc: Global, line: &Line) -> Result<String, Memory> {
+    let mut text = format!(in alloc; "{:?} {}", line.command, line.place)?;
+    text.push_str(format!(in alloc; " {} {}", line.filter_to, line.plain_from)?.as_str())?;
+    for (word, place) in line.words.iter().zip(&line.places) {
+        text.push_str(format!(in alloc; " {}@{place}", word.as_str())?.as_str())?;
+    }
+    for (name, value) in &line.overrides {
+        text.push_str(format!(in alloc; " {}={}", name.as_str(), value.as_str())?.as_str())?;
+    }
+    Ok(text)
+}
+
+const PARTS: &str = "\
+1|--|done > Next 0 2 1 1@0 done@2
+rc.gc:off|1|modify|rc.a=b:c|x|--|rc.y:z > Modify 2 1 2 1@1 x@4 rc.y:z@6 gc=off a=b:c
+add|add|modify > Add 0 0 2 add@1 modify@2
+1|list|2 > List 1 2 2 1@0 2@2
+rc.x|-- > Next 0 1 1 rc.x@0";
+
+#[test]
+fn lines_have_their_parts(rt: HostRuntime) -> Result<(), Fail> {
+    let alloc = rt.alloc();
+    for row in PARTS.split('\n') {
+        let (words, want) = halves(row)?;
+        let line = line_of(alloc, words)?;
+        assert_eq!(rt;
+            (line.filter_from, line.rest_from),
+            (0, line.filter_to),
+            "{row}"
+        );
+        assert_eq!(rt; parts_of(alloc, &line)?.as_str(), want, "{row}");
+    }
+    let none = line_of(alloc, "x|y")?;
+    assert_eq!(rt; none.command, Command::Next);
+    Ok(())
+}

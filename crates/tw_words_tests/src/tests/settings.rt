@@ -1,0 +1,262 @@
+// Settings, and what they say of a run.
+
+use super::{halves, words_of};
+use std::alloc::Global;
+use std::test::Fail;
+use tw_words::{Settings, WordError, cut_words, data_folder, link_address, read_settings};
+use tw_world::Memory;
+
+// A file of settings as Taskwarrior 2.6.2 makes it and a user goes on with it.
+const FILE: &str = "# [Created by task 2.6.2 11/14/2023 22:13:20]
+# Taskwarrior program configuration file.
+# For more documentation, see https://taskwarrior.org or try 'man task', 'man task-color',
+# 'man task-sync' or 'man taskrc'
+
+# Here is an example of entries that use the default, override and blank values
+#   variable=foo   -- By specifying a value, this overrides the default
+#   variable=      -- By specifying no value, this means no default
+
+# Files
+data.location=~/tasks
+
+# Color theme (uncomment one to use)
+#include light-16.theme
+#include dark-256.theme
+
+news.version=2.6.0
+uda.reviewed.type=date
+uda.reviewed.label=Reviewed
+report._reviewed.columns=uuid
+report._reviewed.filter=( reviewed.none: or reviewed.before:now-6days ) and ( +PENDING or +WAITING )
+color.active=white on green
+context.work=+work or +freelance
+default.command=next limit:10
+dateformat=Y-M-D
+
+recurrence = no
+recurrence.limit=3   # three at once
+urgency.user.tag.next.coefficient=20.0
+urgency.blocked.coefficient=-0.125
+urgency.due.coefficient=
+urgency.age.max=90
+urgency.uda.priority.L.coefficient=-1.8
+sync.server.url=http://tasks.example.org:8080/
+sync.server.client_id=550e8400-e29b-41d4-a716-446655440000
+";
+
+// Settings with a semicolon between their lines and words with bars between them, and the first line that is no setting.
+const ROWS: &str = "\
+# a comment;   ;name=value; > count > right
+ > count > right
+name > count > 1
+a=1;b=2;c > count > 3
+a=1;b # =2;c > count > 2
+=x;a==b;includes=x;# include > count > right
+include > count > 1
+ include =x > count > 1
+a=1;include dark-256.theme > count > 2
+sync.encryption_secret=x > count > 1
+sync.encryption_secret =  # x > count > right
+gc=on;gc=off;gc=yes;gc=no;gc=1;gc=0;gc= > count > right
+gc=true > count > 1
+recurrence=On > count > 1
+recurrence.limit=1;recurrence.limit=100 > count > right
+recurrence.limit=0 > count > 1
+recurrence.limit=101 > count > 1
+recurrence.limit=01 > count > 1
+urgency.age.max=100000 > count > right
+urgency.age.max=100001 > count > 1
+urgency.due.coefficient=abc > count > 1
+urgency.due.coefficient=-1000000.000 > count > right
+urgency.due.coefficient=1000000.001 > count > 1
+urgency.waiting.coefficient=1.2345 > count > 1
+urgency.user.project.Home.coefficient=x > count > right
+sync.server.url= > count > right
+sync.server.url=http://localhost:8080 > count > right
+  sync.server.url = http://10.0.0.1:65535/  # home > count > right
+sync.server.url=http://localhost > count > 1
+sync.server.url=http://localhost: > count > 1
+sync.server.url=http://localhost:0 > count > 1
+sync.server.url=http://localhost:080 > count > 1
+sync.server.url=http://localhost:65536 > count > 1
+sync.server.url=http://localhost:80// > count > 1
+sync.server.url=http://localhost:80/task > count > 1
+sync.server.url=http://:80 > count > 1
+sync.server.url=http://local_host:80 > count > 1
+sync.server.url=http://a:b:80 > count > 1
+sync.server.url=https://localhost:80 > count > 1
+sync.server.client_id=550e8400 > count > 1
+ > rc.gc=maybe|count > 0
+ > count|rc.gc:off|rc.recurrence.limit:7 > right
+ > rc.include:x|count > 0
+ > rc.gc: off |rc.:x|rc.a:#b|count > right
+a > rc.gc=maybe|count > 1
+gc=maybe > rc.gc=off|count > 1
+ > --|rc.gc=maybe > right";
+
+// Settings, with a semicolon between their lines.
+fn lines_of(alloc: Global, text: &str) -> Result<Vec<u8>, Memory> {
+    let mut bytes = text.as_bytes().to_vec(alloc)?;
+    for byte in &mut bytes {
+        if *byte == b';' {
+            *byte = b'\n';
+        }
+    }
+    Ok(bytes)
+}
+
+fn read(alloc: Global, bytes: &[u8], line: &str) -> Result<Result<Settings, WordError>, Memory> {
+    let words = words_of(alloc, line)?;
+    let line = cut_words(alloc, &words)?;
+    Ok(read_settings(alloc, bytes, &line.overrides))
+}
+
+// The number of the line that is no setting, where one is.
+fn text_of(alloc: Global, read: Result<Settings, WordError>) -> Result<String, Memory> {
+    match read {
+        Ok(_) => Ok(String::from_str(alloc, "right")?),
+        Err(WordError::Setting { line }) => Ok(format!(in alloc; "{line}")?),
+        Err(error) => Ok(format!(in alloc; "{error:?}")?),
+    }
+}
+
+#[test]
+fn the_first_line_that_is_no_setting_is_told(rt: HostRuntime) -> Result<(), Fail> {
+    let alloc = rt.alloc();
+    for row in ROWS.split('\n') {
+        let (text, rest) = halves(row)?;
+        let (line, want) = halves(rest)?;
+        let bytes = lines_of(alloc, text)?;
+        let told = text_of(alloc, read(alloc, bytes.as_slice(), line)?)?;
+        assert_eq!(rt; told.as_str(), want, "{row}");
+    }
+    assert_eq!(rt; ROWS.split('\n').count(), 47);
+    let told = text_of(alloc, read(alloc, b"a=1\nb=\xff", "count")?)?;
+    assert_eq!(rt; told.as_str(), "2");
+    let told = text_of(alloc, read(alloc, b"gc=on\r\n", "count")?)?;
+    assert_eq!(rt; told.as_str(), "1");
+    Ok(())
+}
+
+#[test]
+fn a_users_settings_are_read(rt: HostRuntime) -> Result<(), Fail> {
+    let alloc = rt.alloc();
+    let settings = read(alloc, FILE.as_bytes(), "count")?.or(Err("no settings"))?;
+    assert_eq!(rt; settings.get("news.version"), Some("2.6.0"));
+    assert_eq!(rt; settings.get("urgency.due.coefficient"), Some(""));
+    assert_eq!(rt; settings.get("verbose"), None);
+    assert_eq!(rt; (settings.gc(), settings.recurrence()), (true, false));
+    assert_eq!(rt; settings.recurrence_limit(), 3);
+    let weights = settings.weights();
+    assert_eq!(rt;
+        (weights.tag_next, weights.due, weights.blocking),
+        (20_000, 12_000, 8_000)
+    );
+    assert_eq!(rt;
+        (weights.high, weights.medium, weights.low),
+        (6_000, 3_900, -1_800)
+    );
+    assert_eq!(rt;
+        (weights.scheduled, weights.active, weights.age),
+        (5_000, 4_000, 2_000)
+    );
+    assert_eq!(rt;
+        (weights.annotations, weights.tags, weights.project),
+        (1_000, 1_000, 1_000)
+    );
+    assert_eq!(rt;
+        (weights.blocked, weights.waiting, weights.age_max),
+        (-125, -3_000, 90)
+    );
+    let server = settings.server(alloc)?.ok_or("no server")?;
+    assert_eq!(rt; server.host.as_str(), "tasks.example.org:8080");
+    assert_eq!(rt;
+        server.client.as_u128(),
+        0x550e8400_e29b_41d4_a716_446655440000
+    );
+    Ok(())
+}
+
+#[test]
+fn overrides_come_last(rt: HostRuntime) -> Result<(), Fail> {
+    let alloc = rt.alloc();
+    let line =
+        "rc.recurrence.limit=5|rc.recurrence.limit:6|count|rc.recurrence:1|rc.gc:0|rc.sync.server.url:";
+    let settings = read(alloc, FILE.as_bytes(), line)?.or(Err("no settings"))?;
+    assert_eq!(rt; (settings.gc(), settings.recurrence()), (false, true));
+    assert_eq!(rt; settings.recurrence_limit(), 6);
+    assert!(rt; settings.server(alloc)?.is_none());
+    let settings = read(alloc, b"a=1\na = 2 # 3\nb=4=5", "count")?.or(Err("no settings"))?;
+    assert_eq!(rt;
+        (settings.get("a"), settings.get("b")),
+        (Some("2"), Some("4=5"))
+    );
+    assert_eq!(rt;
+        (settings.recurrence_limit(), settings.weights().age_max),
+        (1, 365)
+    );
+    Ok(())
+}
+
+// Settings and words, and the address of the server.
+const ADDRESSES: &str = "\
+sync.server.url=http://a:1;sync.server.url=http://b:2 > sync > b 2
+ > sync > none
+sync.server.url=http://a:1;sync.server.url= > sync > none
+sync.server.url=http://a:1;no setting > sync > none
+sync.server.url=http://a:1 > rc.sync.server.url:http://b:2|sync > b 2
+sync.server.url=http://a.b-c:1/ > sync|rc.gc:off > a.b-c 1
+sync.server.url=http://a:1 > sync|rc.gc:maybe > none";
+
+#[test]
+fn the_address_of_the_server_is_found(rt: HostRuntime) -> Result<(), Fail> {
+    let alloc = rt.alloc();
+    for row in ADDRESSES.split('\n') {
+        let (text, rest) = halves(row)?;
+        let (line, want) = halves(rest)?;
+        let settings = lines_of(alloc, text)?;
+        let words = words_of(alloc, line)?;
+        let found = match link_address(alloc, &words, &settings)? {
+            Some(found) => format!(in alloc; "{} {}", found.host.as_str(), found.port)?,
+            None => String::from_str(alloc, "none")?,
+        };
+        assert_eq!(rt; found.as_str(), want, "{row}");
+    }
+    Ok(())
+}
+
+#[test]
+fn the_folder_is_found(rt: HostRuntime) -> Result<(), Fail> {
+    let alloc = rt.alloc();
+    let rows = [
+        ("", Some("/data"), Some("/home/ann"), "/data"),
+        ("data.location=/set", Some("/data"), None, "/data"),
+        ("", None, Some("/home/ann"), "/home/ann/.task"),
+        ("", None, None, ".task"),
+        ("data.location=/set", None, Some("/home/ann"), "/set"),
+        (
+            "data.location=/set\nno setting\ngc=maybe\ndata.location=/two",
+            None,
+            None,
+            "/two",
+        ),
+        ("data.location=/set\ndata.location=", None, None, ".task"),
+        (FILE, None, Some("/home/ann"), "/home/ann/tasks"),
+        (FILE, None, None, "~/tasks"),
+        (
+            "data.location=~ann/tasks",
+            None,
+            Some("/home/ann"),
+            "~ann/tasks",
+        ),
+        ("data.location=~", None, Some("/home/ann"), "~"),
+    ];
+    for (settings, taskdata, home, folder) in rows {
+        let settings = settings.as_bytes().to_vec(alloc)?;
+        assert_eq!(rt;
+            data_folder(alloc, &settings, taskdata, home)?.as_str(),
+            folder
+        );
+    }
+    Ok(())
+}
