@@ -10,7 +10,7 @@ ghost use Rattle.tw_http.specs.Serving.{refusal_of};
 ghost use Rattle.tw_journal.specs.Record.{IsLongerBy};
 ghost use Rattle.tw_server.specs.Log.{Accepted};
 ghost use Rattle.tw_server.specs.Message.{IsMessage, IsReadUpTo};
-ghost use Rattle.tw_server.specs.Serve.{IfServed, IfSilent, IsSent, IsServed, IsServedOrShort, IsStep, ServeEnded};
+ghost use Rattle.tw_server.specs.Serve.{IfCutOff, IfServed, IfSilent, IsCutOff, IsSent, IsServed, IsServedOrShort, IsStep, ServeEnded};
 ghost use Rattle.tw_server.specs.Server.{IsServerOn, drawn_id, is_closed, server_end};
 ghost use Rattle.tw_server.specs.Ends.{end_of};
 ghost use Rattle.tw_server.specs.declared.serve.ServeEnd.TheVariants.{Closed, DiskFault};
@@ -65,6 +65,7 @@ pub fn serve_one<P: Peer, D: Disk>(
     ensures ended { ServeEnded D.model server.old server.new disk.old disk.new P.model peer.old peer.new (IsTrue (P.model.tells peer.old) → (request : Request) × IsMessage (P.model.rest peer.old) (Ok request)) result }
     ensures complete { (log : List Accepted) → IsServerOn D.model server.old disk.old log → (Rose (P.model.faults peer.old) (P.model.faults peer.new) → ⊥) → (Rose (D.model.faults disk.old) (D.model.faults disk.new) → ⊥) → IsServedOrShort result }
     ensures taken { IsTrue (P.model.tells peer.old) → IsReadUpTo (P.model.rest peer.old) (P.model.rest peer.new) }
+    ensures cut_off { IfCutOff result (IsTrue (P.model.tells peer.old) → (P.model.held peer.new ≡ P.model.held peer.old) ⊎ ((answer : Result Request HttpError) × IsMessage (P.model.rest peer.old) answer × IsCutOff D.model server.old server.new disk.old disk.new P.model peer.old peer.new ids.old ids.new answer)) }
     ensures silent { IfSilent result (SameHeld P.model peer.old peer.new) }
     ensures closed { is_closed server.old ≡ true → IfServed result (λ status. IsTrue (P.model.tells peer.old) → (e : HttpError) × IsMessage (P.model.rest peer.old) (Err e) × (status ≡ status_of (refusal_of e))) }
     ensures closes { is_closed server.new ≡ true → (is_closed server.old ≡ true) ⊎ (result ≡ DiskFault) }
@@ -97,6 +98,7 @@ fn serve_request<P: Peer, D: Disk>(
 
     ensures ended { ServeEnded D.model server.old server.new disk.old disk.new P.model peer.old peer.new (Unit {0}) result }
     ensures rest { SameRest P.model peer.old peer.new }
+    ensures cut_off { IfCutOff result (IsTrue (P.model.tells peer.old) → IsCutOff D.model server.old server.new disk.old disk.new P.model peer.old peer.new ids.old ids.new (Ok request.now)) }
     ensures silent { IfSilent result (SameHeld P.model peer.old peer.new) }
     ensures closed { is_closed server.old ≡ true → result ≡ Closed }
     ensures closes { is_closed server.new ≡ true → (is_closed server.old ≡ true) ⊎ (result ≡ DiskFault) }
