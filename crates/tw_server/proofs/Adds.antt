@@ -143,6 +143,11 @@ module _ {D : Type 0} (m : DiskModel D) (client parent segment : List ℕ) where
         drawn = record { start = start ∙ sym (ap (λ t. if t then (old.start + old.step) % 2 ^ 128 else old.start) at); step = step };
       }
 
+  -- the id that was drawn, by another name
+  pub added_as : (server : Server) (disk : D) (log : List Accepted) (old new : IdWords) (id : List ℕ) → id ≡ drawn_id old.start → IsAnswer m server disk log (Add client parent segment) old new (responses.Added (drawn_id old.start))
+      → IsAnswer m server disk log (Add client parent segment) old new (responses.Added id)
+  added_as server disk log old new id is ans = subst (λ x. IsAnswer m server disk log (Add client parent segment) old new (responses.Added x)) (sym is) ans
+
   -- a crash leaves the log, or it and the new version
   pub added_moments : (first disk : D) (log : List Accepted) (id last body : List ℕ) → last ≡ latest (chain_of client log) → same_id last parent ≡ true → has_id id (chain_of client log) ≡ false
       → body ≡ body_of (accepted_for client (version id parent segment)) → LeavesOnly m first disk (RecordsOrMore magic (bodies_of log) body) → LeavesOnly m first disk (LogOrMore log (added log (Add client parent segment) id))

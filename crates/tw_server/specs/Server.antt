@@ -1,8 +1,9 @@
 -- A server on its disk, and why it refuses.
-use Rattle.std.specs.Prelude.{◌≡◌, ◌⊎◌, ℕ, ◌+◌, ◌%◌, ◌<◌, ◌^◌, Bool, true, false, List, [], ◌∷◌, ◌++◌, codes, length, take, slice_index_or, map, if◌then◌else◌}
+use Rattle.std.specs.Prelude.{◌≡◌, ◌⊎◌, ℕ, ◌+◌, ◌%◌, ◌<◌, ◌^◌, Bool, true, false, List, [], ◌++◌, codes, length, take, drop, slice_index_or, map, if◌then◌else◌}
 use Rattle.tw_world.specs.Disk.{DiskModel, Tells, Rose}
 use Rattle.tw_journal.specs.Journal.{IsOpenOn, is_closed as is_journal_closed, journal_end}
 use Rattle.tw_journal.specs.Form.{place_in}
+use Rattle.tw_journal.specs.Reading.{IsNoRecord, IsSizeAt}
 use Rattle.tw_journal.specs.Open.{Records, IsDamagedAt}
 use Rattle.tw_journal.specs.declared.error.JournalError.TheVariants as journal
 use Rattle.tw_server.specs.declared.server.Server.{Server}
@@ -14,7 +15,10 @@ use Rattle.tw_world.specs.Ids.{id_bytes}
 use Rattle.tw_http.specs.declared.message.Request.{Request}
 use Rattle.tw_http.specs.declared.message.Request.TheVariants.{Add, Child}
 use Rattle.tw_http.specs.declared.message.Response.{Response}
-use Rattle.tw_server.specs.Log.{Accepted, IsSound, bodies_of, entry_of, chain_of, added, told, follows}
+use Rattle.tw_http.specs.declared.message.Response.TheVariants as responses
+use Rattle.tw_http.specs.declared.message.Asked.{Asked}
+use Rattle.tw_http.specs.Responses.{answers}
+use Rattle.tw_server.specs.Log.{Accepted, IsSound, bodies_of, entry_of, chain_of, added, told, is_body, follows}
 
 abbrev pub magic : List ℕ
 magic = codes "TWSERV01"
@@ -55,17 +59,46 @@ pub record IsDrawn (accepted : Bool) (old new : IdWords) : Type 0 where
   pub start : new.start ≡ (if accepted then (old.start + old.step) % 2 ^ 128 else old.start)
   pub step : new.step ≡ old.step
 
+-- whether a response tells that the bytes are no request
+abbrev pub is_refusal : Response → Bool
+is_refusal (responses.Added id) = false
+is_refusal (responses.Conflict latest) = false
+is_refusal (responses.Child id parent segment) = false
+is_refusal responses.UpToDate = false
+is_refusal responses.Gone = false
+is_refusal responses.Bad = true
+is_refusal responses.TooLong = true
+is_refusal responses.Taken = false
+
+-- a response to a request of this kind, and no refusal
+abbrev pub Replies : Asked → Response → Type 0
+Replies asked response = (answers asked response ≡ true) × (is_refusal response ≡ false)
+
+-- the most bytes that a request adds: a gate, a length, a kind, three uuids and the segment
+abbrev pub most_added : Request → ℕ
+most_added (Add client parent segment) = length segment + 54
+most_added (Child client parent) = 0
+
 -- a request was answered: what its client is told, the log that the disk holds now, and the ids that are left
 pub record IsAnswer {D : Type 0} (m : DiskModel D) (server : Server) (disk : D) (log : List Accepted) (request : Request) (old new : IdWords) (response : Response) : Type 0 where
   pub says : response ≡ told log request (drawn_id old.start)
   pub holds : IsServerOn m server disk (log ++ added log request (drawn_id old.start))
   pub drawn : IsDrawn (is_accepted log request) old new
 
+-- at this place of a file no record stands, or one whose body is no version
+abbrev pub IsNoVersionAt : List ℕ → ℕ → Type 0
+IsNoVersionAt file offset = IsNoRecord (drop offset file) ⊎ ((size : ℕ) × IsSizeAt (drop offset file) size × (is_body (take size (drop 5 (drop offset file))) ≡ false))
+
+-- damage was found at this place of a disk, so that the server has no versions on it
+pub record IsDamage {D : Type 0} (m : DiskModel D) (server : Server) (disk : D) (offset : ℕ) : Type 0 where
+  pub place : Tells m disk → IsNoVersionAt (m.seen disk) offset
+  pub never : Tells m disk → (log : List Accepted) → IsServerOn m server disk log → ⊥
+
 -- why a request is not answered
 abbrev pub AnswerRefused : {D : Type 0} → DiskModel D → (old new : Server) (before after : D) → ServerError → Type 0
 AnswerRefused m old new before after (Journal journal.Disk) = Rose (m.faults before) (m.faults after) × (is_closed old ≡ false)
 AnswerRefused m old new before after (Journal journal.Closed) = (is_closed old ≡ true) × (new ≡ old) × (after ≡ before)
-AnswerRefused m old new before after (Journal (journal.Damaged offset)) = (new ≡ old) × (Tells m before → (log : List Accepted) → IsServerOn m old before log → ⊥)
+AnswerRefused m old new before after (Journal (journal.Damaged offset)) = (new ≡ old) × IsDamage m old before offset
 AnswerRefused m old new before after (Journal (journal.TooLong bytes)) = (2 ^ 30 < bytes) × (after ≡ before) × (new.journal ≡ old.journal)
 AnswerRefused m old new before after (Journal journal.Memory) = ⊥
 AnswerRefused m old new before after Memory = new.journal ≡ old.journal

@@ -1,11 +1,14 @@
 // The answer to a request.
-ghost use Rattle.std.specs.Prelude.{◌≡◌, ◌<◌, true, false, length, List, ℕ, Err, IfOk, IfErr, OnErr};
+ghost use Rattle.std.specs.Prelude.{◌≡◌, ◌⊎◌, ◌<◌, ◌+◌, true, false, length, List, ℕ, Err, IfOk, IfErr, OnErr};
 ghost use Rattle.tw_world.specs.Disk.{LeavesOnly, Kept, Untouched};
 ghost use Rattle.tw_http.specs.declared.message.Request.TheVariants as asks;
+ghost use Rattle.tw_http.specs.declared.message.Asked.TheVariants as kinds;
+ghost use Rattle.tw_http.specs.Serving.{kind_of};
+ghost use Rattle.tw_journal.specs.Record.{IsLongerBy};
 ghost use Rattle.tw_journal.specs.declared.error.JournalError.TheVariants as journal_error;
 ghost use Rattle.tw_server.specs.declared.server.ServerError.TheVariants as server_error;
 ghost use Rattle.tw_server.specs.Log.{Accepted, added, told};
-ghost use Rattle.tw_server.specs.Server.{Knows, drawn_id, IsServerOn, IsAnswer, LogOrMore, AnswerRefused, is_closed, server_end};
+ghost use Rattle.tw_server.specs.Server.{Knows, drawn_id, Replies, most_added, IsServerOn, IsAnswer, LogOrMore, AnswerRefused, is_closed, server_end};
 
 use crate::entry::{BEFORE_SEGMENT, Entry, body_of};
 use crate::server::{Server, ServerError};
@@ -34,7 +37,9 @@ impl Server {
         requires { is_closed self.old ≡ false → D.model.len disk.old ≡ server_end self.old }
 
         ensures answered { IfOk result (λ response. (log : List Accepted) → IsServerOn D.model self.old disk.old log → IsAnswer D.model self.new disk.new log request.now ids.old ids.new response) }
+        ensures kind { IfOk result (Replies (kind_of request.now)) }
         ensures any_moment { (log : List Accepted) → IsServerOn D.model self.old disk.old log → LeavesOnly D.model disk.old disk.new (LogOrMore log (added log request.now (drawn_id ids.old.start))) }
+        ensures growth { (log : List Accepted) → IsServerOn D.model self.old disk.old log → LeavesOnly D.model disk.old disk.new (IsLongerBy D.model disk.old (most_added request.now)) }
         ensures length { is_closed self.new ≡ false → D.model.len disk.new ≡ server_end self.new }
         ensures kept { Kept D.model disk.old disk.new }
 
@@ -43,6 +48,7 @@ impl Server {
         ensures stays { OnErr result ((log : List Accepted) → IsServerOn D.model self.old disk.old log → is_closed self.new ≡ false → IsServerOn D.model self.new disk.new log) }
         ensures known { OnErr result ((log : List Accepted) → Knows self.old log → Knows self.new log) }
         ensures closed { is_closed self.old ≡ true → result ≡ Err (server_error.Journal journal_error.Closed) }
+        ensures closes { is_closed self.new ≡ true → (is_closed self.old ≡ true) ⊎ (result ≡ Err (server_error.Journal journal_error.Disk)) }
     {
         if self.journal.is_closed() {
             return Err(ServerError::Journal(JournalError::Closed));
@@ -71,7 +77,9 @@ impl Server {
         requires length { D.model.len disk.old ≡ server_end self.old }
 
         ensures answered { IfOk result (λ response. (log : List Accepted) → IsServerOn D.model self.old disk.old log → IsAnswer D.model self.new disk.new log (asks.Add client parent segment.now) ids.old ids.new response) }
+        ensures kind { IfOk result (Replies kinds.Add) }
         ensures any_moment { (log : List Accepted) → IsServerOn D.model self.old disk.old log → LeavesOnly D.model disk.old disk.new (LogOrMore log (added log (asks.Add client parent segment.now) (drawn_id ids.old.start))) }
+        ensures growth { (log : List Accepted) → IsServerOn D.model self.old disk.old log → LeavesOnly D.model disk.old disk.new (IsLongerBy D.model disk.old (length segment.now + 54)) }
         ensures length { is_closed self.new ≡ false → D.model.len disk.new ≡ server_end self.new }
         ensures kept { Kept D.model disk.old disk.new }
 
@@ -79,6 +87,7 @@ impl Server {
         ensures no_id { OnErr result (ids.new ≡ ids.old) }
         ensures stays { OnErr result ((log : List Accepted) → IsServerOn D.model self.old disk.old log → is_closed self.new ≡ false → IsServerOn D.model self.new disk.new log) }
         ensures known { OnErr result ((log : List Accepted) → Knows self.old log → Knows self.new log) }
+        ensures closes { is_closed self.new ≡ true → result ≡ Err (server_error.Journal journal_error.Disk) }
     {
         let latest = self.latest(client);
         if latest != parent {
@@ -114,6 +123,7 @@ impl Server {
         requires length { D.model.len disk.old ≡ server_end self.now }
 
         ensures says { IfOk result (λ response. (log : List Accepted) (id : List ℕ) → IsServerOn D.model self.now disk.old log → response ≡ told log (asks.Child client parent) id) }
+        ensures kind { IfOk result (Replies kinds.Child) }
         ensures untouched { Untouched D.model disk.old disk.new }
         ensures refused { IfErr result (AnswerRefused D.model self.now self.now disk.old disk.new) }
     {
@@ -147,14 +157,12 @@ impl Server {
         ensures untouched { Untouched D.model disk.old disk.new }
         ensures refused { IfErr result (AnswerRefused D.model self.now self.now disk.old disk.new) }
     {
-        if n >= self.journal.count() {
-            return Err(ServerError::Journal(JournalError::Damaged { offset: 0 }));
-        }
         let body = self.journal.body(alloc, disk, n)?;
         let bytes = body.as_slice();
         if bytes.len() < BEFORE_SEGMENT {
-            let offset = self.journal.offset(disk, n)?;
-            return Err(ServerError::Journal(JournalError::Damaged { offset }));
+            // The record's place is told by the read of what such a body does not have.
+            let none = self.journal.part(alloc, disk, n, BEFORE_SEGMENT as u64, 0)?;
+            return Ok(Bytes::from_slice(alloc, none.as_slice())?);
         }
         let segment = Bytes::from_slice(alloc, &bytes[BEFORE_SEGMENT..])?;
         Ok(segment)

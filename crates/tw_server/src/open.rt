@@ -1,9 +1,10 @@
 // Opens a server.
-ghost use Rattle.std.specs.Prelude.{◌≡◌, ◌<◌, ◌+◌, false, if◌then◌else◌, All, List, ℕ, IfOk, IfErr, OnOk, Some, None};
+ghost use Rattle.std.specs.Prelude.{◌≡◌, ◌<◌, ◌+◌, false, if◌then◌else◌, length, All, List, ℕ, IfOk, IfErr, OnOk, Some, None};
 ghost use Rattle.tw_world.specs.Disk.{Tells, LeavesOnly, Kept, Untouched};
 ghost use Rattle.tw_journal.specs.Journal.{IsOpenOn, journal_count};
 ghost use Rattle.tw_journal.specs.Window.{IsWindowOn};
 ghost use Rattle.tw_journal.specs.Open.{IsImageThen};
+ghost use Rattle.tw_journal.specs.Record.{IsLongerBy};
 ghost use Rattle.tw_server.specs.Log.{Accepted, follows, is_next_entry, entry_of, accepted_in};
 ghost use Rattle.tw_server.specs.Server.{magic, Knows, IsReadTo, IsOpenedOn, TakeRefused, IsBadBody, ServerOpenRefused, is_closed, server_end};
 
@@ -23,10 +24,12 @@ impl Server {
     /// `TWSERV01`, with a record for each accepted version.
     ///
     /// A crash at any moment of the call leaves an image that the disk could leave before, or the records that were
-    /// read. `Damaged` names the place of the first record that is none, or that is no version of its client's chain.
+    /// read. `Damaged` is at 0 where the file has another form, at the first record that is none or, where all are whole,
+    /// at the first that is no version of its client's chain.
     pub fn open<D: Disk>(alloc: Global, disk: &mut D) -> Result<Server, ServerError>
         ensures opened { IfOk result (λ server. Tells D.model disk.old → IsOpenedOn D.model disk.old disk.new server) }
         ensures any_moment { Tells D.model disk.old → LeavesOnly D.model disk.old disk.new (IsImageThen D.model disk.old magic) }
+        ensures growth { Tells D.model disk.old → LeavesOnly D.model disk.old disk.new (IsLongerBy D.model disk.old 29) }
         ensures length { IfOk result (λ server. (D.model.len disk.new ≡ server_end server) × (is_closed server ≡ false)) }
         ensures kept { Kept D.model disk.old disk.new }
 
@@ -57,7 +60,9 @@ impl Server {
         requires open { is_closed self.old ≡ false }
         requires length { D.model.len disk.old ≡ server_end self.old }
         requires window { IsWindowOn D.model disk.old window.old }
+        requires known { length self.old.versions.entries.items ≡ n }
 
+        ensures known { OnOk result (length self.new.versions.entries.items ≡ n + 1) }
         ensures taken { OnOk result ((bodies : List (List ℕ)) → IsOpenOn D.model magic self.old.journal disk.old bodies → IsReadTo self.old bodies n → IsReadTo self.new bodies (n + 1)) }
         ensures journal { self.new.journal ≡ self.old.journal }
         ensures window { OnOk result (IsWindowOn D.model disk.new window.new) }

@@ -1,18 +1,19 @@
 // One connection.
-ghost use Rattle.std.specs.Prelude.{◌≡◌, true, false, List, ℕ, IsTrue, Result, Ok, Err};
-ghost use Rattle.tw_world.specs.Disk.{Kept, Rose};
-ghost use Rattle.tw_world.specs.Peer.{SameHeld, sink_of};
+ghost use Rattle.std.specs.Prelude.{◌≡◌, ◌⊎◌, ◌≤◌, ◌+◌, true, false, length, List, ℕ, IsTrue, Result, Ok, Err};
+ghost use Rattle.tw_world.specs.Disk.{LeavesOnly, Kept, Rose};
+ghost use Rattle.tw_world.specs.Peer.{SameHeld, SameRest, sink_of};
 ghost use Rattle.tw_world.specs.Sink.{SinkKept};
 ghost use Rattle.tw_http.specs.declared.message.HttpError.{HttpError};
 ghost use Rattle.tw_http.specs.declared.message.Request.{Request};
-ghost use Rattle.tw_http.specs.Messages.{status_of};
+ghost use Rattle.tw_http.specs.Messages.{max_body, request_body, status_of};
 ghost use Rattle.tw_http.specs.Serving.{refusal_of};
+ghost use Rattle.tw_journal.specs.Record.{IsLongerBy};
 ghost use Rattle.tw_server.specs.Log.{Accepted};
-ghost use Rattle.tw_server.specs.Message.{IsMessage};
-ghost use Rattle.tw_server.specs.Serve.{IfServed, IfSilent, IsSent, IsServed, IsServedOrShort, IsStep, ServeEnded};
+ghost use Rattle.tw_server.specs.Message.{IsMessage, IsReadUpTo};
+ghost use Rattle.tw_server.specs.Serve.{IfCutOff, IfServed, IfSilent, IsCutOff, IsSent, IsServed, IsServedOrShort, IsStep, ServeEnded};
 ghost use Rattle.tw_server.specs.Server.{IsServerOn, drawn_id, is_closed, server_end};
 ghost use Rattle.tw_server.specs.Ends.{end_of};
-ghost use Rattle.tw_server.specs.declared.serve.ServeEnd.TheVariants.{Closed};
+ghost use Rattle.tw_server.specs.declared.serve.ServeEnd.TheVariants.{Closed, DiskFault};
 
 use crate::message::{MessageError, read_message};
 use crate::server::{Server, ServerError};
@@ -32,7 +33,7 @@ pub enum ServeEnd {
     DiskFault,
     /// A fault of the disk closed the server before, and the message is a request.
     Closed,
-    /// The bytes at this place of the file are no record.
+    /// The bytes at this place of the file are no record, or one whose body is no version.
     Damaged { offset: u64 },
     /// There was no memory. A version may have been added.
     Memory,
@@ -45,7 +46,7 @@ pub enum ServeEnd {
 /// answered 400, or 413 where it is too long, and so is an input that ends inside a message. A version stands before
 /// its answer is written. Nothing is written on an end other than `Served` and `PeerFault`. Where neither the peer nor
 /// the disk fails, a server that stands on its disk ends it by `Served`, or by `Memory`.
-/// Reading takes at most 4,096 bytes at a time, and may take some behind the message.
+/// Reading takes 4,096 bytes at a time, so that some behind the message may be taken, and stops once it is there.
 pub fn serve_one<P: Peer, D: Disk>(
     alloc: Global,
     peer: &mut P,
@@ -55,15 +56,19 @@ pub fn serve_one<P: Peer, D: Disk>(
 ) -> ServeEnd
     requires { is_closed server.old ≡ false → D.model.len disk.old ≡ server_end server.old }
 
-    ensures served { IfServed result (λ status. IsTrue (P.model.tells peer.old) → (log : List Accepted) → IsServerOn D.model server.old disk.old log → (answer : Result Request HttpError) × IsMessage (P.model.rest peer.old) answer × IsServed D.model server.old server.new disk.old disk.new P.model peer.old peer.new log ids.old ids.new answer status) }
+    ensures served { IfServed result (λ status. IsTrue (P.model.tells peer.old) → (answer : Result Request HttpError) × IsMessage (P.model.rest peer.old) answer × IsServed D.model server.old server.new disk.old disk.new P.model peer.old peer.new ids.old ids.new answer status) }
     ensures step { (log : List Accepted) → IsServerOn D.model server.old disk.old log → IsStep D.model server.old server.new disk.old disk.new log (λ request. IsTrue (P.model.tells peer.old) → IsMessage (P.model.rest peer.old) (Ok request)) (drawn_id ids.old.start) }
+    ensures growth { (log : List Accepted) → IsServerOn D.model server.old disk.old log → LeavesOnly D.model disk.old disk.new (IsLongerBy D.model disk.old (max_body + 54)) }
     ensures length { is_closed server.new ≡ false → D.model.len disk.new ≡ server_end server.new }
     ensures kept { Kept D.model disk.old disk.new }
 
     ensures ended { ServeEnded D.model server.old server.new disk.old disk.new P.model peer.old peer.new (IsTrue (P.model.tells peer.old) → (request : Request) × IsMessage (P.model.rest peer.old) (Ok request)) result }
     ensures complete { (log : List Accepted) → IsServerOn D.model server.old disk.old log → (Rose (P.model.faults peer.old) (P.model.faults peer.new) → ⊥) → (Rose (D.model.faults disk.old) (D.model.faults disk.new) → ⊥) → IsServedOrShort result }
+    ensures taken { IsTrue (P.model.tells peer.old) → IsReadUpTo (P.model.rest peer.old) (P.model.rest peer.new) }
+    ensures cut_off { IfCutOff result (IsTrue (P.model.tells peer.old) → (P.model.held peer.new ≡ P.model.held peer.old) ⊎ ((answer : Result Request HttpError) × IsMessage (P.model.rest peer.old) answer × IsCutOff D.model server.old server.new disk.old disk.new P.model peer.old peer.new ids.old ids.new answer)) }
     ensures silent { IfSilent result (SameHeld P.model peer.old peer.new) }
     ensures closed { is_closed server.old ≡ true → IfServed result (λ status. IsTrue (P.model.tells peer.old) → (e : HttpError) × IsMessage (P.model.rest peer.old) (Err e) × (status ≡ status_of (refusal_of e))) }
+    ensures closes { is_closed server.new ≡ true → (is_closed server.old ≡ true) ⊎ (result ≡ DiskFault) }
 {
     match read_message(alloc, peer) {
         Ok(Ok(request)) => serve_request(alloc, peer, disk, server, &request, ids),
@@ -82,16 +87,21 @@ fn serve_request<P: Peer, D: Disk>(
     request: &Request,
     ids: &mut IdWords,
 ) -> ServeEnd
-    requires { is_closed server.old ≡ false → D.model.len disk.old ≡ server_end server.old }
+    requires length { is_closed server.old ≡ false → D.model.len disk.old ≡ server_end server.old }
+    requires fits { length (request_body request.now) ≤ max_body }
 
-    ensures served { IfServed result (λ status. IsTrue (P.model.tells peer.old) → (log : List Accepted) → IsServerOn D.model server.old disk.old log → IsServed D.model server.old server.new disk.old disk.new P.model peer.old peer.new log ids.old ids.new (Ok request.now) status) }
+    ensures served { IfServed result (λ status. IsTrue (P.model.tells peer.old) → IsServed D.model server.old server.new disk.old disk.new P.model peer.old peer.new ids.old ids.new (Ok request.now) status) }
     ensures step { (log : List Accepted) → IsServerOn D.model server.old disk.old log → IsStep D.model server.old server.new disk.old disk.new log (λ r. r ≡ request.now) (drawn_id ids.old.start) }
+    ensures growth { (log : List Accepted) → IsServerOn D.model server.old disk.old log → LeavesOnly D.model disk.old disk.new (IsLongerBy D.model disk.old (max_body + 54)) }
     ensures length { is_closed server.new ≡ false → D.model.len disk.new ≡ server_end server.new }
     ensures kept { Kept D.model disk.old disk.new }
 
     ensures ended { ServeEnded D.model server.old server.new disk.old disk.new P.model peer.old peer.new (Unit {0}) result }
+    ensures rest { SameRest P.model peer.old peer.new }
+    ensures cut_off { IfCutOff result (IsTrue (P.model.tells peer.old) → IsCutOff D.model server.old server.new disk.old disk.new P.model peer.old peer.new ids.old ids.new (Ok request.now)) }
     ensures silent { IfSilent result (SameHeld P.model peer.old peer.new) }
     ensures closed { is_closed server.old ≡ true → result ≡ Closed }
+    ensures closes { is_closed server.new ≡ true → (is_closed server.old ≡ true) ⊎ (result ≡ DiskFault) }
 {
     match server.answer(alloc, disk, request, ids) {
         Ok(response) => send(alloc, peer, &response),
@@ -102,6 +112,7 @@ fn serve_request<P: Peer, D: Disk>(
 // Writes a response.
 fn send<P: Peer>(alloc: Global, peer: &mut P, response: &Response) -> ServeEnd
     ensures sent { IsSent P.model peer.old peer.new response.now result }
+    ensures rest { SameRest P.model peer.old peer.new }
     ensures kept { SinkKept (sink_of P.model) peer.old peer.new }
 {
     let Ok(text) = write_response(alloc, response) else {

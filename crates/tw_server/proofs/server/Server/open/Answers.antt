@@ -2,6 +2,7 @@ use Rattle.std.proofs.Common.{◌∙◌, ◌≤◌, [], length, refl, sym, ap, a
 use Rattle.tw_world.proofs.Moments.{untouched, untouched_join}
 use Rattle.tw_journal.specs.Journal.{is_closed, journal_end}
 use Rattle.tw_journal.specs.Open.{IsImageThen}
+use Rattle.tw_journal.specs.Record.{IsLongerBy}
 use Rattle.tw_journal.specs.Errors.{open_in_all}
 use Rattle.tw_server.specs.Faults.{error_of}
 use Rattle.tw_server.specs.Server.{magic, ServerOpenRefused}
@@ -14,6 +15,7 @@ loop-n-init g c = record {
   same = refl;
   untouched = untouched g.D.Disk.model g.met.D.Disk.only_now c.open.new.disk;
   read = λ bodies on. record { log = []; entries = c.new.ensures; same = refl; sound = nothing_sound };
+  known = ap length c.new.ensures;
   open_now = c.in_ok-journal.ensures.length.1;
   len = c.in_ok-journal.ensures.length.0;
   window = c.on-window.ensures;
@@ -28,6 +30,7 @@ loop-n-preserved g c =
       same = c.take_body.ensures.journal ∙ so_far.same;
       untouched = untouched_join m c.open.new.disk c.loop-n.disk c.take_body.new.disk so_far.untouched c.take_body.ensures.untouched;
       read = λ bodies on. c.in_ok-take_body.ensures.taken bodies (open_now m c.in_ok-journal.journal c.loop-n.server.journal c.open.new.disk c.loop-n.disk bodies so_far.same so_far.untouched on) (so_far.read bodies on);
+      known = c.in_ok-take_body.ensures.known;
       open_now = ap (λ j. is_closed j) c.take_body.ensures.journal ∙ so_far.open_now;
       len = c.take_body.ensures.untouched.len ∙ so_far.len ∙ ap (λ j. journal_end j) (sym c.take_body.ensures.journal);
       window = c.in_ok-take_body.ensures.window;
@@ -67,3 +70,14 @@ returns-in_err-journal-clause-refused g c =
     let m = g.D.Disk.model in
     from_fault (ServerOpenRefused m c.args.disk.now c.open.new.disk) c.from_residual.result (error_of (open_in_all c.in_err-journal.field-0.0)) c.from_residual.ensures.1
     (not_opened m c.args.disk.now c.open.new.disk c.in_err-journal.field-0.0 c.in_err-journal.ensures.refused)
+
+pub returns-in_err-take_body-clause-growth : goal.returns-in_err-take_body-clause-growth
+returns-in_err-take_body-clause-growth g c tells =
+    let m = g.D.Disk.model in
+    after_reads m c.args.disk.now c.open.new.disk c.take_body.new.disk (IsLongerBy m c.args.disk.now 29) g.met.D.Disk.counts_now (c.open.ensures.growth tells) (c.open.ensures.kept.tells ∙ tells)
+    (untouched_join m c.open.new.disk c.loop-n.disk c.take_body.new.disk c.loop-n.invariant.untouched c.take_body.ensures.untouched)
+
+pub returns-clause-growth : goal.returns-clause-growth
+returns-clause-growth g c tells =
+    let m = g.D.Disk.model in
+    after_reads m c.args.disk.now c.open.new.disk c.loop-n.disk (IsLongerBy m c.args.disk.now 29) g.met.D.Disk.counts_now (c.open.ensures.growth tells) (c.open.ensures.kept.tells ∙ tells) c.loop-n.invariant.untouched

@@ -3,7 +3,6 @@ use Rattle.tw_journal.specs.Journal.{IsOpenOn}
 use Rattle.tw_server.specs.Faults.{error_of}
 use Rattle.tw_server.specs.Log.{follows, entry_of, accepted_in}
 use Rattle.tw_server.specs.Server.{magic, IsReadTo, IsBadBody}
-use Rattle.tw_server.specs.declared.server.Server.{Server}
 use Rattle.tw_server.specs.declared.server.ServerError.{ServerError}
 use Rattle.tw_journal.proofs.Places.{still_open}
 use Rattle.tw_journal.specs.Errors.{read_in_all}
@@ -40,7 +39,6 @@ returns-in_default-clause-damaged g c bodies on read =
 pub returns-clause-taken : goal.returns-clause-taken
 returns-clause-taken g c bodies on read =
     let is = c.as_slice.ensures.value ∙ c.in_ok-body.ensures.body magic bodies on in
-    let next : Server = record { journal = c.args.self.now.journal; versions = c.push.new.self } in
     let got = some_true (follows read.log c.as_slice.result.now) (entry_of (accepted_in c.as_slice.result.now)) c.in-Some.entry (c.in-Some.ensures.next read.log read.entries) in
     let inside : c.args.n < length bodies = let n = c.requires.inside in let k = on.count in omega (arith, n, k) in
-    read_on c.args.self.now next bodies c.args.n c.as_slice.result.now read inside is c.next_entry.ensures.bytes got.0 (c.push.ensures ∙ ap (λ es. es ++ c.in-Some.entry ∷ []) c.in_ok-make_room.ensures.same ∙ ap (λ e. c.args.self.now.versions.entries.items ++ e ∷ []) got.1)
+    read_on c.args.self.now _ bodies c.args.n c.as_slice.result.now read inside is c.next_entry.ensures.bytes got.0 (c.push.ensures ∙ ap (λ es. es ++ c.in-Some.entry ∷ []) c.in_ok-make_room.ensures.same ∙ ap (λ e. c.args.self.now.versions.entries.items ++ e ∷ []) got.1)
