@@ -1,6 +1,6 @@
 -- A store that has taken its last change back.
-use Rattle.std.specs.Prelude.{cond, slice_get, not, option_map, IfSome}
-use Rattle.std.proofs.Common.{◌≡◌, inl, ℕ, zero, suc, ◌+◌, ◌-◌, ◌<◌, ◌^◌, Bool, true, false, ◌&&◌, List, [], ◌∷◌, ◌++◌, length, take, Option, Some, None, Result, Ok, Err, refl, sym, ap, subst, ◌∙◌, add-one, arith}
+use Rattle.std.specs.Prelude.{cond, slice_get, option_map, IfSome}
+use Rattle.std.proofs.Common.{◌≡◌, inl, ℕ, ◌+◌, ◌<◌, ◌^◌, Bool, true, false, ◌&&◌, List, [], ◌∷◌, ◌++◌, length, Option, Some, None, Result, Ok, Err, refl, sym, ap, subst, ◌∙◌, arith}
 use Rattle.tw_world.specs.Disk.{DiskModel}
 use Rattle.tw_world.specs.Disk as disk
 use Rattle.tw_world.proofs.Moments as moments

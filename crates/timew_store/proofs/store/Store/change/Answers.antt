@@ -1,4 +1,4 @@
-use Rattle.std.proofs.Common.{◌≡◌, ℕ, length, rules, refl, sym, subst, arith}
+use Rattle.std.proofs.Common.{◌≡◌, length, rules, refl, sym, subst}
 use Rattle.timew_store.specs.Held.{replaced}
 use Rattle.timew_store.specs.Store.{HoldMonths}
 use Rattle.timew_store.specs.Writing.{changes_of}

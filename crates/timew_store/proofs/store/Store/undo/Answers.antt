@@ -1,7 +1,5 @@
-use Rattle.std.proofs.Common.{◌≡◌, List, ℕ, [], ◌∷◌, Some, Option, ap, sym, subst, ◌∙◌, refl}
-use Rattle.std.specs.Global.{Vec}
-use Rattle.tw_world.specs.Folder.{Files}
-use Rattle.timew_store.specs.Body.{FileChange, AreMonths, body_of, names_rise}
+use Rattle.std.proofs.Common.{◌≡◌, List, ℕ, [], ◌∷◌, Some, ap, sym, subst, ◌∙◌, refl}
+use Rattle.timew_store.specs.Body.{FileChange, AreMonths, body_of}
 use Rattle.timew_store.specs.Body.Step.{Undo}
 use Rattle.timew_store.specs.Held.{replaced}
 use Rattle.timew_store.specs.Store.{HoldMonths}
