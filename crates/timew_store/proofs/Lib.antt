@@ -28,6 +28,7 @@ pub mod FirstSpot
 pub mod AsTheyStand
 pub mod MonthTexts
 pub mod ExactMonth
+pub mod Newlines
 pub mod KnownMonths
 pub mod Changing
 pub mod GatheredLines

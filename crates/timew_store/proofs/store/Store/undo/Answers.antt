@@ -71,7 +71,7 @@ returns-in_err-write-clause-refused g c =
       _,
       back_is m n c.args.self.now c.args.folder.now c.args.disk.now bodies history on change top c.in_ok-prepared.prepared.months.rows (c.in_ok-prepared.ensures.unedited (m.seen c.args.folder.now) on.months) months.rows_are,
     ))
-    c.in_err-write.ensures.kept c.in_err-write.ensures.refused)
+    (c.in_err-write.ensures.kept, c.in_err-write.ensures.before) c.in_err-write.ensures.refused)
 
 pub returns-clause-undone : goal.returns-clause-undone
 returns-clause-undone g c = λ bodies history on.
