@@ -1,15 +1,14 @@
 -- An interval is shortened by a length that is counted up to a greatest number.
-use Rattle.std.specs.Prelude.{min, nat_lt, nat_le}
-use Rattle.std.proofs.Common.{◌≡◌, ℕ, ◌+◌, ◌-◌, ◌*◌, ◌<◌, ◌≤◌, Bool, true, false, cond, ◌==◌, List, Option, Some, Result, Ok, Err, refl, sym, ap, subst, ◌∙◌, inl, inr, arith, le-ltb}
+use Rattle.std.specs.Prelude.{min, nat_le}
+use Rattle.std.proofs.Common.{◌≡◌, ℕ, ◌+◌, ◌*◌, ◌<◌, Bool, false, cond, ◌==◌, List, Option, Ok, Err, refl, sym, ap, ◌∙◌, inl, inr, arith}
 use Rattle.std.proofs.lemmas.Bool.{cond-false, cases_lt}
 use Rattle.std.proofs.lemmas.Bool.Decides.{nat_tests}
 use Rattle.tw_time.specs.declared.length.Length.{Length}
 use Rattle.timew_store.specs.declared.interval.Interval.{Interval}
 use Rattle.timew_store.specs.Interval.{limit}
 use Rattle.timew_store.specs.Placing.{spanning}
-use Rattle.timew_cmd.specs.declared.error.TimewError.{TimewError}
 use Rattle.timew_cmd.specs.declared.error.TimewError.TheVariants.{Range}
-use Rattle.timew_cmd.specs.Planned.{◌>>=◌, replaced, row_at, closed_end, seconds_of, shorter, lengthened, shortened, place, is_in_range}
+use Rattle.timew_cmd.specs.Planned.{replaced, row_at, closed_end, seconds_of, shorter, shortened}
 
 later : (word start end seconds : ℕ) → end < start + seconds → shorter word start end seconds ≡ Err (Range word)
 later word start end seconds h = cond-false _ _ _ (lt-leb h)

@@ -136,14 +136,22 @@ fn place_of(rows: &Vec<Interval>, new: &Interval) -> usize
     at
 }
 
+/// The rows with an interval among them, behind its equals.
+pub fn inserted(new: Interval, rows: Vec<Interval>) -> Result<Vec<Interval>, Memory>
+    ensures { IfOk result (λ out. out.items ≡ inserted new rows.items) }
+{
+    let mut rows = rows;
+    let at = place_of(&rows, &new);
+    rows.insert(at, new)?;
+    Ok(rows)
+}
+
 /// The rows with an interval placed among them: they keep what lies outside it.
 pub fn placed(alloc: Global, new: Interval, rows: Vec<Interval>) -> Result<Vec<Interval>, Memory>
     ensures { IfOk result (λ out. out.items ≡ placed new rows.items) }
 {
-    let mut out = all_outside(alloc, &new, rows)?;
-    let at = place_of(&out, &new);
-    out.insert(at, new)?;
-    Ok(out)
+    let out = all_outside(alloc, &new, rows)?;
+    inserted(new, out)
 }
 
 /// The rows once more, with room for one behind them.

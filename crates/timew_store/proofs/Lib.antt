@@ -13,6 +13,7 @@ pub mod TailBack
 pub mod BareTags
 pub mod Lines
 pub mod LineBack
+pub mod ExactLine
 pub mod ReadRows
 pub mod Judging
 pub mod Grouping
@@ -26,6 +27,9 @@ pub mod Late
 pub mod FirstSpot
 pub mod AsTheyStand
 pub mod MonthTexts
+pub mod ExactMonth
+pub mod Newlines
+pub mod KnownMonths
 pub mod Changing
 pub mod GatheredLines
 pub mod ReadOn

@@ -1,12 +1,9 @@
 -- The month files after a change.
 use Rattle.std.specs.Prelude.{cond, unwrap_or, fold}
-use Rattle.std.proofs.Common.{◌≡◌, ℕ, Bool, true, false, ◌&&◌, List, [], ◌∷◌, ◌++◌, map, Option, Some, None, refl, sym, ap, subst, ◌∙◌}
-use Rattle.std.specs.List.{AllByRecursion, list_all}
-use Rattle.std.specs.FinMap.{get, keys, insert}
-use Rattle.std.specs.FinMap.Entries.{by_order}
-use Rattle.std.specs.declared.cmp.Ordering.{Ordering}
-use Rattle.std.specs.declared.cmp.Ordering.TheVariants.{Less, Equal, Greater}
-use Rattle.tw_world.specs.Folder.{Files, bytes_cmp, same_bytes, add_name}
+use Rattle.std.proofs.Common.{◌≡◌, ℕ, Bool, true, false, ◌&&◌, List, [], ◌∷◌, ◌++◌, map, Option, Some, refl, sym, ap, ◌∙◌}
+use Rattle.std.specs.List.{list_all}
+use Rattle.std.specs.FinMap.{get, keys}
+use Rattle.tw_world.specs.Folder.{Files, same_bytes, add_name}
 use Rattle.timew_store.specs.declared.files.MonthFile.{MonthFile}
 use Rattle.timew_store.specs.Body.{FileChange, is_month_name, AreMonths}
 use Rattle.timew_store.specs.Gathered.{NamedBytes, files_of, months_in}

@@ -1,27 +1,22 @@
 -- A change that is prepared, and a store that has made it.
 use Rattle.std.specs.Prelude.{cond}
-use Rattle.std.proofs.Common.{◌≡◌, inl, inr, ℕ, zero, suc, ◌+◌, ◌^◌, ◌<◌, Bool, true, false, List, [], ◌∷◌, ◌++◌, length, Option, Some, None, refl, sym, ap, subst, ◌∙◌, arith}
+use Rattle.std.proofs.Common.{◌≡◌, inl, ℕ, ◌^◌, ◌<◌, Bool, true, false, List, [], ◌∷◌, ◌++◌, length, Option, refl, sym, ap, subst, ◌∙◌, arith}
 use Rattle.std.proofs.lemmas.List.{append-nil, length-map}
 use Rattle.std.proofs.lemmas.List.Concat.{flat_map-cons}
-use Rattle.std.specs.List.{flat_map, AllByRecursion}
+use Rattle.std.specs.List.{flat_map}
 use Rattle.tw_world.specs.Disk.{DiskModel}
-use Rattle.tw_world.specs.Disk as disk
-use Rattle.tw_world.specs.Crash.{Tells, Settled, LeavesOnly}
 use Rattle.tw_world.specs.Turns.{InTurns, crash_of}
-use Rattle.tw_world.specs.Turns.InTurns.{at_rest, second}
-use Rattle.tw_world.specs.Folder.{Files, FolderModel, same_bytes, is_file_name}
-use Rattle.tw_world.proofs.TurnRules.{turns_weaker}
-use Rattle.tw_journal.specs.Open.{Records}
+use Rattle.tw_world.specs.Turns.InTurns.{at_rest}
+use Rattle.tw_world.specs.Folder.{Files, FolderModel, same_bytes}
 use Rattle.tw_journal.specs.declared.journal.Journal.{Journal}
 use Rattle.timew_store.specs.declared.interval.Interval.{Interval}
 use Rattle.timew_store.specs.declared.write.NewFile.{NewFile}
-use Rattle.timew_store.specs.declared.kept.Months.{Months}
 use Rattle.timew_store.specs.declared.store.Store.{Store}
-use Rattle.timew_store.specs.Body.{FileChange, Step, is_month_name, AreMonths, body_of, step_of, names_rise, ◌>>=◌}
-use Rattle.timew_store.specs.Body.Step.{Change, Undo}
+use Rattle.timew_store.specs.Body.{FileChange, Step, AreMonths, body_of, names_rise, ◌>>=◌}
+use Rattle.timew_store.specs.Body.Step.{Change}
 use Rattle.timew_store.specs.Gathered.{NamedBytes}
 use Rattle.timew_store.specs.History.{History, applied, stepped, with_change}
-use Rattle.timew_store.specs.Held.{Held, OpensTo, OpensToEither, IsAtRest, held_by, bytes_of, replaced, finished, HasOld, AreApart}
+use Rattle.timew_store.specs.Held.{Held, OpensTo, OpensToEither, IsAtRest, held_by, bytes_of, replaced, finished, HasOld}
 use Rattle.timew_store.specs.Kept.{bytes_in, text_in, one_change}
 use Rattle.timew_store.specs.Months.{month_text, month_change, changes_to, all_names}
 use Rattle.timew_store.specs.Writing.{change_of, changes_of, AreFileNames, IsReadyFor, WriteRefused}

@@ -1,6 +1,6 @@
 -- A store that has taken its last change back.
-use Rattle.std.specs.Prelude.{cond, slice_get, not, option_map, IfSome}
-use Rattle.std.proofs.Common.{◌≡◌, inl, ℕ, zero, suc, ◌+◌, ◌-◌, ◌<◌, ◌^◌, Bool, true, false, ◌&&◌, List, [], ◌∷◌, ◌++◌, length, take, Option, Some, None, Result, Ok, Err, refl, sym, ap, subst, ◌∙◌, add-one, arith}
+use Rattle.std.specs.Prelude.{cond, slice_get, option_map, IfSome}
+use Rattle.std.proofs.Common.{◌≡◌, inl, ℕ, ◌+◌, ◌<◌, ◌^◌, Bool, true, false, ◌&&◌, List, [], ◌∷◌, ◌++◌, length, Option, Some, None, Result, Ok, Err, refl, sym, ap, subst, ◌∙◌, arith}
 use Rattle.tw_world.specs.Disk.{DiskModel}
 use Rattle.tw_world.specs.Disk as disk
 use Rattle.tw_world.proofs.Moments as moments
@@ -252,14 +252,18 @@ module _ {F D : Type 0} (m : FolderModel F) (n : DiskModel D) where
   walk_undo_refused old new f0 d0 d1 (reads.Damaged offset) r = r
   walk_undo_refused old new f0 d0 d1 reads.Closed r = r
 
-  same_store : (old new : Store) → new.journal ≡ old.journal → new.months ≡ old.months → new ≡ old
-  same_store old new journals months = ap (λ (j : Journal). let s : Store = record { journal = j; months = new.months } in s) journals ∙ ap (λ (k : Months). let s : Store = record { journal = old.journal; months = k } in s) months
+  -- nothing but the journal may differ
+  abbrev pub Keeps : (old new : Store) → Type 0
+  Keeps old new = (new.months ≡ old.months) × (new.before ≡ old.before)
+
+  same_store : (old new : Store) → new.journal ≡ old.journal → Keeps old new → new ≡ old
+  same_store old new journals same = λ i. record { journal = journals i; months = same.0 i; before = same.1 i }
 
   -- the undo leads back
   abbrev pub Leads : Store → F → D → Type 0
   Leads old f0 d0 = (bodies : List (List ℕ)) (history : History) → IsStoreOn m n old f0 d0 bodies history → (back : Held) × (undone_held (held_by m f0 history) ≡ Ok back)
 
-  append_undo_refused : (old new : Store) (f0 : F) (d0 d1 d2 : D) (body : List ℕ) (e : JournalError) → disk.Untouched n d0 d1 → IsUndoBody m n old f0 d0 body → Leads old f0 d0 → new.months ≡ old.months
+  append_undo_refused : (old new : Store) (f0 : F) (d0 d1 d2 : D) (body : List ℕ) (e : JournalError) → disk.Untouched n d0 d1 → IsUndoBody m n old f0 d0 body → Leads old f0 d0 → Keeps old new
       → RecordRefused n old.journal new.journal d1 d2 (length body + 5) e → UndoJournalRefused m n old new f0 d0 d2 e
   append_undo_refused old new f0 d0 d1 d2 body cause.Disk untouched is leads same r = omega (arith, untouched.kept.faults, r.0)
   append_undo_refused old new f0 d0 d1 d2 body cause.Memory untouched is leads same r = tt
@@ -271,10 +275,10 @@ module _ {F D : Type 0} (m : FolderModel F) (n : DiskModel D) where
   )
   append_undo_refused old new f0 d0 d1 d2 body cause.Closed untouched is leads same r = r.0
 
-  pub write_undo_refused : (old new : Store) (f0 f1 : F) (d0 d1 d2 : D) (body : List ℕ) (e : StoreError) → disk.Untouched n d0 d1 → IsUndoBody m n old f0 d0 body → Leads old f0 d0 → new.months ≡ old.months
+  pub write_undo_refused : (old new : Store) (f0 f1 : F) (d0 d1 d2 : D) (body : List ℕ) (e : StoreError) → disk.Untouched n d0 d1 → IsUndoBody m n old f0 d0 body → Leads old f0 d0 → Keeps old new
       → WriteRefused m n old.journal new.journal f0 f1 d1 d2 body e → UndoRefused m n old new f0 f1 d0 d2 (not_written e)
   write_undo_refused old new f0 f1 d0 d1 d2 body write.Folder untouched is leads same r = (r.0, (body, is, λ bodies on. r.1 bodies (still_open n magic old.journal d0 d1 bodies untouched on)))
-  write_undo_refused old new f0 f1 d0 d1 d2 body (write.Journal e) untouched is leads same r = (r.1, same, append_undo_refused old new f0 d0 d1 d2 body e untouched is leads same r.0)
+  write_undo_refused old new f0 f1 d0 d1 d2 body (write.Journal e) untouched is leads same r = (r.1, same.0, append_undo_refused old new f0 d0 d1 d2 body e untouched is leads same r.0)
   write_undo_refused old new f0 f1 d0 d1 d2 body write.Memory untouched is leads same r = absurd r
 
   -- why the old bytes are not put back

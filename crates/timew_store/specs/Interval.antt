@@ -1,5 +1,6 @@
 -- Intervals of time, and lists of them.
 use Rattle.std.specs.Prelude.{◌≡◌, ℕ, ◌<◌, ◌≤◌, Bool, true, false, cond, not, ◌&&◌, ◌||◌, ◌==◌, nat_lt, nat_le, if◌then◌else◌, ◌-◌, length, slice_get, List, [], ◌∷◌, Option, Some, None}
+use Rattle.std.specs.Coded.{×_prop, Unit-prop, le_prop}
 use Rattle.std.specs.List.{list_all}
 use Rattle.std.specs.Ordering.{is_lt}
 use Rattle.tw_world.specs.Folder.{bytes_cmp}
@@ -59,6 +60,11 @@ tags_rise (tag ∷ tags) = tags_rise_from tag tags
 abbrev pub IsEnd : ℕ → Option ℕ → Type 0
 IsEnd start None = Unit {0}
 IsEnd start (Some end) = (start ≤ end) × (end < limit)
+
+-- it has one proof at most
+pub IsEnd-prop : (start : ℕ) (end : Option ℕ) → IsProp (IsEnd start end)
+IsEnd-prop start None = Unit-prop
+IsEnd-prop start (Some end) = ×_prop le_prop le_prop
 
 pub record IsRow (r : Interval) : Type 0 where
   pub start : r.start < limit

@@ -17,3 +17,5 @@ pub mod Writing
 pub mod Writable
 pub mod Store
 pub mod Undo
+pub mod Exact
+pub mod Known

@@ -1,5 +1,5 @@
 -- An undo, and why it is refused.
-use Rattle.std.specs.Prelude.{◌≡◌, true, ◌⊎◌, ◌<◌, ◌+◌, ◌^◌, ℕ, List, [], ◌∷◌, ◌++◌, length, take, slice_index_or, Option, Some, None, Result, Ok, Err}
+use Rattle.std.specs.Prelude.{◌≡◌, true, ◌<◌, ◌+◌, ◌^◌, ℕ, List, [], ◌∷◌, ◌++◌, length, Some, None, Result, Ok, Err}
 use Rattle.tw_world.specs.Disk.{DiskModel, Rose, Untouched}
 use Rattle.tw_world.specs.Disk as disk
 use Rattle.tw_world.specs.Folder.{Files, FolderModel}
@@ -9,9 +9,9 @@ use Rattle.tw_journal.specs.declared.error.ReadError.{ReadError}
 use Rattle.tw_journal.specs.declared.error.ReadError.TheVariants as reads
 use Rattle.tw_journal.specs.declared.error.JournalError.{JournalError}
 use Rattle.tw_journal.specs.declared.error.JournalError.TheVariants as cause
-use Rattle.timew_store.specs.Body.{FileChange, body_of, step_of}
+use Rattle.timew_store.specs.Body.{FileChange, body_of}
 use Rattle.timew_store.specs.Body.Step.{Undo}
-use Rattle.timew_store.specs.History.{History, Stands, exchanged}
+use Rattle.timew_store.specs.History.{History, exchanged}
 use Rattle.timew_store.specs.Held.{magic, Held, OpensTo, OpensToEither, held_by, replaced}
 use Rattle.timew_store.specs.Loading.{IsNoStep}
 use Rattle.timew_store.specs.Rows.{rows_of}

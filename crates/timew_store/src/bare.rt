@@ -1,12 +1,16 @@
 // Tags without quotes and no annotation, as most lines have them: they are taken out of the line as they stand in it.
-ghost use Rattle.std.specs.Prelude.{◌≡◌, ◌≤◌, [], take, length, not, nat_lt, ◌==◌, ◌||◌, true, None, Some, IfOk, IfSome};
+ghost use Rattle.std.specs.Prelude.{◌≡◌, ◌≤◌, ◌++◌, ◌∷◌, [], take, length, not, nat_lt, ◌==◌, ◌||◌, true, IfOk, IfSome};
 ghost use Rattle.std.specs.List.{list_all};
-ghost use Rattle.timew_store.specs.Tail.{is_bare, marked};
+ghost use Rattle.std.specs.Ordering.{is_lt};
+ghost use Rattle.tw_world.specs.Folder.{bytes_cmp};
+ghost use Rattle.timew_store.specs.Exact.{AreWritten};
+ghost use Rattle.timew_store.specs.Interval.{tags_rise};
+ghost use Rattle.timew_store.specs.Tail.{is_bare};
 
 use crate::interval::Texts;
-use crate::tail::{add_tag, as_text, is_control, is_special};
+use crate::tail::{as_text, is_control, is_special};
 use std::alloc::Global;
-use tw_world::Memory;
+use tw_world::{Memory, Text};
 
 fn is_bare(byte: u8) -> bool
     ensures { result ≡ is_bare byte }
@@ -26,9 +30,25 @@ fn tag_length(bytes: &[u8]) -> usize
     at
 }
 
-/// The tags behind ` # `, where each has no quotes and no annotation follows them.
+fn is_before(tag: &Text, other: &str) -> bool
+    ensures { result ≡ is_lt (bytes_cmp tag.now other.now) }
+{
+    tag.as_str() < other
+}
+
+// Whether a tag stands behind these in byte order.
+fn is_behind(tags: &Vec<Text>, tag: &str) -> bool
+    ensures { tags_rise tags.now.items ≡ true → result ≡ true → tags_rise (tags.now.items ++ tag.now ∷ []) ≡ true }
+{
+    if tags.len() == 0 {
+        return true;
+    }
+    is_before(&tags[tags.len() - 1], tag)
+}
+
+/// The tags behind ` # `, where they stand as they are written, each without quotes, and no annotation follows them.
 pub(crate) fn bare_tags(alloc: Global, bytes: &[u8]) -> Result<Option<Texts>, Memory>
-    ensures { IfOk result (λ read. IfSome read (λ tags. marked bytes.now ≡ Some (tags, []))) }
+    ensures { IfOk result (λ read. IfSome read (λ tags. AreWritten tags bytes.now)) }
 {
     let mut tags = Vec::with_capacity(alloc, 2)?;
     let mut rest = bytes;
@@ -40,7 +60,10 @@ pub(crate) fn bare_tags(alloc: Global, bytes: &[u8]) -> Result<Option<Texts>, Me
         let Some(text) = as_text(tag) else {
             return Ok(None);
         };
-        add_tag(alloc, &mut tags, text)?;
+        if !is_behind(&tags, text) {
+            return Ok(None);
+        }
+        tags.push(Text::from_str(alloc, text)?)?;
         if more.len() == 0 {
             return Ok(Some(Texts::of(tags)));
         }

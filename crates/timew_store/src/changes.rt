@@ -5,7 +5,7 @@ ghost use Rattle.tw_world.specs.Folder.{Files, same_bytes, add_name};
 ghost use Rattle.timew_store.specs.Body.{AreMonths};
 ghost use Rattle.timew_store.specs.Gathered.{files_of, months_in};
 ghost use Rattle.timew_store.specs.Held.{replaced};
-ghost use Rattle.timew_store.specs.Kept.{bytes_in, text_in, names_in, with_names, one_change, are_named};
+ghost use Rattle.timew_store.specs.Kept.{bytes_in, text_in, names_in, with_names, one_change};
 ghost use Rattle.timew_store.specs.Months.{changes_to};
 ghost use Rattle.timew_store.specs.Rows.{rows_of};
 ghost use Rattle.timew_store.specs.Writable.{IsWritable};
@@ -13,6 +13,7 @@ ghost use Rattle.timew_store.specs.Writing.{changes_of};
 
 use crate::files::MonthFile;
 use crate::intervals::Intervals;
+use crate::kept::Months;
 use crate::tail::add_tag;
 use crate::texts::texts_of;
 use crate::write::NewFile;
@@ -99,20 +100,19 @@ fn add_change(
 /// What becomes of each month file whose text differs, in byte order of the names.
 pub(crate) fn changes_to(
     alloc: Global,
-    kept: &Vec<MonthFile>,
+    months: &Months,
     rows: &Intervals,
 ) -> Result<Vec<NewFile>, Memory>
-    requires { are_named kept.now.items ≡ true }
-    ensures changes { IfOk result (λ changes. (files : Files) → files_of kept.now.items ≡ months_in files → changes_of changes.items ≡ changes_to files rows.now) }
+    ensures changes { IfOk result (λ changes. (files : Files) → files_of months.now.files.items ≡ months_in files → changes_of changes.items ≡ changes_to files rows.now) }
     ensures named { IfOk result (λ changes. AreMonths (changes_of changes.items)) }
     ensures writable { OnOk result (AllByRecursion IsWritable rows.now) }
     ensures hold { OnOk result ((files : Files) → rows_of (replaced files (changes_to files rows.now)) ≡ Ok rows.now) }
 {
-    let months = texts_of(alloc, rows.as_slice())?;
-    let names = all_names(alloc, kept, &months)?;
+    let texts = texts_of(alloc, months, rows.as_slice())?;
+    let names = all_names(alloc, &months.files, &texts)?;
     let mut changes = Vec::new(alloc);
     for name in &names {
-        add_change(alloc, kept, &months, name, &mut changes)?;
+        add_change(alloc, &months.files, &texts, name, &mut changes)?;
     }
     Ok(changes)
 }

@@ -13,7 +13,7 @@ ghost use Rattle.timew_store.specs.Store.{HoldMonths, MonthsRefused};
 use crate::error::{LoadError, StoreError};
 use crate::kept::Months;
 use crate::name::is_month_name;
-use crate::rows::read_rows;
+use crate::rows::{ReadRows, read_known};
 use std::alloc::Global;
 use tw_world::{Folder, Memory, Text};
 
@@ -75,6 +75,6 @@ pub(crate) fn read_months<F: Folder>(alloc: Global, folder: &mut F) -> Result<Mo
     ensures refused { IfErr result (λ e. MonthsRefused F.model folder.old folder.new e) }
 {
     let files = read_files(alloc, folder)?;
-    let rows = read_rows(alloc, &files)?;
-    Ok(Months { files, rows })
+    let ReadRows { rows, known } = read_known(alloc, &files)?;
+    Ok(Months { files, rows, known })
 }

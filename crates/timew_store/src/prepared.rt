@@ -37,10 +37,14 @@ pub(crate) fn prepared_change(
     ensures named { IfOk result (λ p. AreMonths (changes_of p.changes.items)) }
     ensures rows { IfOk result (λ p. p.months.rows ≡ next) }
 {
-    let changes = changes_to(alloc, &months.files, &next)?;
+    let changes = changes_to(alloc, months, &next)?;
     let body = change_body(alloc, &changes)?;
     let files = files_after(alloc, &months.files, &changes)?;
-    let months = Months { files, rows: next };
+    let months = Months {
+        files,
+        rows: next,
+        known: Vec::new(alloc),
+    };
     Ok(Prepared {
         changes,
         body,

@@ -1,13 +1,15 @@
 // The intervals that month files hold.
 ghost use Rattle.std.specs.Prelude.{◌≡◌, [], ◌∷◌, List, fold, map, option_map, IfOk, IfErr, IfSome, Ok, None, Some};
 ghost use Rattle.timew_store.specs.Gathered.{RowsRefused, files_of, lines_in, spot_place, seat_of, seats_of, AreSorted, AreSeats, IsGathered, lesser, is_place, first_spot};
+ghost use Rattle.timew_store.specs.Known.{AreKnown};
 ghost use Rattle.timew_store.specs.Rows.{judged, late_from, rows_in};
 
 use crate::files::MonthFile;
 use crate::gathering::{Gathered, Seat, Spot, gather};
 use crate::interval::Interval;
 use crate::intervals::Intervals;
-use crate::month::{MonthError, read_month};
+use crate::known::{KnownText, add_month};
+use crate::month::{MonthError, read_lines};
 use crate::order::{goes_past, later_end};
 use std::alloc::Global;
 use tw_world::{Memory, Text};
@@ -32,22 +34,31 @@ impl From<Memory> for RowsError {
     }
 }
 
+/// The intervals of month files, and which of the files are the text of some of them.
+#[derive(Drop)]
+pub(crate) struct ReadRows {
+    pub rows: Intervals,
+    pub known: Vec<KnownText>,
+}
+
 // The intervals, where each line is one and they stand in order. It is so in files that no hand has changed.
-fn rows_as_they_stand(alloc: Global, files: &Vec<MonthFile>) -> Result<Option<Intervals>, Memory>
-    ensures { IfOk result (λ rows. IfSome rows (λ rows. judged (lines_in (files_of files.now.items)) ≡ Ok rows)) }
+fn rows_as_they_stand(alloc: Global, files: &Vec<MonthFile>) -> Result<Option<ReadRows>, Memory>
+    ensures rows { IfOk result (λ read. IfSome read (λ r. judged (lines_in (files_of files.now.items)) ≡ Ok r.rows)) }
+    ensures known { IfOk result (λ read. IfSome read (λ r. AreKnown files.now.items r.rows r.known.items)) }
 {
     let mut all = Vec::new(alloc);
-    for file in files {
-        match read_month(alloc, &file.bytes) {
-            Ok(rows) => {
-                let mut rows = rows;
-                all.append(&mut rows)?;
-            }
+    let mut known = Vec::new(alloc);
+    for (at, file) in files.iter().enumerate() {
+        match read_lines(alloc, &file.bytes) {
+            Ok(month) => add_month(&mut all, &mut known, at, month)?,
             Err(MonthError::Memory) => return Err(Memory),
             Err(MonthError::Line { line: _ }) => return Ok(None),
         }
     }
-    Ok(Intervals::in_order(all))
+    match Intervals::in_order(all) {
+        Some(rows) => Ok(Some(ReadRows { rows, known })),
+        None => Ok(None),
+    }
 }
 
 fn lesser(least: Option<usize>, place: usize) -> Option<usize>
@@ -135,12 +146,27 @@ fn rows_in_order(alloc: Global, files: &Vec<MonthFile>) -> Result<Intervals, Row
 }
 
 /// The intervals of month files in order, or the first bad line: one that is no interval, or overlaps one that stands before it.
+pub(crate) fn read_known(alloc: Global, files: &Vec<MonthFile>) -> Result<ReadRows, RowsError>
+    ensures ok { IfOk result (λ read. judged (lines_in (files_of files.now.items)) ≡ Ok read.rows) }
+    ensures err { IfErr result (λ e. RowsRefused e (judged (lines_in (files_of files.now.items)))) }
+    ensures known { IfOk result (λ read. AreKnown files.now.items read.rows read.known.items) }
+{
+    match rows_as_they_stand(alloc, files)? {
+        Some(read) => Ok(read),
+        None => Ok(ReadRows {
+            rows: rows_in_order(alloc, files)?,
+            known: Vec::new(alloc),
+        }),
+    }
+}
+
+/// The same intervals alone.
 pub(crate) fn read_rows(alloc: Global, files: &Vec<MonthFile>) -> Result<Intervals, RowsError>
     ensures ok { IfOk result (λ rows. judged (lines_in (files_of files.now.items)) ≡ Ok rows) }
     ensures err { IfErr result (λ e. RowsRefused e (judged (lines_in (files_of files.now.items)))) }
 {
-    match rows_as_they_stand(alloc, files)? {
-        Some(rows) => Ok(rows),
-        None => rows_in_order(alloc, files),
+    match read_known(alloc, files) {
+        Ok(ReadRows { rows, known: _ }) => Ok(rows),
+        Err(error) => Err(error),
     }
 }

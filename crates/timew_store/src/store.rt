@@ -22,6 +22,7 @@ use crate::prepared::{Prepared, prepared_change};
 use crate::undo::{last_change, prepared_undo};
 use crate::write::write_change;
 use std::alloc::Global;
+use std::mem::replace;
 use tw_journal::Journal;
 use tw_world::{Disk, Folder};
 
@@ -33,6 +34,8 @@ use tw_world::{Disk, Folder};
 pub struct Store {
     pub(crate) journal: Journal,
     pub(crate) months: Months,
+    // The months before the last change: they go with the store, since to let them go takes time with each interval.
+    before: Option<Months>,
 }
 
 impl Store {
@@ -54,7 +57,11 @@ impl Store {
     {
         let journal = open_and_finish(alloc, folder, disk)?;
         let months = read_months(alloc, folder)?;
-        Ok(Store { journal, months })
+        Ok(Store {
+            journal,
+            months,
+            before: None,
+        })
     }
 
     /// The intervals.
@@ -90,7 +97,7 @@ impl Store {
                 body: _,
                 months,
             } = prepared;
-            self.months = months;
+            self.put(months);
             return Ok(());
         }
         self.write(folder, disk, prepared)?;
@@ -139,6 +146,7 @@ impl Store {
         ensures length { is_store_closed self.new ≡ false → D.model.len disk.new ≡ store_end self.new }
         ensures refused { IfErr result (λ e. WriteRefused F.model D.model self.old.journal self.new.journal folder.old folder.new disk.old disk.new prepared.body.items e) }
         ensures kept { OnErr result (self.new.months ≡ self.old.months) }
+        ensures before { OnErr result (self.new.before ≡ self.old.before) }
         ensures folder { Kept F.model folder.old folder.new }
         ensures disk { tells.Kept D.model disk.old disk.new }
     {
@@ -148,7 +156,15 @@ impl Store {
             months,
         } = prepared;
         write_change(&mut self.journal, folder, disk, &changes, &body)?;
-        self.months = months;
+        self.put(months);
         Ok(())
+    }
+
+    // Takes these months in the place of those before.
+    fn put(&mut self, months: Months)
+        ensures months { self.new.months ≡ months }
+        ensures journal { self.new.journal ≡ self.old.journal }
+    {
+        self.before = Some(replace(&mut self.months, months));
     }
 }

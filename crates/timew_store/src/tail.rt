@@ -6,7 +6,6 @@ ghost use Rattle.tw_world.specs.Folder.{bytes_cmp};
 ghost use Rattle.tw_world.specs.Folder.{add_name as add_tag};
 ghost use Rattle.timew_store.specs.Tail.{reading_of, stepped, moved, failed, ended, marked, is_special, is_escaped, start, with_tag, with_byte, with_last, with_note};
 
-use crate::bare::bare_tags;
 use crate::interval::Texts;
 use std::alloc::Global;
 use std::cmp::Ordering;
@@ -296,8 +295,9 @@ impl Reader {
     }
 }
 
+/// The tags and the annotation behind ` # `.
 #[tactic(auto, unfolding(crate::specs::Tail::marked))]
-fn marked_by_steps(alloc: Global, bytes: &[u8]) -> Result<Option<(Texts, Text)>, Memory>
+pub(crate) fn marked_by_steps(alloc: Global, bytes: &[u8]) -> Result<Option<(Texts, Text)>, Memory>
     ensures { IfOk result (λ read. read ≡ marked bytes.now) }
 {
     let mut reader = Reader::new(alloc, bytes.len())?;
@@ -305,14 +305,4 @@ fn marked_by_steps(alloc: Global, bytes: &[u8]) -> Result<Option<(Texts, Text)>,
         reader.step(alloc, *byte)?;
     }
     reader.end(alloc)
-}
-
-/// The tags and the annotation behind ` # `.
-pub fn marked(alloc: Global, bytes: &[u8]) -> Result<Option<(Texts, Text)>, Memory>
-    ensures { IfOk result (λ read. read ≡ marked bytes.now) }
-{
-    match bare_tags(alloc, bytes)? {
-        Some(tags) => Ok(Some((tags, Text::from_str(alloc, "")?))),
-        None => marked_by_steps(alloc, bytes),
-    }
 }

@@ -1,24 +1,27 @@
 // The texts of the months of intervals.
 ghost use Rattle.std.specs.Prelude.{◌≡◌, ◌<◌, ◌≤◌, ◌++◌, ◌∷◌, ℕ, List, [], true, length, take, OnOk, IfOk};
 ghost use Rattle.std.specs.List.{AllByRecursion};
-ghost use Rattle.tw_world.specs.Folder.{same_bytes, add_name};
+ghost use Rattle.tw_world.specs.Folder.{same_bytes};
 ghost use Rattle.timew_store.specs.Body.{is_month_name};
-ghost use Rattle.timew_store.specs.Gathered.{file_of, files_of};
+ghost use Rattle.timew_store.specs.Gathered.{files_of};
 ghost use Rattle.timew_store.specs.Interval.{IsRow, AreRows};
 ghost use Rattle.timew_store.specs.Kept.{text_in, with_names, with_months};
+ghost use Rattle.timew_store.specs.Known.{IsMonthOf};
 ghost use Rattle.timew_store.specs.Line.{line_text};
 ghost use Rattle.timew_store.specs.Months.{month_name, month_text};
 ghost use Rattle.timew_store.specs.Writable.{IsWritable};
 
 use crate::files::MonthFile;
 use crate::interval::Interval;
+use crate::kept::Months;
+use crate::known::known_month;
 use crate::months::month_name;
 use crate::writing::put_line;
 use std::alloc::Global;
 use tw_world::{Memory, Text};
 
-// The name of a month file as a text.
-fn name_text(alloc: Global, name: &[u8]) -> Result<Text, Memory>
+/// The name of a month file as a text.
+pub(crate) fn name_text(alloc: Global, name: &[u8]) -> Result<Text, Memory>
     requires { is_month_name name.now ≡ true }
     ensures { IfOk result (λ text. text ≡ name.now) }
 {
@@ -28,7 +31,8 @@ fn name_text(alloc: Global, name: &[u8]) -> Result<Text, Memory>
     }
 }
 
-fn is_in_month(name: &[u8], row: &Interval) -> bool
+/// Whether an interval starts in the month of a file.
+pub(crate) fn is_in_month(name: &[u8], row: &Interval) -> bool
     requires { row.now.start < 253_370_764_800 }
     ensures { result ≡ same_bytes (month_name row.now.start) name.now }
 {
@@ -52,10 +56,8 @@ fn first_month(alloc: Global, rows: &[Interval]) -> Result<(MonthFile, usize), M
     requires are { AreRows rows.now }
     ensures some { IfOk result (λ x. 0 < x.1) }
     ensures inside { IfOk result (λ x. x.1 ≤ length rows.now) }
-    ensures text { IfOk result (λ x. (name : List ℕ) → text_in (file_of x.0 ∷ []) name ≡ month_text name (take x.1 rows.now)) }
-    ensures names { IfOk result (λ x. (names : List (List ℕ)) → add_name x.0.name names ≡ with_months (take x.1 rows.now) names) }
+    ensures month { IfOk result (λ x. IsMonthOf x.0.name x.0.bytes.items (take x.1 rows.now)) }
     ensures good { IfOk result (λ x. is_month_name x.0.name ≡ true) }
-    ensures writable { IfOk result (λ x. AllByRecursion IsWritable (take x.1 rows.now)) }
 {
     let name = month_name(rows[0].start);
     let mut bytes = Vec::new(alloc);
@@ -69,21 +71,44 @@ fn first_month(alloc: Global, rows: &[Interval]) -> Result<(MonthFile, usize), M
     Ok((MonthFile { name, bytes }, count))
 }
 
-/// The text of each month in which intervals start.
-pub(crate) fn texts_of(alloc: Global, rows: &[Interval]) -> Result<Vec<MonthFile>, Memory>
+// The same, of a file that is known to be the text, where there is one.
+fn next_month(
+    alloc: Global,
+    months: &Months,
+    rows: &[Interval],
+) -> Result<(MonthFile, usize), Memory>
+    requires some { 0 < length rows.now }
+    requires are { AreRows rows.now }
+    ensures some { IfOk result (λ x. 0 < x.1) }
+    ensures inside { IfOk result (λ x. x.1 ≤ length rows.now) }
+    ensures month { IfOk result (λ x. IsMonthOf x.0.name x.0.bytes.items (take x.1 rows.now)) }
+    ensures good { IfOk result (λ x. is_month_name x.0.name ≡ true) }
+{
+    match known_month(alloc, months, rows)? {
+        Some(month) => Ok(month),
+        None => first_month(alloc, rows),
+    }
+}
+
+/// The text of each month in which intervals start. What is known of month files is not written again.
+pub(crate) fn texts_of(
+    alloc: Global,
+    months: &Months,
+    rows: &[Interval],
+) -> Result<Vec<MonthFile>, Memory>
     requires { AreRows rows.now }
-    ensures text { IfOk result (λ months. (name : List ℕ) → text_in (files_of months.items) name ≡ month_text name rows.now) }
-    ensures names { IfOk result (λ months. (names : List (List ℕ)) → with_names (files_of months.items) names ≡ with_months rows.now names) }
-    ensures good { IfOk result (λ months. AllByRecursion (λ f. is_month_name f.name ≡ true) months.items) }
+    ensures text { IfOk result (λ texts. (name : List ℕ) → text_in (files_of texts.items) name ≡ month_text name rows.now) }
+    ensures names { IfOk result (λ texts. (names : List (List ℕ)) → with_names (files_of texts.items) names ≡ with_months rows.now names) }
+    ensures good { IfOk result (λ texts. AllByRecursion (λ f. is_month_name f.name ≡ true) texts.items) }
     ensures writable { OnOk result (AllByRecursion IsWritable rows.now) }
 {
-    let mut months = Vec::new(alloc);
+    let mut texts = Vec::new(alloc);
     let mut rest = rows;
     while rest.len() > 0 {
-        let (month, count) = first_month(alloc, rest)?;
-        months.push(month)?;
+        let (month, count) = next_month(alloc, months, rest)?;
+        texts.push(month)?;
         let (_, others) = rest.split_at(count);
         rest = others;
     }
-    Ok(months)
+    Ok(texts)
 }

@@ -114,7 +114,11 @@ pub(crate) fn prepared_undo(
     let body = undo_body(alloc, &changes)?;
     let files = files_after(alloc, &months.files, &changes)?;
     let rows = read_rows(alloc, &files)?;
-    let months = Months { files, rows };
+    let months = Months {
+        files,
+        rows,
+        known: Vec::new(alloc),
+    };
     Ok(Prepared {
         changes,
         body,

@@ -1,4 +1,4 @@
-use Rattle.std.proofs.Common.{ap, sym, ◌∙◌, ◌==◌, length, rules}
+use Rattle.std.proofs.Common.{ap, sym, ◌∙◌, ◌==◌, length}
 use Rattle.timew_cmd.proofs.Printable.{cell_tag}
 use Rattle.timew_cmd.proofs.parts.tag_in.Goals as goal
 

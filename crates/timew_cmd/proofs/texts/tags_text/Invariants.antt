@@ -1,5 +1,5 @@
-use Rattle.std.specs.Prelude.{string_bytes, slice_index_or}
-use Rattle.std.proofs.Common.{◌≡◌, [], drop}
+use Rattle.std.specs.Prelude.{string_bytes}
+use Rattle.std.proofs.Common.{◌≡◌, drop}
 use Rattle.timew_cmd.specs.Texts.{tags_after, tags_text}
 use Rattle.timew_cmd.proofs.texts.tags_text.Given as goal
 

@@ -7,5 +7,5 @@ use Rattle.timew_store.proofs.changes.changes_to.Given as goal
 
 abbrev pub invariant-loop-name : goal.invariant-loop-name
 invariant-loop-name l =
-    changes_of l.changes.items ++ flat_map (one_change (files_of l.kept.items) (files_of l.months.items)) (drop l.name-index l.name-items)
-    ≡ flat_map (one_change (files_of l.kept.items) (files_of l.months.items)) l.name-items
+    changes_of l.changes.items ++ flat_map (one_change (files_of l.months.files.items) (files_of l.texts.items)) (drop l.name-index l.name-items)
+    ≡ flat_map (one_change (files_of l.months.files.items) (files_of l.texts.items)) l.name-items

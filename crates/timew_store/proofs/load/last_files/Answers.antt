@@ -1,5 +1,4 @@
-use Rattle.std.proofs.Common.{◌≡◌, ◌∙◌, sym, ap, List, ℕ, ◌-◌, arith, Some}
-use Rattle.timew_store.specs.Body.{FileChange}
+use Rattle.std.proofs.Common.{◌∙◌, sym, ap, ◌-◌, arith, Some}
 use Rattle.timew_store.specs.Loading.{files_or}
 use Rattle.timew_store.specs.Writing.{changes_of}
 use Rattle.timew_store.proofs.Again.{last_by_number}

@@ -1,6 +1,5 @@
-use Rattle.std.proofs.Common.{ℕ, ◌∙◌, sym, ap, subst, arith}
+use Rattle.std.proofs.Common.{sym, subst, arith}
 use Rattle.tw_world.proofs.Moments.{untouched}
-use Rattle.timew_store.specs.Held.{magic}
 use Rattle.timew_store.specs.declared.body.Record.{Record}
 use Rattle.timew_store.proofs.Walks.{Deepens, walk_begun, walk_ended, walking_on, walking_found}
 use Rattle.timew_store.proofs.undo.last_change.Goals as goal

@@ -1,7 +1,8 @@
-use Rattle.std.proofs.Common.{List, ℕ, Some, ap, sym, subst, ◌∙◌}
-use Rattle.timew_store.specs.Body.{FileChange, AreMonths}
-use Rattle.timew_store.specs.Gathered.{NamedBytes, files_of, months_in}
+use Rattle.std.proofs.Common.{List, Some, ap, sym, subst, ◌∙◌}
+use Rattle.timew_store.specs.Body.{AreMonths}
+use Rattle.timew_store.specs.Gathered.{NamedBytes, files_of}
 use Rattle.timew_store.specs.Held.{replaced}
+use Rattle.timew_store.specs.Known.{AreKnown}
 use Rattle.timew_store.specs.Kept.{first_edited_in}
 use Rattle.timew_store.specs.Writing.{changes_of}
 use Rattle.timew_store.proofs.FilesRead.{judged_files}
@@ -25,6 +26,7 @@ returns-in_err-rows-clause-refused c =
 pub invariant_of-months : goal.invariant_of-months
 invariant_of-months c = record {
   named = named_after c.in_ok-files.files.items c.args.months.now.files.items (changes_of c.in_ok-changes.changes.items) c.in_ok-files.ensures c.args.months.now.named (subst AreMonths (sym c.in_ok-changes.ensures) (exchanged_months (changes_of c.args.change.items) c.requires.named));
+  known_are = subst (AreKnown c.in_ok-files.files.items c.in_ok-rows.rows) (sym c.new.ensures.items) tt;
 }
 
 pub returns-clause-unedited : goal.returns-clause-unedited

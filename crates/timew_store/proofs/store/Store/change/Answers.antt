@@ -1,8 +1,7 @@
-use Rattle.std.proofs.Common.{◌≡◌, ℕ, length, rules, refl, sym, subst, arith}
+use Rattle.std.proofs.Common.{◌≡◌, length, rules, sym, subst}
 use Rattle.timew_store.specs.Held.{replaced}
 use Rattle.timew_store.specs.Store.{HoldMonths}
 use Rattle.timew_store.specs.Writing.{changes_of}
-use Rattle.timew_store.specs.declared.store.Store.{Store}
 use Rattle.timew_store.proofs.Prepares.{stays_here, change_ready, moved_nowhere, moved_on, either_on, none_changed, some_changed, one_body, change_refused}
 use Rattle.timew_store.proofs.Loads.{passed_on}
 use Rattle.timew_store.proofs.store.Store.change.Goals as goal
@@ -12,10 +11,11 @@ returns-in_err-prepared-clause-any_moment g c = λ bodies history on. stays_here
 
 pub returns-then-len-eq0-clause-changed : goal.returns-then-len-eq0-clause-changed
 returns-then-len-eq0-clause-changed g c = λ bodies history on.
-    let new : Store = record { journal = c.args.self.now.journal; months = c.in_ok-prepared.prepared.months } in
+    let files = g.F.Folder.model.seen c.args.folder.now in
+    let changes = changes_of c.in_ok-prepared.prepared.changes.items in
     let none : length c.in_ok-prepared.prepared.changes.items ≡ 0 = search rules in
     moved_nowhere g.F.Folder.model g.D.Disk.model c.args.self.now c.args.folder.now c.args.disk.now bodies history on c.args.next (changes_of c.in_ok-prepared.prepared.changes.items) (c.in_ok-prepared.ensures.changes (g.F.Folder.model.seen c.args.folder.now) on.months)
-    new (none_changed c.in_ok-prepared.prepared.changes.items none) refl (c.in_ok-prepared.ensures.months (g.F.Folder.model.seen c.args.folder.now) on.months)
+    c.put.new.self (none_changed c.in_ok-prepared.prepared.changes.items none) c.put.ensures.journal (subst (HoldMonths (replaced files changes)) (sym c.put.ensures.months) (c.in_ok-prepared.ensures.months files on.months))
 
 pub returns-then-len-eq0-clause-any_moment : goal.returns-then-len-eq0-clause-any_moment
 returns-then-len-eq0-clause-any_moment g c = λ bodies history on. stays_here g.F.Folder.model g.D.Disk.model c.args.self.now.journal c.args.folder.now c.args.disk.now bodies history _ on.rest

@@ -1,7 +1,5 @@
-use Rattle.std.proofs.Common.{◌≡◌, List, ℕ, [], ◌∷◌, Some, Option, ap, sym, subst, ◌∙◌, refl}
-use Rattle.std.specs.Global.{Vec}
-use Rattle.tw_world.specs.Folder.{Files}
-use Rattle.timew_store.specs.Body.{FileChange, AreMonths, body_of, names_rise}
+use Rattle.std.proofs.Common.{◌≡◌, List, ℕ, [], ◌∷◌, Some, ap, sym, subst, ◌∙◌, refl}
+use Rattle.timew_store.specs.Body.{FileChange, AreMonths, body_of}
 use Rattle.timew_store.specs.Body.Step.{Undo}
 use Rattle.timew_store.specs.Held.{replaced}
 use Rattle.timew_store.specs.Store.{HoldMonths}
@@ -73,7 +71,7 @@ returns-in_err-write-clause-refused g c =
       _,
       back_is m n c.args.self.now c.args.folder.now c.args.disk.now bodies history on change top c.in_ok-prepared.prepared.months.rows (c.in_ok-prepared.ensures.unedited (m.seen c.args.folder.now) on.months) months.rows_are,
     ))
-    c.in_err-write.ensures.kept c.in_err-write.ensures.refused)
+    (c.in_err-write.ensures.kept, c.in_err-write.ensures.before) c.in_err-write.ensures.refused)
 
 pub returns-clause-undone : goal.returns-clause-undone
 returns-clause-undone g c = λ bodies history on.

@@ -1,4 +1,5 @@
 use Rattle.std.proofs.Common.{List, ℕ, [], ◌∷◌, ◌++◌, sym, subst}
+use Rattle.tw_journal.specs.declared.journal.Journal.{Journal}
 use Rattle.timew_store.specs.Held.{IsAtRest}
 use Rattle.timew_store.specs.Writing.{changes_of, IsReadyFor}
 use Rattle.timew_store.proofs.Prepares.{file_names}
@@ -9,6 +10,7 @@ write_change-requires-clause-names g c = file_names c.args.prepared.changes.item
 
 pub returns-clause-done : goal.returns-clause-done
 returns-clause-done g c = λ bodies before after ready.
-    subst (λ (b : List ℕ). IsAtRest g.F.Folder.model g.D.Disk.model c.write_change.new.journal c.write_change.new.folder c.write_change.new.disk (bodies ++ b ∷ []) after) c.deref.ensures.value
+    subst (λ (j : Journal). IsAtRest g.F.Folder.model g.D.Disk.model j c.write_change.new.folder c.write_change.new.disk (bodies ++ c.args.prepared.body.items ∷ []) after) (sym c.put.ensures.journal)
+    (subst (λ (b : List ℕ). IsAtRest g.F.Folder.model g.D.Disk.model c.write_change.new.journal c.write_change.new.folder c.write_change.new.disk (bodies ++ b ∷ []) after) c.deref.ensures.value
     (c.in_ok-write_change.ensures.done bodies before after
-    (subst (λ (b : List ℕ). IsReadyFor g.F.Folder.model g.D.Disk.model c.args.self.now.journal c.args.folder.now c.args.disk.now bodies before after b (changes_of c.args.prepared.changes.items)) (sym c.deref.ensures.value) ready))
+    (subst (λ (b : List ℕ). IsReadyFor g.F.Folder.model g.D.Disk.model c.args.self.now.journal c.args.folder.now c.args.disk.now bodies before after b (changes_of c.args.prepared.changes.items)) (sym c.deref.ensures.value) ready)))

@@ -1,0 +1,42 @@
+-- Lines that stand as they are written.
+use Rattle.std.specs.Prelude.{◌≡◌, ℕ, ◌<◌, true, List, [], ◌∷◌, ◌++◌, length}
+use Rattle.std.specs.List.{AllByRecursion}
+use Rattle.std.specs.Str.{is_utf8}
+use Rattle.timew_store.specs.declared.interval.Interval.{Interval}
+use Rattle.timew_store.specs.declared.exact.Tail.{Tail}
+use Rattle.timew_store.specs.Interval.{tags_rise}
+use Rattle.timew_store.specs.Tail.{tags_text, tail_text}
+use Rattle.timew_store.specs.Line.{line_text}
+use Rattle.timew_store.specs.Month.{lines_text}
+use Rattle.timew_store.specs.Writable.{IsGoodTag, IsWritable}
+
+-- tags as they are written, in UTF-8
+pub record AreWritten (tags : List (List ℕ)) (bytes : List ℕ) : Type 0 where
+  pub text : bytes ≡ tags_text tags
+  pub good : AllByRecursion IsGoodTag tags
+  pub rise : tags_rise tags ≡ true
+  pub some : 0 < length tags
+
+-- what a line has behind its moments, as it is written
+pub record IsTail (tags : List (List ℕ)) (note : List ℕ) (bytes : List ℕ) : Type 0 where
+  pub text : bytes ≡ tail_text tags note
+  pub utf8 : AllByRecursion (λ tag. is_utf8 tag ≡ true) tags
+  pub note_utf8 : is_utf8 note ≡ true
+
+abbrev pub read_of : Tail → List (List ℕ) × List ℕ
+read_of t = (t.tags, t.annotation)
+
+-- the line of an interval, which is read back
+pub record IsExact (line : List ℕ) (r : Interval) : Type 0 where
+  pub text : line ≡ line_text r
+  pub writable : IsWritable r
+
+-- a line that is not empty gave one interval more
+abbrev pub AddsExactly : List ℕ → (before after : List Interval) → Type 0
+AddsExactly [] before after = after ≡ before
+AddsExactly (b ∷ line) before after = (r : Interval) × (after ≡ before ++ r ∷ []) × IsExact (b ∷ line) r
+
+-- a month file is the text of these intervals, each of which is read back
+pub record IsText (bytes : List ℕ) (rows : List Interval) : Type 0 where
+  pub text : bytes ≡ lines_text rows
+  pub writable : AllByRecursion IsWritable rows
