@@ -76,11 +76,11 @@ rise_from_push (v ∷ tags) u t d rise less =
     let parts = both (is_lt (bytes_cmp u v)) (tags_rise_from v tags) rise in
     joined (is_lt (bytes_cmp u v)) (tags_rise_from v (tags ++ t ∷ [])) parts.0 (rise_from_push tags v t d parts.1 less)
 
-pub rise_push : (tags : List (List ℕ)) (t last : List ℕ) (n : ℕ) → tags_rise tags ≡ true → n + 1 ≡ length tags → last ≡ get_or tags n last → is_lt (bytes_cmp last t) ≡ true → tags_rise (tags ++ t ∷ []) ≡ true
+pub rise_push : (tags : List (List ℕ)) (t last : List ℕ) (n : ℕ) → tags_rise tags ≡ true → n + 1 ≡ length tags → last ≡ get_or tags n [] → is_lt (bytes_cmp last t) ≡ true → tags_rise (tags ++ t ∷ []) ≡ true
 rise_push [] t last n rise is at less = absurd (omega (arith, is))
 rise_push (u ∷ tags) t last n rise is at less =
     let here : n ≡ length tags = omega (arith, is) in
-    rise_from_push tags u t last rise (subst (λ (l : List ℕ). is_lt (bytes_cmp l t) ≡ true) (at ∙ ap (λ (k : ℕ). get_or (u ∷ tags) k last) here) less)
+    rise_from_push tags u t [] rise (subst (λ (l : List ℕ). is_lt (bytes_cmp l t) ≡ true) (at ∙ ap (λ (k : ℕ). get_or (u ∷ tags) k []) here) less)
 
 pub rise_alone : (tags : List (List ℕ)) (t : List ℕ) → length tags ≡ 0 → tags_rise (tags ++ t ∷ []) ≡ true
 rise_alone [] t none = refl

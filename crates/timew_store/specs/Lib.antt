@@ -19,3 +19,4 @@ pub mod Store
 pub mod Undo
 pub mod Exact
 pub mod Known
+pub mod Few

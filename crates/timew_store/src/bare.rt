@@ -30,27 +30,28 @@ fn tag_length(bytes: &[u8]) -> usize
     at
 }
 
-fn is_before(tag: &Text, other: &str) -> bool
+fn is_before(tag: &str, other: &str) -> bool
     ensures { result ≡ is_lt (bytes_cmp tag.now other.now) }
 {
-    tag.as_str() < other
+    tag < other
 }
 
 // Whether a tag stands behind these in byte order.
-fn is_behind(tags: &Vec<Text>, tag: &str) -> bool
-    ensures { tags_rise tags.now.items ≡ true → result ≡ true → tags_rise (tags.now.items ++ tag.now ∷ []) ≡ true }
+fn is_behind(tags: &Texts, tag: &str) -> bool
+    ensures { tags_rise tags.now ≡ true → result ≡ true → tags_rise (tags.now ++ tag.now ∷ []) ≡ true }
 {
-    if tags.len() == 0 {
+    let count = tags.len();
+    if count == 0 {
         return true;
     }
-    is_before(&tags[tags.len() - 1], tag)
+    is_before(tags.at(count - 1), tag)
 }
 
 /// The tags behind ` # `, where they stand as they are written, each without quotes, and no annotation follows them.
 pub(crate) fn bare_tags(alloc: Global, bytes: &[u8]) -> Result<Option<Texts>, Memory>
     ensures { IfOk result (λ read. IfSome read (λ tags. AreWritten tags bytes.now)) }
 {
-    let mut tags = Vec::with_capacity(alloc, 2)?;
+    let mut tags = Texts::new(alloc);
     let mut rest = bytes;
     loop {
         let (tag, more) = rest.split_at(tag_length(rest));
@@ -65,7 +66,7 @@ pub(crate) fn bare_tags(alloc: Global, bytes: &[u8]) -> Result<Option<Texts>, Me
         }
         tags.push(Text::from_str(alloc, text)?)?;
         if more.len() == 0 {
-            return Ok(Some(Texts::of(tags)));
+            return Ok(Some(tags));
         }
         if more[0] != b' ' {
             return Ok(None);

@@ -9,7 +9,7 @@ use crate::gathering::{Gathered, Seat, Spot, gather};
 use crate::interval::Interval;
 use crate::intervals::Intervals;
 use crate::known::{KnownText, add_month};
-use crate::month::{MonthError, read_lines};
+use crate::month::{MonthError, read_lines, room};
 use crate::order::{goes_past, later_end};
 use std::alloc::Global;
 use tw_world::{Memory, Text};
@@ -41,13 +41,22 @@ pub(crate) struct ReadRows {
     pub known: Vec<KnownText>,
 }
 
+// How many bytes files have together.
+fn size_of(files: &Vec<MonthFile>) -> usize {
+    let mut bytes: usize = 0;
+    for file in files {
+        bytes = bytes.saturating_add(file.bytes.len());
+    }
+    bytes
+}
+
 // The intervals, where each line is one and they stand in order. It is so in files that no hand has changed.
 fn rows_as_they_stand(alloc: Global, files: &Vec<MonthFile>) -> Result<Option<ReadRows>, Memory>
     ensures rows { IfOk result (λ read. IfSome read (λ r. judged (lines_in (files_of files.now.items)) ≡ Ok r.rows)) }
     ensures known { IfOk result (λ read. IfSome read (λ r. AreKnown files.now.items r.rows r.known.items)) }
 {
-    let mut all = Vec::new(alloc);
-    let mut known = Vec::new(alloc);
+    let mut all = room(alloc, size_of(files))?;
+    let mut known = Vec::with_capacity(alloc, files.len())?;
     for (at, file) in files.iter().enumerate() {
         match read_lines(alloc, &file.bytes) {
             Ok(month) => add_month(&mut all, &mut known, at, month)?,

@@ -262,7 +262,7 @@ impl Reader {
         match as_text(&text) {
             Some(tag) => {
                 add_tag(alloc, &mut tags, tag)?;
-                Ok(Some((Texts::of(tags), Text::from_str(alloc, "")?)))
+                Ok(Some((Texts::of(alloc, tags), Text::from_str(alloc, "")?)))
             }
             None => Ok(None),
         }
@@ -277,7 +277,7 @@ impl Reader {
             tags,
         } = self;
         match as_text(&text) {
-            Some(note) => Ok(Some((Texts::of(tags), Text::from_str(alloc, note)?))),
+            Some(note) => Ok(Some((Texts::of(alloc, tags), Text::from_str(alloc, note)?))),
             None => Ok(None),
         }
     }

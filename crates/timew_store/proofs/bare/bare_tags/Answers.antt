@@ -12,7 +12,7 @@ loop-tag-preserved c =
     let rest = c.loop-tag.rest.now in
     let tag = c.split_at.result.0.now in
     let more = c.split_at.result.1.now in
-    let tags = c.loop-tag.tags.items in
+    let tags = c.loop-tag.tags in
     let after : List ℕ = take (length more - 1) (drop 1 more) in
     let cut : after ≡ drop 1 more = take_all (length more - 1) (drop 1 more) (omega (arith, length-drop 1 more)) in
     let some : 0 < length tag = omega (arith, c.if-tag-eq0.false) in
@@ -22,7 +22,7 @@ loop-tag-preserved c =
     let text = c.in-Some.ensures.text.1 in
     let rise : tags_rise (tags ++ tag ∷ []) ≡ true = subst (λ (t : List ℕ). tags_rise (tags ++ t ∷ []) ≡ true) text (c.is_behind.ensures c.loop-tag.invariant.rise c.if-not-is_behind.false) in
     let next : IsNext tags tag = record { some = some; bare = bare; utf8 = c.in-Some.ensures.text.0; rise = rise } in
-    let pushed : tags ++ tag ∷ [] ≡ c.push.new.self.items = ap (λ (t : List ℕ). tags ++ t ∷ []) (sym (c.in_ok-from_str.ensures ∙ text)) ∙ sym c.in_ok-push.ensures.items in
+    let pushed : tags ++ tag ∷ [] ≡ c.push.new.self = ap (λ (t : List ℕ). tags ++ t ∷ []) (sym (c.in_ok-from_str.ensures ∙ text)) ∙ sym c.in_ok-push.ensures.ok in
     subst (λ (ts : List (List ℕ)). AreTaken ts after c.args.bytes.now) pushed (one_more tags rest c.args.bytes.now tag c.loop-tag.invariant next after parts)
 
 pub returns-then-more-eq0 : goal.returns-then-more-eq0
@@ -30,7 +30,7 @@ returns-then-more-eq0 c =
     let rest = c.loop-tag.rest.now in
     let tag = c.split_at.result.0.now in
     let more = c.split_at.result.1.now in
-    let tags = c.loop-tag.tags.items in
+    let tags = c.loop-tag.tags in
     let some : 0 < length tag = omega (arith, c.if-tag-eq0.false) in
     let none : length more ≡ 0 = omega (arith, c.if-more-eq0.true) in
     let all = cut_at_end rest tag more c.tag_length.result c.split_at.ensures.front c.split_at.ensures.back none in
@@ -38,5 +38,5 @@ returns-then-more-eq0 c =
     let text = c.in-Some.ensures.text.1 in
     let rise : tags_rise (tags ++ tag ∷ []) ≡ true = subst (λ (t : List ℕ). tags_rise (tags ++ t ∷ []) ≡ true) text (c.is_behind.ensures c.loop-tag.invariant.rise c.if-not-is_behind.false) in
     let next : IsNext tags tag = record { some = some; bare = bare; utf8 = c.in-Some.ensures.text.0; rise = rise } in
-    let pushed : tags ++ tag ∷ [] ≡ c.push.new.self.items = ap (λ (t : List ℕ). tags ++ t ∷ []) (sym (c.in_ok-from_str.ensures ∙ text)) ∙ sym c.in_ok-push.ensures.items in
-    subst (λ (ts : List (List ℕ)). AreWritten ts c.args.bytes.now) (pushed ∙ sym c.of.ensures) (the_last tags rest c.args.bytes.now tag c.loop-tag.invariant next all)
+    let pushed : tags ++ tag ∷ [] ≡ c.push.new.self = ap (λ (t : List ℕ). tags ++ t ∷ []) (sym (c.in_ok-from_str.ensures ∙ text)) ∙ sym c.in_ok-push.ensures.ok in
+    subst (λ (ts : List (List ℕ)). AreWritten ts c.args.bytes.now) pushed (the_last tags rest c.args.bytes.now tag c.loop-tag.invariant next all)
