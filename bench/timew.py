@@ -1,17 +1,19 @@
 #!/usr/bin/env python3
 """Times `tw timew` beside Timewarrior's `timew` on the same month files, and compares their peak memory.
 
-    bench/timew.py [--tw PATH] [--timew PATH] [--sizes 1000,10000,50000] [--runs 9] [--changes 0] [--commands start,track]
+    bench/timew.py [--tw PATH] [--timew PATH] [--sizes 1000,10000,50000] [--runs 9] [--changes 0] [--days 0] [--commands start,track]
 
 For each number of intervals it writes month files as both programs have them, in UTC: half an hour of each hour from 2015 on, the
 last one some hours ago. With `--changes` so many tracks are made and taken back again before anything is measured, which leaves a
-journal as long use does. The runs of the two programs alternate. A `start` is taken back by a `cancel`, a `stop` ends an interval
+journal as long use does. With `--days` the journal has twenty records a day for so many days before the first interval, as ten intervals
+a day leave that were begun and ended; their month files are not there. The runs of the two programs alternate. A `start` is taken back by a `cancel`, a `stop` ends an interval
 that began ten minutes before, and `track` places an interval where there is none yet; what goes before and after is not measured.
 Each line gives the median of the wall time in milliseconds, the peak of resident memory of one more run in megabytes, and how many
 times less `tw` takes of each. Without `timew` on the machine (Debian's package timewarrior), it measures `tw` alone.
 """
 
 import os
+import struct
 import time
 
 import run
@@ -38,6 +40,26 @@ def write_months(folder, number):
         months.setdefault(time.strftime("%Y-%m", time.gmtime(start)), []).append(line)
     for month, lines in months.items():
         run.write_lines(folder, f"{month}.data", lines)
+
+
+def field(text):
+    return struct.pack(">I", len(text)) + text
+
+
+def write_journal(path, first, days):
+    """A journal of the format that docs/FORMATS.md gives: each record has a month file as it was and as it became."""
+    with open(path, "wb") as out:
+        out.write(b"\2\0\0\0\x08TIMEWJ01" + struct.pack(">QQ", 29, 0))
+        months = {}
+        for start in range(first - days * 24 * HOUR, first, 24 * HOUR // 10):
+            name = time.strftime("%Y-%m.data", time.gmtime(start)).encode()
+            before = months.get(name, b"")
+            begun = before + f"inc {stamp(start)} # code\n".encode()
+            ended = before + f"inc {stamp(start)} - {stamp(start + HOUR)} # code\n".encode()
+            for old, new in [(before, begun), (begun, ended)]:
+                body = b"\1\0\0\0\1" + field(name) + field(old) + field(new)
+                out.write(b"\1" + field(body))
+            months[name] = ended
 
 
 class Hours(run.Program):
@@ -77,6 +99,8 @@ def programs(arguments, folder, number):
             store = os.path.join(folder, name)
             write_months(os.path.join(store, "data"), number)
             run.write_lines(store, "timewarrior.cfg", [])
+            if name == "tw" and arguments.days:
+                write_journal(os.path.join(store, "undo.journal"), first, arguments.days)
             found.append(Hours(argv, dict(base, TIMEWARRIORDB=store, TZ=zone), first))
     for program in found:
         for _ in range(arguments.changes // 2):
@@ -88,6 +112,7 @@ def programs(arguments, folder, number):
 def main():
     parser = run.options("Times tw beside Timewarrior.", "timew", "hours", COMMANDS)
     parser.add_argument("--changes", type=int, default=0, help="changes that were made before")
+    parser.add_argument("--days", type=int, default=0, help="days of twenty changes in the journal")
     run.start(parser, "timew", "hours", programs)
 
 

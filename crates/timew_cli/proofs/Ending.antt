@@ -88,7 +88,7 @@ module _ {F D : Type 0} (m : FolderModel F) (n : DiskModel D) where
   plan_ends w held bodies planned_is (plan.AlreadyOpen id) is rest = (ap (changes held) is, rest)
   plan_ends w held bodies planned_is (plan.NoInterval id) is rest = (ap (changes held) is, rest)
   plan_ends w held bodies planned_is (plan.Range word) is rest = (ap (changes held) is, rest)
-  plan_ends w held bodies planned_is plan.Memory is rest = tt
+  plan_ends w held bodies planned_is plan.Memory is rest = rest
 
   pub plan_fault : (w : Outside F D) (store : Store) (e : TimewError) → IsFaultOf m n w store (plan_cause e)
   plan_fault w store (plan.Overlap id) = tt
@@ -101,13 +101,17 @@ module _ {F D : Type 0} (m : FolderModel F) (n : DiskModel D) where
   -- ---- a change
 
   module _ (old new : Store) (f0 f1 : F) (d0 d1 : D) (next : List Interval) where
+    stays_whole : (bodies : List (List ℕ)) (history : History) → IsStoreOn m n old f0 d0 bodies history → f1 ≡ f0 → d1 ≡ d0 → Rests m n f1 d1 bodies (held_by m f0 history)
+    stays_whole bodies history on same_f same_d =
+        subst (λ (f : F). Rests m n f d1 bodies (held_by m f0 history)) (sym same_f) (subst (λ (d : D). Rests m n f0 d bodies (held_by m f0 history)) (sym same_d) (rests old f0 d0 bodies history on))
+
     too_long : (bodies : List (List ℕ)) (history : History) (bytes : ℕ) (body : List ℕ) → IsStoreOn m n old f0 d0 bodies history → f1 ≡ f0 → d1 ≡ d0 → IsChangeBody m n old f0 d0 next body → bytes ≡ length body + 5
         → IsTooLong m n (went f0 f1 d0 d1) (changes (held_by m f0 history) (Ok next)) bodies (held_by m f0 history) bytes
     too_long bodies history bytes body on same_f same_d is size = record {
       carried = record { held = changed (held_by m f0 history) next; adds = change_bodies (changes_to (m.seen f0) next); text = stored (length next) };
       is = refl;
       size = (body, is bodies history on, size);
-      stays = subst (λ (f : F). Rests m n f d1 bodies (held_by m f0 history)) (sym same_f) (subst (λ (d : D). Rests m n f0 d bodies (held_by m f0 history)) (sym same_d) (rests old f0 d0 bodies history on));
+      stays = stays_whole bodies history on same_f same_d;
     }
 
     pub change_ends : (e : StoreError) → ChangeRefused m n old new f0 f1 d0 d1 next e → (bodies : List (List ℕ)) (history : History) → IsStoreOn m n old f0 d0 bodies history
@@ -117,8 +121,8 @@ module _ {F D : Type 0} (m : FolderModel F) (n : DiskModel D) where
     change_ends (write.Journal fault.Closed) r bodies history on = tt
     change_ends (write.Journal (fault.Damaged offset)) r bodies history on = r.1.2.refused
     change_ends (write.Journal (fault.TooLong bytes)) r bodies history on = too_long bodies history bytes r.1.0 on r.0 r.1.2.refused.4 r.1.1 r.1.2.refused.0
-    change_ends (write.Journal fault.Memory) r bodies history on = tt
-    change_ends write.Memory r bodies history on = tt
+    change_ends (write.Journal fault.Memory) r bodies history on = absurd r.1.2.refused
+    change_ends write.Memory r bodies history on = stays_whole bodies history on r.1 r.2
 
     pub change_fault : is_closed old.journal ≡ false → (e : StoreError) → ChangeRefused m n old new f0 f1 d0 d1 next e → IsFaultOf m n (went f0 f1 d0 d1) old (change_cause e)
     change_fault live write.Folder r = r.0
@@ -168,11 +172,11 @@ module _ {F D : Type 0} (m : FolderModel F) (n : DiskModel D) where
           size = (writes.body, writes.one, writes.size);
           stays = stays_read bodies history on r.0 r.2.1.1;
         }
-    undo_ends (undo.Journal fault.Memory) r bodies history on = tt
+    undo_ends (undo.Journal fault.Memory) r bodies history on = stays_read bodies history on r.0 r.2.1
     undo_ends (undo.BadLine file line) r bodies history on = (ap (takes_back (held_by m f0 history)) (r.1 bodies history on), stays_read bodies history on r.0.1 r.0.2)
     undo_ends (undo.Edited file) r bodies history on = (ap (takes_back (held_by m f0 history)) (r.1 bodies history on), stays_read bodies history on r.0.1 r.0.2)
     undo_ends undo.NothingToUndo r bodies history on = (ap (takes_back (held_by m f0 history)) (r.1 bodies history on), stays_read bodies history on r.0.1 r.0.2)
-    undo_ends undo.Memory r bodies history on = tt
+    undo_ends undo.Memory r bodies history on = stays_read bodies history on r.1 r.2
 
     pub undo_fault : is_closed old.journal ≡ false → (e : UndoError) → UndoRefused m n old new f0 f1 d0 d1 e → IsFaultOf m n (went f0 f1 d0 d1) old (undo_cause e)
     undo_fault live undo.Folder r = r.0

@@ -17,13 +17,15 @@ use Rattle.tw_journal.proofs.Unique.{one_records}
 use Rattle.timew_store.specs.Body.{FileChange, step_of}
 use Rattle.timew_store.specs.History.{History, Stands}
 use Rattle.timew_store.specs.Held.{magic, Held, OpensTo, IsAtRest, held_by}
-use Rattle.timew_store.specs.Loading.{OpensAlike, OpeningRefused, IsNoStep, EndsInNoStep, HoldsNoStep}
+use Rattle.timew_store.specs.Loading.{OpensAlike, OpeningRefused, IsNoStep, EndsInNoStep, HoldsNoStep, StillOpen}
 use Rattle.timew_store.specs.Rows.{rows_of}
-use Rattle.timew_store.specs.Store.{IsStoreOn, IsLoadedStore, LoadRefused, IsLoadFault, RestHolding, rows_kept}
+use Rattle.timew_store.specs.Store.{IsStoreOn, IsLoadedStore, LoadRefused, IsLoadFault, LoadSparesDisk, RestHolding, rows_kept}
 use Rattle.timew_store.specs.declared.interval.Interval.{Interval}
 use Rattle.timew_store.specs.declared.store.Store.{Store}
 use Rattle.timew_store.specs.declared.error.LoadError.{LoadError}
 use Rattle.timew_store.specs.declared.error.LoadError.TheVariants as load
+use Rattle.timew_store.proofs.Prepares.{opens_here}
+use Rattle.timew_store.proofs.Stays.{MayStay, DiskMayStay}
 use Rattle.timew_cmd.specs.declared.command.Command.{Command}
 use Rattle.timew_cli.specs.Cause.{load_cause, journal_cause}
 use Rattle.timew_cli.specs.Carried.{Carried, carried_by, carried_out, with_rows}
@@ -57,18 +59,18 @@ module _ {F D : Type 0} (m : FolderModel F) (n : DiskModel D) (command : Command
   -- ---- where nothing was loaded
 
   module _ (f0 f1 : F) (d0 d1 : D) where
-    pub load_ends : (e : LoadError) → LoadRefused m n f0 f1 d0 d1 e → NotCarried m n command now zone (went f0 f1 d0 d1) (load_cause e)
-    load_ends load.Folder r = r
-    load_ends (load.Journal fault.Disk) r = r
-    load_ends (load.Journal fault.Memory) r = tt
-    load_ends (load.Journal (fault.Damaged offset)) r = λ told settled tells. of_either (r tells)
+    pub load_ends : (e : LoadError) → LoadRefused m n f0 f1 d0 d1 e → (LoadSparesDisk e → StillOpen m n f0 f1 d0 d1) → NotCarried m n command now zone (went f0 f1 d0 d1) (load_cause e)
+    load_ends load.Folder r still = r
+    load_ends (load.Journal fault.Disk) r still = r
+    load_ends (load.Journal fault.Memory) r still = λ held opens. still tt opens.told opens.settled opens.tells held opens.opens
+    load_ends (load.Journal (fault.Damaged offset)) r still = λ told settled tells. of_either (r tells)
       where
         of_either : IsDamagedAt magic (n.seen d0) offset ⊎ HoldsNoStep (n.seen d0) offset → IsDamagedAt magic (n.seen d0) offset ⊎ HoldsNoStepAt (n.seen d0) offset
         of_either (inl damaged) = inl damaged
         of_either (inr none) = inr (ends_at (n.seen d0) offset none)
-    load_ends (load.Journal (fault.TooLong bytes)) r = absurd r
-    load_ends (load.Journal fault.Closed) r = absurd r
-    load_ends (load.BadLine file line) r = λ held opens.
+    load_ends (load.Journal (fault.TooLong bytes)) r still = absurd r
+    load_ends (load.Journal fault.Closed) r still = absurd r
+    load_ends (load.BadLine file line) r still = λ held opens.
         let bad = r opens.told opens.settled opens.tells held opens.opens in (
           ap (λ (found : Result (List Interval) (List ℕ × ℕ)). with_rows command held found now zone) bad.0,
           record {
@@ -80,7 +82,7 @@ module _ {F D : Type 0} (m : FolderModel F) (n : DiskModel D) (command : Command
             holds = bad.1.holds;
           },
         )
-    load_ends load.Memory r = tt
+    load_ends load.Memory r still = λ held opens. still tt opens.told opens.settled opens.tells held opens.opens
 
     pub load_wants : (e : LoadError) → LoadRefused m n f0 f1 d0 d1 e → ((held : Held) → disk.Tells n d0 → OpensTo (m.seen f0) (n.seen d0) held → IsLoadFault e) → CanBeCarriedOut m n command now zone (went f0 f1 d0 d1) → load_cause e ≡ causes.Memory
     load_wants load.Folder r sound can = absurd (can.folder_well r)
@@ -135,6 +137,10 @@ module _ {F D : Type 0} (m : FolderModel F) (n : DiskModel D) (command : Command
     stays : Rests m n f2 d2 is_loaded.bodies (held_by m f1 opens.opens.history) → HoldsMore m n w [] held
     stays rest = more [] held (subst (λ (b : List (List ℕ)). Rests m n f2 d2 b held) (sym (append-nil is_loaded.bodies)) (subst (λ (h : Held). Rests m n f2 d2 is_loaded.bodies h) held_same rest))
 
+    still : MayStay m → DiskMayStay n → HoldsMore m n w [] held → OpensTo (m.seen f2) (n.seen d2) held
+    still folder_stays disk_stays h =
+        subst (OpensTo (m.seen f2) (n.seen d2)) h.holds (opens_here m n h.journal f2 d2 (h.bodies ++ []) h.history (m.seen f2) (n.seen d2) h.rest (folder_stays f2 h.rest.tells) (disk_stays d2 h.rest.open_on.rest.tells))
+
     pub does : (text : List ℕ) → EndsWith m n (went f1 f2 d1 d2) (carried_by command (held_by m f1 opens.opens.history) (rows_kept store) now zone) is_loaded.bodies text → Does m n command now zone w held text
     does text ends = record { carried = ends.carried; is = sym expected_same ∙ ends.is; text_is = ends.text_is; after = more ends.carried.adds ends.carried.held ends.after }
 
@@ -177,29 +183,29 @@ module _ {F D : Type 0} (m : FolderModel F) (n : DiskModel D) (command : Command
         → EndsBadly m n (went f1 f2 d1 d2) (carried_by command (held_by m f1 opens.opens.history) (rows_kept store) now zone) (is_loaded store f0 f1 f2 d0 d1 d2 loaded held opens).bodies (held_by m f1 opens.opens.history) cause
     here cause ends held opens = ends (is_loaded store f0 f1 f2 d0 d1 d2 loaded held opens).bodies opens.opens.history (on store f0 f1 f2 d0 d1 d2 loaded held opens)
 
-    pub step_ends : Kept m f0 f1 → disk.Kept n d0 d1 → (cause : Cause)
+    pub step_ends : MayStay m → DiskMayStay n → Kept m f0 f1 → disk.Kept n d0 d1 → (cause : Cause)
         → ((bodies : List (List ℕ)) (history : History) → IsStoreOn m n store f1 d1 bodies history → EndsBadly m n (went f1 f2 d1 d2) (carried_by command (held_by m f1 history) (rows_kept store) now zone) bodies (held_by m f1 history) cause)
         → IsFaultOf m n (went f1 f2 d1 d2) store cause → NotCarried m n command now zone (went f0 f2 d0 d2) cause
-    step_ends folder kept causes.Done ends is = absurd is
-    step_ends folder kept causes.OutFault ends is = absurd is
-    step_ends folder kept causes.DiskFault ends is = omega (arith, kept.faults, is)
-    step_ends folder kept causes.FolderFault ends is = omega (arith, folder.faults, is)
-    step_ends folder kept causes.Memory ends is = tt
-    step_ends folder kept (causes.RecordTooLong bytes) ends is = (is, λ held opens. passes store f0 f1 f2 d0 d1 d2 loaded held opens bytes (here (causes.RecordTooLong bytes) ends held opens))
-    step_ends folder kept (causes.Damaged offset) ends is = λ told settled tells.
+    step_ends folder_stays disk_stays folder kept causes.Done ends is = absurd is
+    step_ends folder_stays disk_stays folder kept causes.OutFault ends is = absurd is
+    step_ends folder_stays disk_stays folder kept causes.DiskFault ends is = omega (arith, kept.faults, is)
+    step_ends folder_stays disk_stays folder kept causes.FolderFault ends is = omega (arith, folder.faults, is)
+    step_ends folder_stays disk_stays folder kept causes.Memory ends is = λ held opens. still store f0 f1 f2 d0 d1 d2 loaded held opens folder_stays disk_stays (stays store f0 f1 f2 d0 d1 d2 loaded held opens (here causes.Memory ends held opens))
+    step_ends folder_stays disk_stays folder kept (causes.RecordTooLong bytes) ends is = (is, λ held opens. passes store f0 f1 f2 d0 d1 d2 loaded held opens bytes (here (causes.RecordTooLong bytes) ends held opens))
+    step_ends folder_stays disk_stays folder kept (causes.Damaged offset) ends is = λ told settled tells.
         let has = loaded told settled tells in
         let at = is (kept.tells ∙ tells) has.bodies has.open_on in
         inr (record { bodies = has.bodies; records = has.records; number = at.0; inside = at.1; none = (at.2.0, at.2.1 ∙ has.places at.0 at.1) })
-    step_ends folder kept causes.NotTracking ends is = λ held opens. refused store f0 f1 f2 d0 d1 d2 loaded held opens causes.NotTracking (here causes.NotTracking ends held opens)
-    step_ends folder kept causes.NothingToUndo ends is = λ held opens. refused store f0 f1 f2 d0 d1 d2 loaded held opens causes.NothingToUndo (here causes.NothingToUndo ends held opens)
-    step_ends folder kept (causes.Edited file) ends is = λ held opens. refused store f0 f1 f2 d0 d1 d2 loaded held opens (causes.Edited file) (here (causes.Edited file) ends held opens)
-    step_ends folder kept (causes.BadWords word kind) ends is = λ held opens. refused store f0 f1 f2 d0 d1 d2 loaded held opens (causes.BadWords word kind) (here (causes.BadWords word kind) ends held opens)
-    step_ends folder kept (causes.NoInterval id) ends is = λ held opens. refused store f0 f1 f2 d0 d1 d2 loaded held opens (causes.NoInterval id) (here (causes.NoInterval id) ends held opens)
-    step_ends folder kept causes.NoOpen ends is = λ held opens. refused store f0 f1 f2 d0 d1 d2 loaded held opens causes.NoOpen (here causes.NoOpen ends held opens)
-    step_ends folder kept (causes.AlreadyOpen id) ends is = λ held opens. refused store f0 f1 f2 d0 d1 d2 loaded held opens (causes.AlreadyOpen id) (here (causes.AlreadyOpen id) ends held opens)
-    step_ends folder kept (causes.Range word) ends is = λ held opens. refused store f0 f1 f2 d0 d1 d2 loaded held opens (causes.Range word) (here (causes.Range word) ends held opens)
-    step_ends folder kept (causes.Overlap id) ends is = λ held opens. refused store f0 f1 f2 d0 d1 d2 loaded held opens (causes.Overlap id) (here (causes.Overlap id) ends held opens)
-    step_ends folder kept (causes.BadLine file line) ends is = λ held opens. refused store f0 f1 f2 d0 d1 d2 loaded held opens (causes.BadLine file line) (here (causes.BadLine file line) ends held opens)
+    step_ends folder_stays disk_stays folder kept causes.NotTracking ends is = λ held opens. refused store f0 f1 f2 d0 d1 d2 loaded held opens causes.NotTracking (here causes.NotTracking ends held opens)
+    step_ends folder_stays disk_stays folder kept causes.NothingToUndo ends is = λ held opens. refused store f0 f1 f2 d0 d1 d2 loaded held opens causes.NothingToUndo (here causes.NothingToUndo ends held opens)
+    step_ends folder_stays disk_stays folder kept (causes.Edited file) ends is = λ held opens. refused store f0 f1 f2 d0 d1 d2 loaded held opens (causes.Edited file) (here (causes.Edited file) ends held opens)
+    step_ends folder_stays disk_stays folder kept (causes.BadWords word kind) ends is = λ held opens. refused store f0 f1 f2 d0 d1 d2 loaded held opens (causes.BadWords word kind) (here (causes.BadWords word kind) ends held opens)
+    step_ends folder_stays disk_stays folder kept (causes.NoInterval id) ends is = λ held opens. refused store f0 f1 f2 d0 d1 d2 loaded held opens (causes.NoInterval id) (here (causes.NoInterval id) ends held opens)
+    step_ends folder_stays disk_stays folder kept causes.NoOpen ends is = λ held opens. refused store f0 f1 f2 d0 d1 d2 loaded held opens causes.NoOpen (here causes.NoOpen ends held opens)
+    step_ends folder_stays disk_stays folder kept (causes.AlreadyOpen id) ends is = λ held opens. refused store f0 f1 f2 d0 d1 d2 loaded held opens (causes.AlreadyOpen id) (here (causes.AlreadyOpen id) ends held opens)
+    step_ends folder_stays disk_stays folder kept (causes.Range word) ends is = λ held opens. refused store f0 f1 f2 d0 d1 d2 loaded held opens (causes.Range word) (here (causes.Range word) ends held opens)
+    step_ends folder_stays disk_stays folder kept (causes.Overlap id) ends is = λ held opens. refused store f0 f1 f2 d0 d1 d2 loaded held opens (causes.Overlap id) (here (causes.Overlap id) ends held opens)
+    step_ends folder_stays disk_stays folder kept (causes.BadLine file line) ends is = λ held opens. refused store f0 f1 f2 d0 d1 d2 loaded held opens (causes.BadLine file line) (here (causes.BadLine file line) ends held opens)
 
     same_carried : (a b : Carried) (r : Result Carried Cause) → r ≡ Ok a → r ≡ Ok b → a ≡ b
     same_carried a b r is that = cc

@@ -70,7 +70,7 @@ module _ {F D O : Type 0} (m : FolderModel F) (n : DiskModel D) (s : SinkModel O
   -- nothing was done for want of memory
   want_is_run : (asked : Result Command BadWord) (now : ℕ) (zone : TimeZone) (f : F) (d : D) (o : O) → IsRun m n s asked now zone (went f f d d) o o causes.Memory
   want_is_run (Ok command) now zone f d o = record {
-    gives = (tt, refl);
+    gives = (λ held opens. opens.opens, refl);
     complete = λ can. inr refl;
     any_moment = λ held opens. at_rest f d (λ x y left left'. still_among m n command now zone (went f f d d) held (carried_out command held now zone) x y
         (record { before = y; left = left'; alike = λ h o. subst (λ (files : Files). OpensTo files y h) (sym (opens.settled x left)) o }));

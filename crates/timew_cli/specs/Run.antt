@@ -81,13 +81,13 @@ module _ {F D : Type 0} (m : FolderModel F) (n : DiskModel D) (command : Command
     pub size : HasSize carried.adds bytes
     pub stays : HoldsMore m n w [] held
 
-  -- why a command is not carried out
+  -- Why a command is not carried out. Where memory runs out, folder and disk open to what they did.
   abbrev pub NotCarried : Cause → Type 0
   NotCarried Done = ⊥
   NotCarried OutFault = ⊥
   NotCarried DiskFault = Rose (n.faults w.d0) (n.faults w.d1)
   NotCarried FolderFault = Rose (m.faults w.f0) (m.faults w.f1)
-  NotCarried Memory = Unit {0}
+  NotCarried Memory = (held : Held) → Opens m n w.f0 w.d0 held → OpensTo (m.seen w.f1) (n.seen w.d1) held
   NotCarried (RecordTooLong bytes) = (2 ^ 30 < bytes) × ((held : Held) → Opens m n w.f0 w.d0 held → PassesLimit held bytes)
   NotCarried (Damaged offset) = Tells m w.f0 → Settled m w.f0 → disk.Tells n w.d0 → IsDamagedAt magic (n.seen w.d0) offset ⊎ HoldsNoStepAt (n.seen w.d0) offset
   NotCarried cause = Refused cause

@@ -51,7 +51,7 @@ module _ {F D : Type 0} (m : FolderModel F) (n : DiskModel D) (w : Outside F D) 
   EndsBadly expected bodies held OutFault = ⊥
   EndsBadly expected bodies held DiskFault = Unit {0}
   EndsBadly expected bodies held FolderFault = Unit {0}
-  EndsBadly expected bodies held Memory = Unit {0}
+  EndsBadly expected bodies held Memory = Rests m n w.f1 w.d1 bodies held
   EndsBadly expected bodies held (RecordTooLong bytes) = IsTooLong expected bodies held bytes
   EndsBadly expected bodies held (Damaged offset) = ⊥
   EndsBadly expected bodies held cause = (expected ≡ Err cause) × Rests m n w.f1 w.d1 bodies held

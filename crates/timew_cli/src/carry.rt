@@ -123,9 +123,9 @@ fn change<F: Folder, D: Disk>(
     ensures disk { tells.Kept D.model disk.old disk.new }
 {
     let mut store = store;
-    let next = plan(alloc, command, store.intervals(), now)?;
-    let count = next.len();
-    store.change(alloc, folder, disk, next)?;
+    let edit = plan(alloc, command, store.intervals(), now)?;
+    store.change(alloc, folder, disk, edit)?;
+    let count = store.intervals().len();
     leave(store);
     Ok(Shown::Stored { count })
 }

@@ -13,6 +13,3 @@ mod text;
 pub use cause::{Cause, Outcome};
 pub use run::timew_run;
 pub use timew_cmd::WordKind;
-
-#[cfg(test)]
-mod tests;

@@ -1,9 +1,11 @@
 -- After every command the intervals are in order.
-use Rattle.std.specs.Prelude.{max, min, nat_lt, nat_le, ◌&&◌, slice_get, IfSome}
+use Rattle.std.specs.Prelude.{max, min, nat_lt, nat_le, ◌&&◌, slice_get, IfSome, IfOk}
 use Rattle.std.proofs.Common.{◌≡◌, ℕ, zero, suc, ◌+◌, ◌-◌, ◌<◌, ◌≤◌, Bool, true, false, cond, List, [], ◌∷◌, ◌++◌, length, Option, Some, None, Result, Ok, Err, refl, ap, subst, arith}
 use Rattle.std.proofs.lemmas.Bool.{ltb-true, ltb-false, leb-true}
 use Rattle.tw_time.specs.declared.length.Length.{Length}
+use Rattle.timew_store.specs.declared.edit.Edit.{Edit}
 use Rattle.timew_store.specs.declared.interval.Interval.{Interval}
+use Rattle.timew_store.specs.Edit.{edited, IsEditOf}
 use Rattle.timew_store.specs.Interval.{limit, IsRow, IsEnd, IsBefore, AreRows, is_printable}
 use Rattle.timew_store.proofs.Placed.{own_start}
 use Rattle.timew_store.specs.Placing.{spanning}
@@ -12,7 +14,7 @@ use Rattle.timew_cmd.specs.declared.command.Command.TheVariants.{Show, Start, St
 use Rattle.timew_cmd.specs.declared.error.TimewError.{TimewError}
 use Rattle.timew_cmd.specs.declared.error.TimewError.TheVariants.{Range}
 use Rattle.timew_cmd.specs.Given.{AreTags, IsGiven}
-use Rattle.timew_cmd.specs.Planned.{◌>>=◌, planned, begun, stopped, cancelled, continued, tracked, deleted, split, split_all, joined, joined_both, moved_to, lengthened, shortened, replaced, place, with_ended, with_tags, without_tags, with_annotation, each_of, targets, as_ids, checked, row_at, row_or, open_of, open_from, moment_or, is_past, begins_after, is_in_range, later_end, first_text, moved_end, closed_end, seconds_of, shorter, numbered, without, rows_in}
+use Rattle.timew_cmd.specs.Planned.{◌>>=◌, planned, begun, stopped, cancelled, continued, tracked, deleted, split, split_all, joined, joined_both, moved_to, lengthened, shortened, replaced, place, with_ended, with_tags, without_tags, with_annotation, each_of, targets, as_ids, checked, row_at, row_or, open_of, open_from, moment_or, is_past, begins_after, is_in_range, later_end, first_text, moved_end, closed_end, seconds_of, shorter, numbered, without, rows_in, Answers}
 use Rattle.timew_cmd.proofs.RowAt.{row_of_id}
 use Rattle.timew_cmd.proofs.AreKept.{before_next, place_rows, ended_rows, dropped_rows, without_rows, each_rows, KeepsSeconds, tags_keep, untags_keep, note_keeps, split_rows, all_tags_added}
 
@@ -220,3 +222,9 @@ planned_rows (Shorten id word l adjust) rows next now given small are is = short
 planned_rows Undo rows next now given small are is = subst AreRows (is_ok rows next is) are
 planned_rows (Export range) rows next now given small are is = subst AreRows (is_ok rows next is) are
 planned_rows (Summary range) rows next now given small are is = subst AreRows (is_ok rows next is) are
+
+-- what is planned as an edit is one of intervals in order
+pub planned_edit : (command : Command) (rows : List Interval) (now : ℕ) (r : Result Edit TimewError) → IsGiven command → now < limit → AreRows rows → Answers (λ e. edited e rows) r (planned command rows now) → IfOk r (λ e. e.at + e.count ≤ length rows)
+    → IfOk r (IsEditOf rows)
+planned_edit command rows now (Err e) given small are is inside = tt
+planned_edit command rows now (Ok e) given small are is inside = record { inside = inside; are = planned_rows command rows (edited e rows) now given small are is }

@@ -5,3 +5,4 @@ pub mod Reading
 pub mod Ranges
 pub mod Texts
 pub mod Exported
+pub mod Placing

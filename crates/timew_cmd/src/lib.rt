@@ -3,6 +3,7 @@
 //! It stands on timew_store (intervals) and tw_time (lengths of time).
 #![tactic(auto)]
 
+mod aside;
 mod command;
 mod command_parts;
 mod cut;
@@ -33,6 +34,3 @@ pub use planning::plan;
 pub use reading::read_words;
 pub use summary::summary_text;
 pub use texts::{stored_text, tracking_text};
-
-#[cfg(test)]
-mod tests;

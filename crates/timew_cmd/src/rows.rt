@@ -57,7 +57,7 @@ fn end_le(end: Option<u64>, other: Option<u64>) -> bool
     }
 }
 
-fn is_not_after(row: &Interval, other: &Interval) -> bool
+pub fn is_not_after(row: &Interval, other: &Interval) -> bool
     ensures { result ≡ is_not_after row.now other.now }
 {
     row.start < other.start || (row.start == other.start && end_le(row.end, other.end))

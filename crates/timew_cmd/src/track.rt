@@ -1,42 +1,33 @@
 // Starting, stopping and tracking.
-ghost use Rattle.std.specs.Prelude.{◌≡◌, ◌++◌, ◌∷◌, [], Some, IfOk};
+ghost use Rattle.std.specs.Prelude.{◌≡◌, ◌≤◌, ◌+◌, ◌++◌, ◌∷◌, [], Some, length, take, IfOk};
+ghost use Rattle.timew_store.specs.Edit.{edited};
 ghost use Rattle.timew_store.specs.Placing.{spanning};
 ghost use Rattle.timew_cmd.specs.Planned.{Answers, is_past, open_of, with_ended, begins_after, begun, stopped, cancelled, continued, tracked};
 
 use crate::error::TimewError;
-use crate::kept::{open_of, place, place_among, row_at};
-use crate::rows::{copy_rows, moment_or, spanning};
+use crate::kept::{open_of, place_behind, place_within, row_at};
+use crate::rows::{moment_or, spanning};
 use std::alloc::Global;
-use timew_store::{Interval, Texts};
+use timew_store::{Edit, Interval, Texts};
 use tw_world::{Memory, Text};
 
-// Rows, and one behind them that ends at a second.
-fn with_end(
-    alloc: Global,
-    front: &[Interval],
-    last: &Interval,
-    end: u64,
-) -> Result<Vec<Interval>, Memory>
-    ensures { IfOk result (λ rows. rows.items ≡ front.now ++ spanning last.now.start (Some end) last.now ∷ []) }
+// An interval alone, which ends at a moment.
+fn ending(alloc: Global, at: u64, row: &Interval) -> Result<Vec<Interval>, Memory>
+    ensures { IfOk result (λ rows. rows.items ≡ spanning row.now.start (Some at) row.now ∷ []) }
 {
-    let mut rows = copy_rows(alloc, front)?;
-    rows.push(spanning(alloc, last.start, Some(end), last)?)?;
+    let mut rows = Vec::with_capacity(alloc, 1)?;
+    rows.push(spanning(alloc, row.start, Some(at), row)?)?;
     Ok(rows)
 }
 
-// The open interval ends at a moment, where it has begun then.
-fn with_ended(alloc: Global, at: u64, rows: &[Interval]) -> Result<Vec<Interval>, Memory>
-    ensures { IfOk result (λ v. v.items ≡ with_ended at rows.now (open_of rows.now)) }
+// How many rows stay where the open one ends at a moment, if it has begun then, and the one that ends.
+fn end_open(alloc: Global, at: u64, rows: &[Interval]) -> Result<(usize, Vec<Interval>), Memory>
+    ensures ended { IfOk result (λ x. take x.0 rows.now ++ x.1.items ≡ with_ended at rows.now (open_of rows.now)) }
+    ensures inside { IfOk result (λ x. x.0 ≤ length rows.now) }
 {
     match open_of(rows) {
-        None => copy_rows(alloc, rows),
-        Some((front, last)) => {
-            if last.start <= at {
-                with_end(alloc, front, last, at)
-            } else {
-                copy_rows(alloc, rows)
-            }
-        }
+        Some((front, open)) if open.start <= at => Ok((front.len(), ending(alloc, at, open)?)),
+        _ => Ok((rows.len(), Vec::new(alloc))),
     }
 }
 
@@ -66,8 +57,9 @@ pub fn begin(
     adjust: bool,
     rows: &[Interval],
     now: u64,
-) -> Result<Vec<Interval>, TimewError>
-    ensures { Answers (λ v. v.items) result (begun word moment tags.now adjust rows.now now) }
+) -> Result<Edit, TimewError>
+    ensures begun { Answers (λ e. edited e rows.now) result (begun word moment tags.now adjust rows.now now) }
+    ensures inside { IfOk result (λ e. e.at + e.count ≤ length rows.now) }
 {
     if is_past(now, moment) {
         return Err(TimewError::Range { word });
@@ -76,23 +68,19 @@ pub fn begin(
         return Err(TimewError::Range { word: 0 });
     }
     let at = moment_or(now, moment);
-    let ended = with_ended(alloc, at, rows)?;
     let new = Interval {
         start: at,
         end: None,
         tags: tags.copy(alloc)?,
         annotation: Text::from_str(alloc, "")?,
     };
-    place_among(alloc, adjust, new, ended)
+    let (kept, last) = end_open(alloc, at, rows)?;
+    place_behind(alloc, adjust, new, rows, kept, last)
 }
 
-pub fn stop(
-    alloc: Global,
-    word: u64,
-    at: u64,
-    rows: &[Interval],
-) -> Result<Vec<Interval>, TimewError>
-    ensures { Answers (λ v. v.items) result (stopped word at (open_of rows.now)) }
+pub fn stop(alloc: Global, word: u64, at: u64, rows: &[Interval]) -> Result<Edit, TimewError>
+    ensures stopped { Answers (λ e. edited e rows.now) result (stopped word at (open_of rows.now)) }
+    ensures inside { IfOk result (λ e. e.at + e.count ≤ length rows.now) }
 {
     let Some((front, last)) = open_of(rows) else {
         return Err(TimewError::NoOpen);
@@ -100,14 +88,23 @@ pub fn stop(
     if at < last.start {
         return Err(TimewError::Range { word });
     }
-    Ok(with_end(alloc, front, last, at)?)
+    Ok(Edit {
+        at: front.len(),
+        count: 1,
+        rows: ending(alloc, at, last)?,
+    })
 }
 
-pub fn cancel(alloc: Global, rows: &[Interval]) -> Result<Vec<Interval>, TimewError>
-    ensures { Answers (λ v. v.items) result (cancelled (open_of rows.now)) }
+pub fn cancel(alloc: Global, rows: &[Interval]) -> Result<Edit, TimewError>
+    ensures cancelled { Answers (λ e. edited e rows.now) result (cancelled (open_of rows.now)) }
+    ensures inside { IfOk result (λ e. e.at + e.count ≤ length rows.now) }
 {
     match open_of(rows) {
-        Some((front, _)) => Ok(copy_rows(alloc, front)?),
+        Some((front, _)) => Ok(Edit {
+            at: front.len(),
+            count: 1,
+            rows: Vec::new(alloc),
+        }),
         None => Err(TimewError::NoOpen),
     }
 }
@@ -118,8 +115,9 @@ pub fn go_on(
     adjust: bool,
     rows: &[Interval],
     now: u64,
-) -> Result<Vec<Interval>, TimewError>
-    ensures { Answers (λ v. v.items) result (continued id adjust rows.now now (open_of rows.now)) }
+) -> Result<Edit, TimewError>
+    ensures continued { Answers (λ e. edited e rows.now) result (continued id adjust rows.now now (open_of rows.now)) }
+    ensures inside { IfOk result (λ e. e.at + e.count ≤ length rows.now) }
 {
     if id.is_none() && open_of(rows).is_some() {
         return Err(TimewError::AlreadyOpen { id: 1 });
@@ -136,8 +134,9 @@ pub fn track(
     tags: &Texts,
     adjust: bool,
     rows: &[Interval],
-) -> Result<Vec<Interval>, TimewError>
-    ensures { Answers (λ v. v.items) result (tracked word start end tags.now adjust rows.now) }
+) -> Result<Edit, TimewError>
+    ensures tracked { Answers (λ e. edited e rows.now) result (tracked word start end tags.now adjust rows.now) }
+    ensures inside { IfOk result (λ e. e.at + e.count ≤ length rows.now) }
 {
     if start >= end {
         return Err(TimewError::Range { word });
@@ -148,5 +147,5 @@ pub fn track(
         tags: tags.copy(alloc)?,
         annotation: Text::from_str(alloc, "")?,
     };
-    place(alloc, adjust, new, rows, &[])
+    place_within(alloc, adjust, new, rows)
 }

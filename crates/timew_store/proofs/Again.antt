@@ -138,7 +138,7 @@ last_stands bodies h stands = last_is bodies start h stands (λ e. refl)
 
 module _ {F D : Type 0} (m : FolderModel F) (n : DiskModel D) (f0 : F) (d0 : D) (tells : disk.Tells n d0) (settled : Settled m f0) (may_stay : n.leaves d0 (n.seen d0)) where
   -- a file with the same records opens to the same
-  same_opens : (x : Files) (y : List ℕ) (held : Held) → x ≡ m.seen f0 → SameRecords magic (n.seen d0) y → OpensTo (m.seen f0) (n.seen d0) held → OpensTo x y held
+  pub same_opens : (x : Files) (y : List ℕ) (held : Held) → x ≡ m.seen f0 → SameRecords magic (n.seen d0) y → OpensTo (m.seen f0) (n.seen d0) held → OpensTo x y held
   same_opens x y held same (bodies, had, has) opens = record {
     bodies = opens.bodies;
     records = subst (λ b. Records magic y b) (one_records magic (n.seen d0) bodies opens.bodies had opens.records) has;
@@ -167,7 +167,7 @@ module _ {F D : Type 0} (m : FolderModel F) (n : DiskModel D) (f0 : F) (d0 : D) 
         some_both : Some history.last ≡ Some changes → history.last ≡ changes
         some_both e = cc
 
-    finished_opens : (x : Files) (y : List ℕ) (held : Held) → IsFinishedTo changes (m.seen f0) x → Records magic y bodies → OpensTo (m.seen f0) (n.seen d0) held → OpensTo x y held
+    pub finished_opens : (x : Files) (y : List ℕ) (held : Held) → IsFinishedTo changes (m.seen f0) x → Records magic y bodies → OpensTo (m.seen f0) (n.seen d0) held → OpensTo x y held
     finished_opens x y held (j, inside, same) has opens =
         let bodies_same = one_records magic (n.seen d0) bodies opens.bodies records opens.records in
         let last_same = same_last opens.bodies opens.history bodies_same opens.stands in

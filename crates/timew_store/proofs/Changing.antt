@@ -1,6 +1,6 @@
 -- What becomes of month files, name by name.
-use Rattle.std.proofs.Common.{◌≡◌, ℕ, ◌≤◌, Bool, true, false, cond, ◌&&◌, ◌||◌, List, [], ◌∷◌, ◌++◌, map, length, drop, Option, Some, None, refl, sym, ap, ◌∙◌}
-use Rattle.std.specs.Prelude.{filter, is_some, unwrap_or}
+use Rattle.std.proofs.Common.{◌≡◌, ℕ, ◌≤◌, Bool, true, false, cond, ◌&&◌, ◌||◌, List, [], ◌∷◌, ◌++◌, map, length, drop, Option, Some, None, refl, sym, ap, ◌∙◌, append_assoc}
+use Rattle.std.specs.Prelude.{filter, is_some, unwrap_or, option_map, IfSome}
 use Rattle.std.proofs.lemmas.List.{append-nil, drop_all}
 use Rattle.std.proofs.lemmas.List.Concat.{flat_map-cons}
 use Rattle.std.specs.List.{flat_map, list_any, AllByRecursion}
@@ -10,14 +10,16 @@ use Rattle.std.specs.declared.cmp.Ordering.{Ordering}
 use Rattle.std.specs.declared.cmp.Ordering.TheVariants.{Less, Equal, Greater}
 use Rattle.tw_world.specs.Folder.{Files, bytes_cmp, same_bytes, add_name}
 use Rattle.timew_store.specs.declared.interval.Interval.{Interval}
-use Rattle.timew_store.specs.declared.files.MonthFile.{MonthFile}
 use Rattle.timew_store.specs.Body.{FileChange, is_month_name}
-use Rattle.timew_store.specs.Gathered.{NamedBytes, files_of, months_in}
+use Rattle.timew_store.specs.Gathered.{NamedBytes, months_in}
 use Rattle.timew_store.specs.Held.{bytes_of}
 use Rattle.timew_store.specs.Kept.{bytes_in, text_in, names_in, with_names, with_months, one_change}
+use Rattle.timew_store.specs.Line.{after}
 use Rattle.timew_store.specs.Months.{month_text, month_change, changes_to}
 use Rattle.timew_store.specs.Rows.{month_names}
-use Rattle.timew_store.proofs.Finishing.{same_bytes_exact, same_bytes_back}
+use Rattle.timew_store.specs.Texts.{HaveNames, AddTexts}
+use Rattle.timew_store.proofs.ExactLine.{after_is}
+use Rattle.timew_store.proofs.Finishing.{same_bytes_exact, same_bytes_back, same_bytes_itself}
 use Rattle.timew_store.proofs.Stored.{any_keys, any_filter}
 
 -- ---- names of months
@@ -43,12 +45,9 @@ added_good k (n ∷ names) is are = by_case (bytes_cmp k n) (added_good k names 
     by_case Equal more = are
     by_case Greater more = (are.0, more)
 
-abbrev pub AreMonthFiles : List MonthFile → Type 0
-AreMonthFiles files = AllByRecursion (λ f. is_month_name f.name ≡ true) files
-
-pub with_good : (months : List MonthFile) (names : List (List ℕ)) → AreMonthFiles months → AreMonthNames names → AreMonthNames (with_names (files_of months) names)
+pub with_good : (texts : List NamedBytes) (names : List (List ℕ)) → HaveNames texts → AreMonthNames names → AreMonthNames (with_names texts names)
 with_good [] names are good = good
-with_good (m ∷ months) names are good = with_good months (add_name m.name names) are.1 (added_good m.name names are.0 good)
+with_good (m ∷ texts) names are good = with_good texts (add_name m.0 names) are.1 (added_good m.0 names are.0 good)
 
 -- ---- bytes
 
@@ -92,16 +91,25 @@ names_kept files [] = refl
 names_kept files (n ∷ names) = ap (λ (l : List (List ℕ)). n ∷ l) (names_kept files names)
 
 -- what becomes of the files that are kept is what becomes of those of the folder
-pub changes_same : (files : Files) (kept : List NamedBytes) (months : List MonthFile) (rows : List Interval) → kept ≡ months_in files → ((name : List ℕ) → text_in (files_of months) name ≡ month_text name rows)
-    → ((names : List (List ℕ)) → with_names (files_of months) names ≡ with_months rows names) → AreMonthFiles months
-    → flat_map (one_change kept (files_of months)) (with_names (files_of months) (names_in kept)) ≡ changes_to files rows
-changes_same files kept months rows is texts names good =
+pub changes_same : (files : Files) (kept texts : List NamedBytes) (rows : List Interval) → kept ≡ months_in files → AddTexts [] texts rows
+    → flat_map (one_change kept texts) (with_names texts (names_in kept)) ≡ changes_to files rows
+changes_same files kept texts rows is add =
     let same : names_in kept ≡ month_names files = ap names_in is ∙ names_kept files (month_names files) in
-    let all : AreMonthNames (with_names (files_of months) (month_names files)) = with_good months (month_names files) good (months_good (keys files)) in
-    ap (λ (l : List NamedBytes). flat_map (one_change l (files_of months)) (with_names (files_of months) (names_in kept))) is
-    ∙ ap (λ (l : List (List ℕ)). flat_map (one_change (months_in files) (files_of months)) (with_names (files_of months) l)) same
-    ∙ each_same files (files_of months) rows (with_names (files_of months) (month_names files)) texts all
-    ∙ ap (flat_map (month_change files rows)) (names (month_names files))
+    let all : AreMonthNames (with_names texts (month_names files)) = with_good texts (month_names files) (add.good tt) (months_good (keys files)) in
+    ap (λ (l : List NamedBytes). flat_map (one_change l texts) (with_names texts (names_in kept))) is
+    ∙ ap (λ (l : List (List ℕ)). flat_map (one_change (months_in files) texts) (with_names texts l)) same
+    ∙ each_same files texts rows (with_names texts (month_names files)) add.text all
+    ∙ ap (flat_map (month_change files rows)) (add.names (month_names files))
 
 pub changed_end : (kept months : List NamedBytes) (names : List (List ℕ)) (i : ℕ) (out total : List FileChange) → length names ≤ i → out ++ flat_map (one_change kept months) (drop i names) ≡ total → out ≡ total
 changed_end kept months names i out total le so_far = sym (append-nil out) ∙ ap (λ (l : List (List ℕ)). out ++ flat_map (one_change kept months) l) (sym (drop_all i names le)) ∙ so_far
+
+-- a file that has the text already is not changed
+pub none_here : (kept texts : List NamedBytes) (name : List ℕ) → bytes_in kept name ≡ text_in texts name → one_change kept texts name ≡ []
+none_here kept texts name is = ap (λ (b : Bool). cond b [] (record { name = name; old = bytes_in kept name; new = text_in texts name } ∷ [])) (ap (same_bytes (bytes_in kept name)) (sym is) ∙ same_bytes_itself (bytes_in kept name))
+
+-- what stands behind two texts
+pub both_behind : {X : Type 0} (view : X → List ℕ) (kept new bytes rest : List ℕ) (r : Option X) → after kept bytes ≡ Some rest → option_map view r ≡ after new rest → IfSome r (λ x. bytes ≡ (kept ++ new) ++ view x)
+both_behind view kept new bytes rest None front is = tt
+both_behind view kept new bytes rest (Some x) front is =
+    after_is kept bytes rest front ∙ ap (λ (l : List ℕ). kept ++ l) (after_is new rest (view x) (sym is)) ∙ sym (append_assoc kept new (view x))

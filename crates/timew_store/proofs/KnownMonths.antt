@@ -91,7 +91,7 @@ between (r ∷ s ∷ rows) name (suc n) last rise all size at is =
 not_below_itself : (a : List ℕ) → bytes_cmp a a ≡ Less → ⊥
 not_below_itself a is = absurd (let e : Less ≡ Equal = sym is ∙ tied (bytes_cmp a a) (sym (texts_ties a a) ∙ same_bytes_itself a) in cc)
 
-are_take : (n : ℕ) (rows : List Interval) → AreRows rows → AreRows (take n rows)
+pub are_take : (n : ℕ) (rows : List Interval) → AreRows rows → AreRows (take n rows)
 are_take zero rows are = tt
 are_take (suc n) [] are = tt
 are_take (suc n) (r ∷ rows) are = (are.0, before n r.end rows are.1, are_take n rows are.2)
@@ -119,14 +119,3 @@ one_month (r ∷ rows) (suc count) n first last name are some inside writable at
 pub first_name_is : (rows : List Interval) (r : Interval) → 0 < length rows → r ≡ get_or rows 0 r → first_name rows ≡ month_name r.start
 first_name_is [] r some at = absurd (omega arith)
 first_name_is (s ∷ rows) r some at = ap (λ (t : Interval). month_name t.start) (sym at)
-
--- ---- the same intervals
-
-pub same_rows : (rows others : List Interval) (n : ℕ) → length rows ≡ length others → length rows ≤ n → ((k : ℕ) (d : Interval) → k < n → get_or rows k d ≡ get_or others k d) → rows ≡ others
-same_rows [] [] n size le each = refl
-same_rows [] (s ∷ others) n size le each = absurd (omega (arith, size))
-same_rows (r ∷ rows) [] n size le each = absurd (omega (arith, size))
-same_rows (r ∷ rows) (s ∷ others) zero size le each = absurd (omega arith)
-same_rows (r ∷ rows) (s ∷ others) (suc n) size le each =
-    let rest = same_rows rows others n (omega (arith, size)) (omega arith) (λ k d lt. each (suc k) d (omega arith)) in
-    λ i. each 0 r (omega arith) i ∷ rest i

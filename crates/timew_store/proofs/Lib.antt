@@ -40,3 +40,7 @@ pub mod MonthsAfter
 pub mod Prepares
 pub mod Walks
 pub mod Undoes
+pub mod InPlace
+pub mod Edits
+pub mod Restored
+pub mod Stays

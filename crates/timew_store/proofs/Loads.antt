@@ -161,19 +161,23 @@ module _ {F D : Type 0} (m : FolderModel F) (n : DiskModel D) where
 
   -- what was loaded is what the folder and the journal open to
   module _ (f0 f1 : F) (d0 d1 : D) (journal : Journal) (loaded : IsLoaded m n f0 f1 d0 d1 journal) (held : Held) (opens : OpensTo (m.seen f0) (n.seen d0) held) where
-    stands : Stands loaded.bodies opens.history
+    pub stands : Stands loaded.bodies opens.history
     stands = subst (λ (b : List (List ℕ)). Stands b opens.history) (one_records magic (n.seen d0) opens.bodies loaded.bodies opens.records loaded.records) opens.stands
 
     loaded_files : m.seen f1 ≡ held.files
     loaded_files = loaded.finished_now opens.history stands ∙ opens.files_are
 
-    loaded_held : held_by m f1 opens.history ≡ held
+    pub loaded_held : held_by m f1 opens.history ≡ held
     loaded_held =
         ap (λ (s : Files). let h : Held = record { files = s; undoable = opens.history.undoable } in h) loaded_files
         ∙ ap (λ (u : List (List FileChange)). let h : Held = record { files = held.files; undoable = u } in h) opens.undoable_are
 
+    -- and, where it was read, what it is then
+    pub held_read : (f2 : F) → m.seen f2 ≡ m.seen f1 → held_by m f2 opens.history ≡ held
+    held_read f2 same = ap (λ (s : Files). let h : Held = record { files = s; undoable = opens.history.undoable } in h) same ∙ loaded_held
+
   -- a read leaves at rest what rests
-  rest_kept : (journal : Journal) (f1 f2 : F) (d : D) (bodies : List (List ℕ)) (history : History) → Reads m f1 f2 → IsAtRest m n journal f1 d bodies history → IsAtRest m n journal f2 d bodies history
+  pub rest_kept : (journal : Journal) (f1 f2 : F) (d : D) (bodies : List (List ℕ)) (history : History) → Reads m f1 f2 → IsAtRest m n journal f1 d bodies history → IsAtRest m n journal f2 d bodies history
   rest_kept journal f1 f2 d bodies history reads rest = record {
     tells = reads.steps.tells ∙ rest.tells;
     settled = still_settled m f1 f2 rest.tells rest.settled reads;

@@ -1,24 +1,25 @@
 -- The texts of months, group by group.
-use Rattle.std.proofs.Common.{◌≡◌, ℕ, suc, zero, ◌+◌, ◌<◌, Bool, true, false, cond, List, [], ◌∷◌, ◌++◌, length, get_or, take, drop, refl, sym, ap, subst, ◌∙◌, append_assoc, arith}
+use Rattle.std.proofs.Common.{◌≡◌, ℕ, suc, zero, ◌+◌, ◌<◌, ◌≤◌, Bool, true, false, cond, List, [], ◌∷◌, ◌++◌, length, get_or, take, drop, refl, sym, ap, subst, ◌∙◌, append_assoc, arith}
 use Rattle.std.specs.Prelude.{filter}
 use Rattle.std.specs.List.{AllByRecursion}
 use Rattle.std.specs.Cmp.Lexicographic.{texts_ties}
 use Rattle.std.specs.FinMap.Entries.{by_order}
 use Rattle.std.specs.declared.cmp.Ordering.{Ordering}
 use Rattle.std.specs.declared.cmp.Ordering.TheVariants.{Less, Equal, Greater}
-use Rattle.std.proofs.lemmas.List.{append-nil, map-append, take-append-drop, take_more}
+use Rattle.std.proofs.lemmas.List.{append-nil, take-append-drop, take_more, length-take-le}
 use Rattle.std.proofs.lemmas.List.Concat.{flat_map-append}
 use Rattle.std.proofs.lemmas.List.Sums.{fold-append}
 use Rattle.tw_world.specs.Folder.{bytes_cmp, same_bytes, add_name}
 use Rattle.timew_store.specs.declared.interval.Interval.{Interval}
-use Rattle.timew_store.specs.declared.files.MonthFile.{MonthFile}
 use Rattle.timew_store.specs.Body.{is_month_name}
-use Rattle.timew_store.specs.Gathered.{NamedBytes, file_of, files_of}
+use Rattle.timew_store.specs.Gathered.{NamedBytes}
 use Rattle.timew_store.specs.Interval.{IsRow, AreRows}
 use Rattle.timew_store.specs.Kept.{text_in, with_names, with_months}
+use Rattle.timew_store.specs.Known.{IsMonthOf}
 use Rattle.timew_store.specs.Line.{line_text}
 use Rattle.timew_store.specs.Month.{lines_text}
 use Rattle.timew_store.specs.Months.{month_name, is_in_month, month_text}
+use Rattle.timew_store.specs.Texts.{HaveNames, AddTexts}
 use Rattle.timew_store.specs.Writable.{IsWritable}
 use Rattle.timew_store.proofs.Finishing.{tied, same_bytes_itself, same_bytes_exact}
 
@@ -123,18 +124,18 @@ filter-append P (r ∷ rows) more = by_case (P r) (filter-append P rows more)
 month-append : (q : List ℕ) (rows more : List Interval) → month_text q (rows ++ more) ≡ month_text q rows ++ month_text q more
 month-append q rows more = ap lines_text (filter-append (is_in_month q) rows more) ∙ flat_map-append (λ (r : Interval). line_text r ++ 10 ∷ []) (filter (is_in_month q) rows) (filter (is_in_month q) more)
 
-pub texts_go_on : (old new : List MonthFile) (f : MonthFile) (rest all : List Interval) (n : ℕ) (q : List ℕ) → new ≡ old ++ f ∷ [] → text_in (file_of f ∷ []) q ≡ month_text q (take n rest)
-    → text_in (files_of old) q ++ month_text q rest ≡ month_text q all → text_in (files_of new) q ++ month_text q (drop n rest) ≡ month_text q all
-texts_go_on old new f rest all n q is here so_far =
-    ap (λ (l : List ℕ). l ++ month_text q (drop n rest)) (ap (λ (l : List MonthFile). text_in (files_of l) q) is ∙ ap (λ (l : List NamedBytes). text_in l q) (map-append file_of old (f ∷ [])) ∙ text-push (files_of old) (file_of f) q ∙ ap (λ (l : List ℕ). text_in (files_of old) q ++ l) here)
-    ∙ append_assoc (text_in (files_of old) q) (month_text q (take n rest)) (month_text q (drop n rest))
-    ∙ ap (λ (l : List ℕ). text_in (files_of old) q ++ l) (sym (month-append q (take n rest) (drop n rest)) ∙ ap (month_text q) (take-append-drop n rest)) ∙ so_far
+pub texts_go_on : (old : List NamedBytes) (f : NamedBytes) (rest : List Interval) (n : ℕ) (q total : List ℕ) → text_in (f ∷ []) q ≡ month_text q (take n rest)
+    → text_in old q ++ month_text q rest ≡ total → text_in (old ++ f ∷ []) q ++ month_text q (drop n rest) ≡ total
+texts_go_on old f rest n q total here so_far =
+    ap (λ (l : List ℕ). l ++ month_text q (drop n rest)) (text-push old f q ∙ ap (λ (l : List ℕ). text_in old q ++ l) here)
+    ∙ append_assoc (text_in old q) (month_text q (take n rest)) (month_text q (drop n rest))
+    ∙ ap (λ (l : List ℕ). text_in old q ++ l) (sym (month-append q (take n rest) (drop n rest)) ∙ ap (month_text q) (take-append-drop n rest)) ∙ so_far
 
-pub names_go_on : (old new : List MonthFile) (f : MonthFile) (rest all : List Interval) (n : ℕ) (names : List (List ℕ)) → new ≡ old ++ f ∷ [] → ((had : List (List ℕ)) → add_name f.name had ≡ with_months (take n rest) had)
-    → with_months rest (with_names (files_of old) names) ≡ with_months all names → with_months (drop n rest) (with_names (files_of new) names) ≡ with_months all names
-names_go_on old new f rest all n names is here so_far =
-    let had = with_names (files_of old) names in
-    ap (with_months (drop n rest)) (ap (λ (l : List MonthFile). with_names (files_of l) names) is ∙ ap (λ (l : List NamedBytes). with_names l names) (map-append file_of old (f ∷ [])) ∙ fold-append (λ (had : List (List ℕ)) (g : NamedBytes). add_name g.0 had) names (files_of old) (file_of f ∷ []) ∙ here had)
+pub names_go_on : (old : List NamedBytes) (f : NamedBytes) (rest : List Interval) (n : ℕ) (names total : List (List ℕ)) → ((had : List (List ℕ)) → add_name f.0 had ≡ with_months (take n rest) had)
+    → with_months rest (with_names old names) ≡ total → with_months (drop n rest) (with_names (old ++ f ∷ []) names) ≡ total
+names_go_on old f rest n names total here so_far =
+    let had = with_names old names in
+    ap (with_months (drop n rest)) (fold-append (λ (had : List (List ℕ)) (g : NamedBytes). add_name g.0 had) names old (f ∷ []) ∙ here had)
     ∙ sym (fold-append (λ (had : List (List ℕ)) (r : Interval). add_name (month_name r.start) had) had (take n rest) (drop n rest)) ∙ ap (λ (l : List Interval). with_months l had) (take-append-drop n rest) ∙ so_far
 
 -- ---- what the loops know
@@ -151,24 +152,48 @@ month_more rows name old new count x so_far lt is more of writable = (
   all_take_more IsWritable rows count x lt is so_far.2 writable,
 )
 
--- these are the texts of the months of the intervals in front of the rest
-abbrev pub AreTexts : List MonthFile → List Interval → List Interval → Type 0
-AreTexts months rest rows = ((name : List ℕ) → text_in (files_of months) name ++ month_text name rest ≡ month_text name rows)
-    × ((names : List (List ℕ)) → with_months rest (with_names (files_of months) names) ≡ with_months rows names)
-    × AllByRecursion (λ f. is_month_name f.name ≡ true) months
+-- these are the first texts with those of the months of the intervals in front of the rest
+abbrev pub AreTexts : List NamedBytes → List NamedBytes → List Interval → List Interval → Type 0
+AreTexts first texts rest rows = ((name : List ℕ) → text_in texts name ++ month_text name rest ≡ text_in first name ++ month_text name rows)
+    × ((names : List (List ℕ)) → with_months rest (with_names texts names) ≡ with_months rows (with_names first names))
+    × (HaveNames first → HaveNames texts)
     × (AllByRecursion IsWritable rest → AllByRecursion IsWritable rows)
     × AreRows rest
 
-files_push : (months : List MonthFile) (f : MonthFile) → AllByRecursion (λ f. is_month_name f.name ≡ true) months → is_month_name f.name ≡ true → AllByRecursion (λ f. is_month_name f.name ≡ true) (months ++ f ∷ [])
-files_push [] f all here = (here, tt)
-files_push (m ∷ months) f all here = (all.0, files_push months f all.1 here)
+pub texts_start : (first : List NamedBytes) (rows : List Interval) → AreRows rows → AreTexts first first rows rows
+texts_start first rows are = (λ name. refl, λ names. refl, λ good. good, λ writable. writable, are)
 
-pub texts_more : (old new : List MonthFile) (f : MonthFile) (rest rows : List Interval) (n : ℕ) → AreTexts old rest rows → new ≡ old ++ f ∷ [] → ((name : List ℕ) → text_in (file_of f ∷ []) name ≡ month_text name (take n rest))
-    → ((names : List (List ℕ)) → add_name f.name names ≡ with_months (take n rest) names) → is_month_name f.name ≡ true → AllByRecursion IsWritable (take n rest) → AreTexts new (drop n rest) rows
-texts_more old new f rest rows n so_far is text names good writable = (
-  λ q. texts_go_on old new f rest rows n q is (text q) (so_far.0 q),
-  λ had. names_go_on old new f rest rows n had is names (so_far.1 had),
-  subst (λ (l : List MonthFile). AllByRecursion (λ f. is_month_name f.name ≡ true) l) (sym is) (files_push old f so_far.2 good),
-  λ others. so_far.3 (all_parts IsWritable rest n writable others),
-  are_drop n rest so_far.4,
-)
+names_push : (texts : List NamedBytes) (f : NamedBytes) → HaveNames texts → is_month_name f.0 ≡ true → HaveNames (texts ++ f ∷ [])
+names_push [] f all here = (here, tt)
+names_push (m ∷ texts) f all here = (all.0, names_push texts f all.1 here)
+
+pub texts_more : (first old new : List NamedBytes) (f : NamedBytes) (rest rows : List Interval) (n : ℕ) → AreTexts first old rest rows → new ≡ old ++ f ∷ [] → 0 < n → n ≤ length rest → IsMonthOf f.0 f.1 (take n rest) → is_month_name f.0 ≡ true
+    → AreTexts first new (drop n rest) rows
+texts_more first old new f rest rows n so_far is some inside month good =
+    let any : 0 < length (take n rest) = omega (arith, length-take-le n rest inside) in
+    subst (λ (l : List NamedBytes). AreTexts first l (drop n rest) rows) (sym is) (
+      λ q. texts_go_on old f rest n q (text_in first q ++ month_text q rows) (group_text f.0 f.1 (take n rest) month.of month.text q) (so_far.0 q),
+      λ names. names_go_on old f rest n names (with_months rows (with_names first names)) (group_names f.0 (take n rest) any month.of) (so_far.1 names),
+      λ had. names_push old f (so_far.2 had) good,
+      λ others. so_far.3 (all_parts IsWritable rest n month.writable others),
+      are_drop n rest so_far.4,
+    )
+
+pub texts_done : (first texts : List NamedBytes) (rest rows : List Interval) → AreTexts first texts rest rows → length rest ≡ 0 → AddTexts first texts rows
+texts_done first texts [] rows are none = record {
+  text = λ name. sym (append-nil (text_in texts name)) ∙ are.0 name;
+  names = are.1;
+  good = are.2;
+  writable = are.3 tt;
+}
+texts_done first texts (r ∷ rest) rows are none = absurd (omega (arith, none))
+
+pub texts_joined : (first next last : List NamedBytes) (rows more : List Interval) → AddTexts first next rows → AddTexts next last more → AddTexts first last (rows ++ more)
+texts_joined first next last rows more one two = record {
+  text = λ name. two.text name ∙ ap (λ (l : List ℕ). l ++ month_text name more) (one.text name) ∙ append_assoc (text_in first name) (month_text name rows) (month_text name more)
+      ∙ ap (λ (l : List ℕ). text_in first name ++ l) (sym (month-append name rows more));
+  names = λ names. two.names names ∙ ap (with_months more) (one.names names)
+      ∙ sym (fold-append (λ (had : List (List ℕ)) (r : Interval). add_name (month_name r.start) had) (with_names first names) rows more);
+  good = λ had. two.good (one.good had);
+  writable = all_joined IsWritable rows more one.writable two.writable;
+}

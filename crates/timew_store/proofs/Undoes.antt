@@ -28,7 +28,7 @@ use Rattle.timew_store.specs.Rows.{judged, rows_of}
 use Rattle.timew_store.specs.Undoing.{NoUndo, first_edited, undone_held, unless_edited, unless_unread, taken_back}
 use Rattle.timew_store.specs.Undoing.NoUndo.{Nothing, EditedFile, Bad}
 use Rattle.timew_store.specs.Store.{HoldMonths, IsStoreOn}
-use Rattle.timew_store.specs.Undo.{undo_bodies, IsTakenBack, OpensToEitherOf, not_read_back, not_written, WalkRefused, BackRefused, IsUndoBody, UndoJournalRefused, UndoRefused}
+use Rattle.timew_store.specs.Undo.{undo_bodies, IsTakenBack, OpensToEitherOf, not_read_back, not_written, WalkRefused, BackRefused, IsUndoBody, JournalRead, UndoJournalRefused, UndoRefused}
 use Rattle.timew_store.specs.Writing.{IsReadyFor, RecordRefused, WriteRefused}
 use Rattle.timew_store.specs.declared.files.MonthFile.{MonthFile}
 use Rattle.timew_store.specs.declared.rows.RowsError.{RowsError}
@@ -246,11 +246,11 @@ module _ {F D : Type 0} (m : FolderModel F) (n : DiskModel D) where
       (turns_weaker m (crash_of n) (OpensToEither (held_by m f0 history) (record { files = replaced (m.seen f0) changes; undoable = (top_of history.undoable change top).0 })) P
       (λ x y has. either_back m n store f0 d0 bodies history on change top x y rows changes are none good has) f0 d1 f1 d2 run)
 
-  pub walk_undo_refused : (old new : Store) (f0 : F) (d0 d1 : D) (e : ReadError) → WalkRefused n d0 d1 old.journal e → UndoJournalRefused m n old new f0 d0 d1 (read_in_all e)
-  walk_undo_refused old new f0 d0 d1 reads.Disk r = r
-  walk_undo_refused old new f0 d0 d1 reads.Memory r = tt
-  walk_undo_refused old new f0 d0 d1 (reads.Damaged offset) r = r
-  walk_undo_refused old new f0 d0 d1 reads.Closed r = r
+  pub walk_undo_refused : (old new : Store) (f0 : F) (d0 d1 : D) (e : ReadError) → JournalRead n old new d0 d1 → WalkRefused n d0 d1 old.journal e → UndoJournalRefused m n old new f0 d0 d1 (read_in_all e)
+  walk_undo_refused old new f0 d0 d1 reads.Disk read r = r
+  walk_undo_refused old new f0 d0 d1 reads.Memory read r = read
+  walk_undo_refused old new f0 d0 d1 (reads.Damaged offset) read r = r
+  walk_undo_refused old new f0 d0 d1 reads.Closed read r = r
 
   -- nothing but the journal may differ
   abbrev pub Keeps : (old new : Store) → Type 0
@@ -266,7 +266,7 @@ module _ {F D : Type 0} (m : FolderModel F) (n : DiskModel D) where
   append_undo_refused : (old new : Store) (f0 : F) (d0 d1 d2 : D) (body : List ℕ) (e : JournalError) → disk.Untouched n d0 d1 → IsUndoBody m n old f0 d0 body → Leads old f0 d0 → Keeps old new
       → RecordRefused n old.journal new.journal d1 d2 (length body + 5) e → UndoJournalRefused m n old new f0 d0 d2 e
   append_undo_refused old new f0 d0 d1 d2 body cause.Disk untouched is leads same r = omega (arith, untouched.kept.faults, r.0)
-  append_undo_refused old new f0 d0 d1 d2 body cause.Memory untouched is leads same r = tt
+  append_undo_refused old new f0 d0 d1 d2 body cause.Memory untouched is leads same r = absurd r
   append_undo_refused old new f0 d0 d1 d2 body (cause.Damaged offset) untouched is leads same r = absurd r
   append_undo_refused old new f0 d0 d1 d2 body (cause.TooLong bytes) untouched is leads same r = (
     omega (arith, r.0, r.1),

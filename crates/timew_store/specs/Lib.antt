@@ -20,3 +20,5 @@ pub mod Undo
 pub mod Exact
 pub mod Known
 pub mod Few
+pub mod Edit
+pub mod Texts

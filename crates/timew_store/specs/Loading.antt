@@ -130,3 +130,18 @@ abbrev pub IsStoreFault : StoreError → Type 0
 IsStoreFault Folder = Unit {0}
 IsStoreFault (OfJournal e) = IsJournalFault e
 IsStoreFault Memory = Unit {0}
+
+-- ---- what a refusal leaves
+
+-- a refusal that is no fault of the disk
+abbrev pub SparesDisk : JournalError → Type 0
+SparesDisk Disk = ⊥
+SparesDisk e = Unit {0}
+
+abbrev pub StoreSparesDisk : StoreError → Type 0
+StoreSparesDisk (OfJournal e) = SparesDisk e
+StoreSparesDisk e = Unit {0}
+
+-- what the folder and the journal opened to they still open to
+abbrev pub StillOpen : {F D : Type 0} → FolderModel F → DiskModel D → (f0 f1 : F) (d0 d1 : D) → Type 0
+StillOpen m n f0 f1 d0 d1 = Tells m f0 → Settled m f0 → disk.Tells n d0 → (held : Held) → OpensTo (m.seen f0) (n.seen d0) held → OpensTo (m.seen f1) (n.seen d1) held

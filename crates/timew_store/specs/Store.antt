@@ -14,7 +14,7 @@ use Rattle.timew_store.specs.History.{History, Stands}
 use Rattle.timew_store.specs.Held.{magic, Held, OpensTo, IsAtRest, finished, held_by, replaced}
 use Rattle.timew_store.specs.Months.{changes_to}
 use Rattle.timew_store.specs.Gathered.{files_of, months_in}
-use Rattle.timew_store.specs.Loading.{OpeningRefused, IsJournalFault, StandAsBefore}
+use Rattle.timew_store.specs.Loading.{OpeningRefused, IsJournalFault, StandAsBefore, SparesDisk}
 use Rattle.timew_store.specs.Writing.{RecordRefused}
 use Rattle.timew_store.specs.Rows.{rows_of}
 use Rattle.timew_store.specs.declared.interval.Interval.{Interval}
@@ -104,6 +104,11 @@ IsLoadFault Folder = Unit {0}
 IsLoadFault (OfJournal e) = IsJournalFault e
 IsLoadFault (BadLine file line) = Unit {0}
 IsLoadFault Memory = Unit {0}
+
+-- a refusal that is no fault of the disk
+abbrev pub LoadSparesDisk : LoadError → Type 0
+LoadSparesDisk (OfJournal e) = SparesDisk e
+LoadSparesDisk e = Unit {0}
 
 -- ---- changing
 

@@ -97,7 +97,7 @@ JournalRead n old new d0 d1 = (new ≡ old) × Untouched n d0 d1
 -- why the journal is not read, or refuses the body of an undo
 abbrev pub UndoJournalRefused : {F D : Type 0} → FolderModel F → DiskModel D → (old new : Store) (f0 : F) (d0 d1 : D) → JournalError → Type 0
 UndoJournalRefused m n old new f0 d0 d1 cause.Disk = Rose (n.faults d0) (n.faults d1)
-UndoJournalRefused m n old new f0 d0 d1 cause.Memory = Unit {0}
+UndoJournalRefused m n old new f0 d0 d1 cause.Memory = JournalRead n old new d0 d1
 UndoJournalRefused m n old new f0 d0 d1 (cause.Damaged offset) = disk.Tells n d0 → (bodies : List (List ℕ)) → IsOpenOn n magic old.journal d0 bodies → (k : ℕ) × (k < length bodies) × IsNoStep (n.seen d0) bodies k offset
 UndoJournalRefused m n old new f0 d0 d1 (cause.TooLong bytes) = (2 ^ 30 < bytes) × JournalRead n old new d0 d1 × ((bodies : List (List ℕ)) (history : History) → IsStoreOn m n old f0 d0 bodies history → WritesBytes m f0 history bytes)
 UndoJournalRefused m n old new f0 d0 d1 cause.Closed = old.journal.closed ≡ true

@@ -1,21 +1,24 @@
 // What becomes of the month files when intervals are to stand in them.
-ghost use Rattle.std.specs.Prelude.{◌≡◌, ◌++◌, ◌∷◌, [], ℕ, List, true, Ok, map, OnOk, IfOk};
-ghost use Rattle.std.specs.List.{flat_map, AllByRecursion};
+ghost use Rattle.std.specs.Prelude.{◌≡◌, ◌++◌, ◌∷◌, [], ℕ, List, true, Ok, OnOk, IfOk, IfSome};
+ghost use Rattle.std.specs.List.{AllByRecursion};
 ghost use Rattle.tw_world.specs.Folder.{Files, same_bytes, add_name};
 ghost use Rattle.timew_store.specs.Body.{AreMonths};
+ghost use Rattle.timew_store.specs.Edit.{edited, IsEditOf};
 ghost use Rattle.timew_store.specs.Gathered.{files_of, months_in};
 ghost use Rattle.timew_store.specs.Held.{replaced};
 ghost use Rattle.timew_store.specs.Kept.{bytes_in, text_in, names_in, with_names, one_change};
 ghost use Rattle.timew_store.specs.Months.{changes_to};
 ghost use Rattle.timew_store.specs.Rows.{rows_of};
+ghost use Rattle.timew_store.specs.Texts.{text_of, texts_of};
 ghost use Rattle.timew_store.specs.Writable.{IsWritable};
 ghost use Rattle.timew_store.specs.Writing.{changes_of};
 
+use crate::edit::Edit;
+use crate::exact::after;
 use crate::files::MonthFile;
-use crate::intervals::Intervals;
 use crate::kept::Months;
 use crate::tail::add_tag;
-use crate::texts::texts_of;
+use crate::texts::{MonthText, texts_of};
 use crate::write::NewFile;
 use std::alloc::Global;
 use tw_world::{Memory, Text};
@@ -41,13 +44,13 @@ pub(crate) fn names_of(alloc: Global, files: &Vec<MonthFile>) -> Result<Vec<Text
 fn all_names(
     alloc: Global,
     kept: &Vec<MonthFile>,
-    months: &Vec<MonthFile>,
+    texts: &Vec<MonthText>,
 ) -> Result<Vec<Text>, Memory>
-    ensures { IfOk result (λ names. names.items ≡ with_names (files_of months.now.items) (names_in (files_of kept.now.items))) }
+    ensures { IfOk result (λ names. names.items ≡ with_names (texts_of texts.now.items) (names_in (files_of kept.now.items))) }
 {
     let mut names = names_of(alloc, kept)?;
-    for month in months {
-        add_tag(alloc, &mut names, month.name.as_str())?;
+    for text in texts {
+        add_tag(alloc, &mut names, text.name.as_str())?;
     }
     Ok(names)
 }
@@ -65,30 +68,58 @@ pub(crate) fn bytes_in<'a>(files: &'a Vec<MonthFile>, name: &Text) -> &'a [u8]
 }
 
 // The text for a name.
-fn text_in(alloc: Global, months: &Vec<MonthFile>, name: &Text) -> Result<Vec<u8>, Memory>
-    ensures { IfOk result (λ text. text.items ≡ text_in (files_of months.now.items) name.now) }
+fn text_in(alloc: Global, texts: &Vec<MonthText>, name: &Text) -> Result<Vec<u8>, Memory>
+    ensures { IfOk result (λ bytes. bytes.items ≡ text_in (texts_of texts.now.items) name.now) }
 {
-    let mut text = Vec::new(alloc);
-    for month in months {
-        if has_name(month, name) {
-            text.extend_from_slice(&month.bytes)?;
+    let mut bytes = Vec::new(alloc);
+    for text in texts {
+        if text.name.as_str() == name.as_str() {
+            bytes.extend_from_slice(text.kept)?;
+            bytes.extend_from_slice(&text.new)?;
         }
     }
-    Ok(text)
+    Ok(bytes)
+}
+
+// What of the bytes stands behind a text, where they begin with it.
+fn behind<'a>(text: &MonthText, bytes: &'a [u8]) -> Option<&'a [u8]>
+    ensures { IfSome result (λ rest. bytes.now ≡ (text_of text.now).1 ++ rest.now) }
+{
+    let rest = after(text.kept, bytes)?;
+    after(&text.new, rest)
+}
+
+// Whether the bytes are known to be the text for a name.
+fn is_text(bytes: &[u8], texts: &Vec<MonthText>, name: &Text) -> bool
+    ensures { result ≡ true → bytes.now ≡ text_in (texts_of texts.now.items) name.now }
+{
+    let mut rest = bytes;
+    for text in texts {
+        if text.name.as_str() == name.as_str() {
+            match behind(text, rest) {
+                Some(others) => rest = others,
+                None => return false,
+            }
+        }
+    }
+    rest.len() == 0
 }
 
 // What becomes of one file, where its text differs.
 fn add_change(
     alloc: Global,
     kept: &Vec<MonthFile>,
-    months: &Vec<MonthFile>,
+    texts: &Vec<MonthText>,
     name: &Text,
     changes: &mut Vec<NewFile>,
 ) -> Result<(), Memory>
-    ensures { OnOk result (changes_of changes.new.items ≡ changes_of changes.old.items ++ one_change (files_of kept.now.items) (files_of months.now.items) name.now) }
+    ensures { OnOk result (changes_of changes.new.items ≡ changes_of changes.old.items ++ one_change (files_of kept.now.items) (texts_of texts.now.items) name.now) }
 {
     let old = bytes_in(kept, name);
-    let new = text_in(alloc, months, name)?;
+    if is_text(old, texts, name) {
+        return Ok(());
+    }
+    let new = text_in(alloc, texts, name)?;
     if old != new.as_slice() {
         let name = name.copy(alloc)?;
         let old = old.to_vec(alloc)?;
@@ -97,18 +128,22 @@ fn add_change(
     Ok(())
 }
 
-/// What becomes of each month file whose text differs, in byte order of the names.
+/// What an edit makes of each month file whose text differs, in byte order of the names.
 pub(crate) fn changes_to(
     alloc: Global,
     months: &Months,
-    rows: &Intervals,
+    edit: &Edit,
 ) -> Result<Vec<NewFile>, Memory>
-    ensures changes { IfOk result (λ changes. (files : Files) → files_of months.now.files.items ≡ months_in files → changes_of changes.items ≡ changes_to files rows.now) }
+    requires { IsEditOf months.now.rows edit.now }
+    ensures changes { IfOk result (λ changes. (files : Files) → files_of months.now.files.items ≡ months_in files → changes_of changes.items ≡ changes_to files (edited edit.now months.now.rows)) }
     ensures named { IfOk result (λ changes. AreMonths (changes_of changes.items)) }
-    ensures writable { OnOk result (AllByRecursion IsWritable rows.now) }
-    ensures hold { OnOk result ((files : Files) → rows_of (replaced files (changes_to files rows.now)) ≡ Ok rows.now) }
+    ensures writable { OnOk result (AllByRecursion IsWritable (edited edit.now months.now.rows)) }
+    ensures hold { OnOk result ((files : Files) → rows_of (replaced files (changes_to files (edited edit.now months.now.rows))) ≡ Ok (edited edit.now months.now.rows)) }
 {
-    let texts = texts_of(alloc, months, rows.as_slice())?;
+    let texts = match texts_of(alloc, months, edit) {
+        Ok(texts) => texts,
+        Err(Memory) => return Err(Memory),
+    };
     let names = all_names(alloc, &months.files, &texts)?;
     let mut changes = Vec::new(alloc);
     for name in &names {

@@ -8,6 +8,7 @@ ghost use Rattle.std.proofs.Props.{props};
 use crate::files::MonthFile;
 use crate::intervals::Intervals;
 use crate::known::KnownText;
+use std::alloc::Global;
 
 /// Month files, in byte order of their names, the intervals that they hold, and which files are known to be the text of some of them.
 #[derive(Drop)]
@@ -17,4 +18,15 @@ pub(crate) struct Months {
     pub known: Vec<KnownText>,
     ghost named: { are_named files.items ≡ true },
     ghost known_are: { AreKnown files.items rows known.items } by { Prim.hlevel (props, IsEnd-prop) },
+}
+
+impl Months {
+    /// No month files.
+    pub(crate) fn none(alloc: Global) -> Months {
+        Months {
+            files: Vec::new(alloc),
+            rows: Intervals::new(alloc),
+            known: Vec::new(alloc),
+        }
+    }
 }

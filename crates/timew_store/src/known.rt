@@ -6,6 +6,7 @@ ghost use Rattle.timew_store.specs.Body.{is_month_name};
 ghost use Rattle.timew_store.specs.Exact.{IsText};
 ghost use Rattle.timew_store.specs.Interval.{AreRows};
 ghost use Rattle.timew_store.specs.Known.{part, IsKnown, AreKnown, IsMonthOf, IsOfMonth, first_name};
+ghost use Rattle.timew_store.specs.Texts.{text_of};
 ghost use Rattle.timew_store.specs.Writable.{IsWritable};
 
 use crate::files::MonthFile;
@@ -13,8 +14,7 @@ use crate::interval::Interval;
 use crate::kept::Months;
 use crate::month::MonthRows;
 use crate::months::month_name;
-use crate::same::are_same;
-use crate::texts::{is_in_month, name_text};
+use crate::texts::{MonthText, is_in_month, name_text};
 use std::alloc::Global;
 use tw_world::Memory;
 
@@ -53,31 +53,15 @@ pub(crate) fn add_month(
     Ok(())
 }
 
-// Whether the first so many intervals are those of which a file was the text.
-fn is_of(text: KnownText, old: &[Interval], rows: &[Interval]) -> bool
-    ensures count { result ≡ true → (0 < text.count) × (text.count ≤ length rows.now) }
-    ensures same { result ≡ true → take text.count rows.now ≡ part text.first text.count old.now }
-{
-    if text.count == 0 || text.count > rows.len() || text.first > old.len() {
-        return false;
-    }
-    let (_, behind) = old.split_at(text.first);
-    if text.count > behind.len() {
-        return false;
-    }
-    let (known, _) = behind.split_at(text.count);
-    let (front, _) = rows.split_at(text.count);
-    are_same(front, known)
-}
-
-// The text that is known of the first so many intervals.
-fn text_ahead(months: &Months, rows: &[Interval]) -> Option<KnownText>
+// The text that is known of the first so many of these intervals, which stand in the months from a place on.
+fn text_ahead(months: &Months, first: usize, rows: &[Interval]) -> Option<KnownText>
+    requires { rows.now ≡ part first (length rows.now) months.now.rows }
     ensures known { IfSome result (IsKnown months.now.files.items months.now.rows) }
     ensures count { IfSome result (λ text. (0 < text.count) × (text.count ≤ length rows.now)) }
     ensures same { IfSome result (λ text. take text.count rows.now ≡ part text.first text.count months.now.rows) }
 {
     for text in &months.known {
-        if is_of(*text, months.rows.as_slice(), rows) {
+        if text.first == first && 0 < text.count && text.count <= rows.len() {
             return Some(*text);
         }
     }
@@ -96,20 +80,22 @@ fn is_one_month(rows: &[Interval], count: usize) -> bool
     is_in_month(&name, &rows[count - 1])
 }
 
-/// The text of the first so many intervals, which start in one month, where a file is known to be it.
-pub(crate) fn known_month(
+/// The text of the first so many of these intervals, which start in one month, where a file is known to be it.
+pub(crate) fn known_month<'a>(
     alloc: Global,
-    months: &Months,
+    months: &'a Months,
+    first: usize,
     rows: &[Interval],
-) -> Result<Option<(MonthFile, usize)>, Memory>
+) -> Result<Option<(MonthText<'a>, usize)>, Memory>
     requires some { 0 < length rows.now }
     requires are { AreRows rows.now }
+    requires part { rows.now ≡ part first (length rows.now) months.now.rows }
     ensures some { IfOk result (λ known. IfSome known (λ x. 0 < x.1)) }
     ensures inside { IfOk result (λ known. IfSome known (λ x. x.1 ≤ length rows.now)) }
-    ensures month { IfOk result (λ known. IfSome known (λ x. IsMonthOf x.0.name x.0.bytes.items (take x.1 rows.now))) }
+    ensures month { IfOk result (λ known. IfSome known (λ x. IsMonthOf x.0.name (text_of x.0).1 (take x.1 rows.now))) }
     ensures good { IfOk result (λ known. IfSome known (λ x. is_month_name x.0.name ≡ true)) }
 {
-    let Some(text) = text_ahead(months, rows) else {
+    let Some(text) = text_ahead(months, first, rows) else {
         return Ok(None);
     };
     if text.file >= months.files.len() {
@@ -119,7 +105,10 @@ pub(crate) fn known_month(
     if !is_one_month(rows, text.count) {
         return Ok(None);
     }
-    let name = name_text(alloc, &month_name(rows[0].start))?;
-    let bytes = file.bytes.as_slice().to_vec(alloc)?;
-    Ok(Some((MonthFile { name, bytes }, text.count)))
+    let month = MonthText {
+        name: name_text(alloc, &month_name(rows[0].start))?,
+        kept: &file.bytes,
+        new: Vec::new(alloc),
+    };
+    Ok(Some((month, text.count)))
 }

@@ -7,6 +7,7 @@ mod after;
 mod bare;
 mod body;
 mod changes;
+mod edit;
 mod error;
 mod exact;
 mod fields;
@@ -34,6 +35,7 @@ mod undo;
 mod write;
 mod writing;
 
+pub use edit::Edit;
 pub use error::{LoadError, StoreError, UndoError};
 pub use interval::{Interval, Texts};
 pub use intervals::Intervals;
@@ -41,6 +43,3 @@ pub use month::{MonthError, read_month};
 pub use months::write_month;
 pub use store::Store;
 pub use writing::put_line;
-
-#[cfg(test)]
-mod tests;

@@ -9,7 +9,7 @@ ghost use Rattle.timew_store.specs.Reading.{step_in, files_held};
 ghost use Rattle.tw_world.specs.Crash.{Tells, Settled, LeavesOnly, Kept, Reads};
 ghost use Rattle.tw_world.specs.Folder.{same_bytes, is_file_name};
 ghost use Rattle.timew_store.specs.Held.{magic, bytes_of, finished_file, finished, Held, OpensTo};
-ghost use Rattle.timew_store.specs.Loading.{IsFinishedTo, IsLoaded, OpensAlike, last_of, StepRefused, LastRefused, FinishRefused, IsStoreFault};
+ghost use Rattle.timew_store.specs.Loading.{IsFinishedTo, IsLoaded, OpensAlike, last_of, StepRefused, LastRefused, FinishRefused, IsStoreFault, StoreSparesDisk, StillOpen};
 ghost use Rattle.timew_store.specs.Writing.{change_of, changes_of, AreFileNames};
 
 use crate::body::{Record, read_record};
@@ -125,6 +125,7 @@ pub(crate) fn open_and_finish<F: Folder, D: Disk>(
     ensures length { IfOk result (λ journal. (D.model.len disk.new ≡ journal_end journal) × (is_closed journal ≡ false)) }
     ensures any_moment { Tells F.model folder.old → Settled F.model folder.old → tells.Tells D.model disk.old → InTurns F.model (crash_of D.model) (OpensAlike F.model D.model folder.old disk.old) folder.old disk.old folder.new disk.new }
     ensures refused { IfErr result (λ e. FinishRefused F.model D.model folder.old folder.new disk.old disk.new e) }
+    ensures stays { IfErr result (λ e. StoreSparesDisk e → StillOpen F.model D.model folder.old folder.new disk.old disk.new) }
     ensures sound { (held : Held) → tells.Tells D.model disk.old → OpensTo (F.model.seen folder.old) (D.model.seen disk.old) held → IfErr result IsStoreFault }
     ensures folder { Kept F.model folder.old folder.new }
     ensures disk { tells.Kept D.model disk.old disk.new }

@@ -1,16 +1,21 @@
 // What is prepared before a record is written.
-ghost use Rattle.std.specs.Prelude.{◌≡◌, true, IfOk};
+ghost use Rattle.std.specs.Prelude.{◌≡◌, true, Ok, IfOk};
 ghost use Rattle.tw_world.specs.Folder.{Files};
 ghost use Rattle.timew_store.specs.Body.{AreMonths, body_of};
 ghost use Rattle.timew_store.specs.Body.Step.{Change};
+ghost use Rattle.timew_store.specs.Edit.{edited, IsEditOf};
+ghost use Rattle.timew_store.specs.Gathered.{files_of, months_in};
 ghost use Rattle.timew_store.specs.Held.{replaced};
+ghost use Rattle.timew_store.specs.Kept.{are_named};
 ghost use Rattle.timew_store.specs.Months.{changes_to};
+ghost use Rattle.timew_store.specs.Rows.{rows_of};
 ghost use Rattle.timew_store.specs.Store.{HoldMonths};
 ghost use Rattle.timew_store.specs.Writing.{changes_of};
 
 use crate::after::files_after;
 use crate::changes::changes_to;
-use crate::intervals::Intervals;
+use crate::edit::Edit;
+use crate::files::MonthFile;
 use crate::kept::Months;
 use crate::record::change_body;
 use crate::write::NewFile;
@@ -25,29 +30,34 @@ pub(crate) struct Prepared {
     pub months: Months,
 }
 
-/// Prepares that these intervals stand in the month files.
-pub(crate) fn prepared_change(
+/// What becomes of the month files by an edit, the body of its record, and the month files afterwards.
+#[derive(Drop)]
+pub(crate) struct PreparedEdit {
+    pub changes: Vec<NewFile>,
+    pub body: Vec<u8>,
+    pub files: Vec<MonthFile>,
+}
+
+/// Prepares that the intervals after an edit stand in the month files.
+pub(crate) fn prepared_edit(
     alloc: Global,
     months: &Months,
-    next: Intervals,
-) -> Result<Prepared, Memory>
+    edit: &Edit,
+) -> Result<PreparedEdit, Memory>
+    requires { IsEditOf months.now.rows edit.now }
     ensures body { IfOk result (λ p. p.body.items ≡ body_of (Change (changes_of p.changes.items))) }
-    ensures changes { IfOk result (λ p. (files : Files) → HoldMonths files months.now → changes_of p.changes.items ≡ changes_to files next) }
-    ensures months { IfOk result (λ p. (files : Files) → HoldMonths files months.now → HoldMonths (replaced files (changes_of p.changes.items)) p.months) }
+    ensures changes { IfOk result (λ p. (files : Files) → HoldMonths files months.now → changes_of p.changes.items ≡ changes_to files (edited edit.now months.now.rows)) }
+    ensures files { IfOk result (λ p. (files : Files) → HoldMonths files months.now → files_of p.files.items ≡ months_in (replaced files (changes_of p.changes.items))) }
+    ensures rows { IfOk result (λ p. (files : Files) → HoldMonths files months.now → rows_of (replaced files (changes_of p.changes.items)) ≡ Ok (edited edit.now months.now.rows)) }
+    ensures good { IfOk result (λ p. are_named p.files.items ≡ true) }
     ensures named { IfOk result (λ p. AreMonths (changes_of p.changes.items)) }
-    ensures rows { IfOk result (λ p. p.months.rows ≡ next) }
 {
-    let changes = changes_to(alloc, months, &next)?;
+    let changes = changes_to(alloc, months, edit)?;
     let body = change_body(alloc, &changes)?;
     let files = files_after(alloc, &months.files, &changes)?;
-    let months = Months {
-        files,
-        rows: next,
-        known: Vec::new(alloc),
-    };
-    Ok(Prepared {
+    Ok(PreparedEdit {
         changes,
         body,
-        months,
+        files,
     })
 }

@@ -27,26 +27,12 @@ fn is_same_end(end: Option<u64>, other: Option<u64>) -> bool
     }
 }
 
-fn is_same(row: &Interval, other: &Interval) -> bool
+/// Whether these are the same intervals.
+pub(crate) fn is_same(row: &Interval, other: &Interval) -> bool
     ensures { result ≡ true → row.now ≡ other.now }
 {
     row.start == other.start
         && is_same_end(row.end, other.end)
         && are_same_texts(&row.tags, &other.tags)
         && row.annotation.as_str() == other.annotation.as_str()
-}
-
-/// Whether these are the same intervals.
-pub(crate) fn are_same(rows: &[Interval], others: &[Interval]) -> bool
-    ensures { result ≡ true → rows.now ≡ others.now }
-{
-    if rows.len() != others.len() {
-        return false;
-    }
-    for n in 0..rows.len() {
-        if !is_same(&rows[n], &others[n]) {
-            return false;
-        }
-    }
-    true
 }

@@ -4,7 +4,7 @@ use Rattle.tw_world.specs.Disk.{DiskModel, Tells, LeavesOnly}
 use Rattle.tw_world.specs.Sink.{SinkModel}
 use Rattle.tw_world.specs.Source.{SourceModel}
 use Rattle.tw_world.proofs.Moments.{CountsNow, weaker}
-use Rattle.tw_journal.specs.Open.{Records, IsImageThen}
+use Rattle.tw_journal.specs.Form.{Records, has_areas}
 use Rattle.tw_journal.proofs.Unique.{one_records}
 use Rattle.tw_protocol.specs.Chain.{Version, Grows}
 use Rattle.tw_http.specs.Link.{LinkModel, IsHonest, IsChainOf, IsServedChain}
@@ -22,6 +22,7 @@ use Rattle.tw_world.specs.declared.ids.IdWords.{IdWords}
 use Rattle.tw_model.specs.declared.changes.Change.{Change}
 use Rattle.tw_model.specs.Changes.{changed_all, ops_of_all, group_of}
 use Rattle.tw_replica.specs.State.{applied}
+use Rattle.tw_replica.specs.Opening.{IsOpening, opened_bodies}
 use Rattle.tw_replica.specs.Prepared.{step_bodies}
 use Rattle.tw_commands.specs.Marks.{mask_changes}
 use Rattle.tw_commands.specs.Plan.{Plan, Work, step_in}
@@ -98,9 +99,10 @@ module _ {D L : Type 0} (m : DiskModel D) (links : LinkModel L) (d0 d1 : D) (l0 
     still : Agrees here.0 (links.chain l1)
     still = agrees_is_kept here.0 (links.chain l0) (links.chain l1) here.2 grows
 
-    image_agrees : (file : List ℕ) → IsImageThen m d0 magic file → m.leaves d0 file ⊎ OpensAgreeing (links.chain l1) file
-    image_agrees file (inl was) = inl was
-    image_agrees file (inr same) =
+    image_agrees : (file : List ℕ) → IsOpening m d0 file → m.leaves d0 file ⊎ OpensAgreeing (links.chain l1) file
+    image_agrees file (inl (inl was)) = inl was
+    image_agrees file (inr alike) = inr (alike.state, alike.second, subst (λ s. Agrees s (links.chain l1)) (opens_one (m.seen d0) here.0 alike.state here.1 alike.first) still)
+    image_agrees file (inl (inr same)) =
         let bodies : here.1.bodies ≡ same.0 = one_records magic (m.seen d0) here.1.bodies same.0 here.1.records same.1 in
         inr (here.0, record { bodies = here.1.bodies; records = subst (Records magic file) (sym bodies) same.2; stands = here.1.stands }, still)
 
@@ -111,11 +113,11 @@ module _ {D L : Type 0} (m : DiskModel D) (links : LinkModel L) (d0 d1 : D) (l0 
 
     -- what a crash leaves: an image that it could leave before, or a replica that agrees
     records_agree : LeavesRecords m d0 d1 → Tells m d0 → LeavesOnly m d0 d1 (λ file. m.leaves d0 file ⊎ OpensAgreeing (links.chain l1) file)
-    records_agree run tells = weaker m d0 d1 (IsImageThen m d0 magic) (λ file. m.leaves d0 file ⊎ OpensAgreeing (links.chain l1) file) (run tells) image_agrees
+    records_agree run tells = weaker m d0 d1 (IsOpening m d0) (λ file. m.leaves d0 file ⊎ OpensAgreeing (links.chain l1) file) (run tells) image_agrees
 
     by_cause : (next : State → Option State) → LeadsAgreeing (links.chain l1) (next here.0) → (cause : Cause) → LeavesBy m next d0 d1 cause → Tells m d0 → LeavesOnly m d0 d1 (λ file. m.leaves d0 file ⊎ OpensAgreeing (links.chain l1) file)
     by_cause next leads cause run tells =
-        weaker m d0 d1 (λ file. IsImageThen m d0 magic file ⊎ IsStepOf (m.seen d0) next file) (λ file. m.leaves d0 file ⊎ OpensAgreeing (links.chain l1) file) (leaves_either m next d0 d1 cause run tells)
+        weaker m d0 d1 (λ file. IsOpening m d0 file ⊎ IsStepOf (m.seen d0) next file) (λ file. m.leaves d0 file ⊎ OpensAgreeing (links.chain l1) file) (leaves_either m next d0 d1 cause run tells)
         (λ file left. ⊎_elim (image_agrees file) (λ step. inr (step_agrees next leads file step)) left)
 
     by_command : {S : Type 0} (sources : SourceModel S) (i0 i1 : S) (request : Request) (ids : IdWords) (cause : Cause) → LeavesCommand m sources request ids d0 d1 i0 i1 cause → Tells m d0 → LeavesOnly m d0 d1 (λ file. m.leaves d0 file ⊎ OpensAgreeing (links.chain l1) file)
@@ -135,7 +137,7 @@ module _ {D L : Type 0} (m : DiskModel D) (links : LinkModel L) (d0 d1 : D) (l0 
   more_agrees : (more : List (List ℕ)) (state old new : State) → OpensTo (m.seen d0) state → Agrees state (links.chain l0) → HasMore (m.seen d0) (m.seen d1) more old new → (Agrees old (links.chain l0) → Agrees new (links.chain l1)) → OpensAgreeing (links.chain l1) (m.seen d1)
   more_agrees more state old new opens a has leads =
       let is : state ≡ old = opens_one (m.seen d0) state old opens (record { bodies = has.bodies; records = has.had; stands = has.stood }) in
-      (new, record { bodies = has.bodies ++ more; records = has.has; stands = has.stands }, leads (subst (λ s. Agrees s (links.chain l0)) is a))
+      (new, record { bodies = opened_bodies (has_areas (m.seen d0)) old has.bodies ++ more; records = has.has; stands = has.stands }, leads (subst (λ s. Agrees s (links.chain l0)) is a))
 
   carried_out_agrees : (request : Request) (ids : IdWords) → CarriedOut m request ids d0 d1 → l1 ≡ l0 → Tells m d0 → OpensAgreeing (links.chain l0) (m.seen d0) → OpensAgreeing (links.chain l1) (m.seen d1)
   carried_out_agrees request ids run same tells here =

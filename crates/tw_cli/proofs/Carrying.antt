@@ -6,7 +6,9 @@ use Rattle.tw_world.specs.declared.ids.IdWords.{IdWords}
 use Rattle.tw_journal.specs.Journal.{IsOpenOn, is_closed}
 use Rattle.tw_replica.specs.declared.error.WriteError.TheVariants as writes
 use Rattle.tw_replica.specs.State.{Stands, applied}
-use Rattle.tw_replica.specs.Replica.{magic, OpensToEither, IsReplicaOn, IsOpenedReplica, held_state, is_replica_closed, OpeningRefused}
+use Rattle.tw_journal.specs.Form.{has_areas}
+use Rattle.tw_replica.specs.Opening.{IsOpenedReplica, opened_bodies}
+use Rattle.tw_replica.specs.Replica.{magic, OpensToEither, IsReplicaOn, held_state, is_replica_closed, OpeningRefused}
 use Rattle.tw_replica.specs.Prepared.{step_bodies, prepared_bodies, prepared_state, HasSize, RecordsOrAll, PreparedRefused}
 use Rattle.tw_replica.specs.declared.replica.Replica.{Replica}
 use Rattle.tw_replica.proofs.Preparing.{prepared_on, prepared_leaves}
@@ -127,8 +129,10 @@ module _ {D : Type 0} (m : DiskModel D) (request : Request) (ids : IdWords) wher
       shows_text new state opens = (record { old = held_state old; carried = come; is = comes; disk = λ tells. by (opened tells) }, refl)
         where
           by : IsOpenedReplica m d0 mid old → HasMore (m.seen d0) (m.seen d1) (step_bodies is.step) (held_state old) (prepared_state ready.prepared) × Settled m d1
-          by o = let n : IsReplicaOn m new d1 (o.bodies ++ step_bodies is.step) = prepared_on m old is.step ready.prepared is.prepared o.bodies mid d1 o.now new state opens in
-              (record { bodies = o.bodies; had = o.records; stood = o.now.stands; has = records_of m d1 new (o.bodies ++ step_bodies is.step) n; stands = subst (Stands (o.bodies ++ step_bodies is.step)) state n.stands }, n.open_on.rest.settled)
+          by o =
+              let left : List (List ℕ) = opened_bodies (has_areas (m.seen d0)) (held_state old) o.bodies in
+              let n : IsReplicaOn m new d1 (left ++ step_bodies is.step) = prepared_on m old is.step ready.prepared is.prepared left mid d1 o.now new state opens in
+              (record { bodies = o.bodies; had = o.records; stood = o.stands; has = records_of m d1 new (left ++ step_bodies is.step) n; stands = subst (Stands (left ++ step_bodies is.step)) state n.stands }, n.open_on.rest.settled)
 
       -- a write that passes the limit
       pub passes_limit : (bytes : ℕ) → PreparedRefused m ready.prepared mid d1 (writes.TooLong bytes) → PassesLimit m request ids d0 d1 bytes

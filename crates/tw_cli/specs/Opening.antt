@@ -1,18 +1,19 @@
 -- Opening the replica that a disk holds, and the records that a run leaves.
 use Rattle.std.specs.Prelude.{ℕ, List, [], ◌++◌}
 use Rattle.tw_world.specs.Disk.{DiskModel, Tells}
-use Rattle.tw_journal.specs.Open.{Records}
+use Rattle.tw_journal.specs.Form.{Records, has_areas}
 use Rattle.tw_replica.specs.State.{State, Stands}
 use Rattle.tw_replica.specs.Replica.{magic}
+use Rattle.tw_replica.specs.Opening.{opened_bodies}
 
--- a file's records stood for a state, and now these stand behind them, and all stand for another
+-- a file's records stood for a state, and now these stand behind those that its opening leaves, and all stand for another
 pub record HasMore (before after : List ℕ) (more : List (List ℕ)) (old new : State) : Type 0 where
   pub bodies : List (List ℕ)
   pub had : Records magic before bodies
   pub stood : Stands bodies old
-  pub has : Records magic after (bodies ++ more)
-  pub stands : Stands (bodies ++ more) new
+  pub has : Records magic after (opened_bodies (has_areas before) old bodies ++ more)
+  pub stands : Stands (opened_bodies (has_areas before) old bodies ++ more) new
 
--- the records stay, and stand for this state
+-- the records are those that an opening leaves, and stand for this state
 abbrev pub Stays : {D : Type 0} → DiskModel D → (d0 d1 : D) → State → Type 0
 Stays m d0 d1 state = Tells m d0 → HasMore (m.seen d0) (m.seen d1) [] state state

@@ -1,7 +1,8 @@
 // Opening the replica that a disk holds.
 ghost use Rattle.std.specs.Prelude.{◌≡◌, false, IfOk, IfErr};
 ghost use Rattle.tw_world.specs.Disk.{Tells, Kept};
-ghost use Rattle.tw_replica.specs.Replica.{IsOpenedReplica, IsLengthKept, OpeningRefused, is_replica_closed};
+ghost use Rattle.tw_replica.specs.Replica.{IsLengthKept, OpeningRefused, is_replica_closed};
+ghost use Rattle.tw_replica.specs.Opening.{IsOpenedReplica};
 ghost use Rattle.tw_cli.specs.Crash.{LeavesRecords};
 
 use std::alloc::Global;
@@ -9,7 +10,7 @@ use std::mem::forget;
 use tw_replica::{OpenError, Replica};
 use tw_world::Disk;
 
-/// Opens the replica that a disk holds. The records stay.
+/// Opens the replica that a disk holds. The records stay, or one of the state takes their place.
 pub(crate) fn open<D: Disk>(alloc: Global, disk: &mut D) -> Result<Replica, OpenError>
     ensures opened { IfOk result (λ replica. Tells D.model disk.old → IsOpenedReplica D.model disk.old disk.new replica) }
     ensures length { IfOk result (λ replica. IsLengthKept D.model replica disk.new) }

@@ -6,8 +6,8 @@ use Rattle.std.proofs.lemmas.Option.{same_Some, cond_some}
 use Rattle.tw_model.specs.declared.Op.{Op}
 use Rattle.tw_model.specs.declared.Op.TheVariants.{Create, Delete, Update, UndoPoint}
 use Rattle.tw_replica.specs.Body.{Step, is_undo_point, has_no_point, is_group}
-use Rattle.tw_replica.specs.Body.Step.{Commit, Undo, Sync}
-use Rattle.tw_replica.specs.Reading.{◌>>=◌, number_at, uuid_at, many_at, op_at, group_of, commit_of, sync_op_at, sync_of, step_of}
+use Rattle.tw_replica.specs.Body.Step.{Commit, Undo, Sync, Checkpoint}
+use Rattle.tw_replica.specs.Reading.{◌>>=◌, number_at, uuid_at, many_at, op_at, group_of, commit_of, sync_op_at, sync_of, counted_at, place_at, tasks_at, checkpoint_of, step_of}
 use Rattle.tw_replica.specs.State.{in_front, split_group}
 use Rattle.tw_replica.specs.Pending.{BeginsWithPoint}
 use Rattle.tw_replica.proofs.Spelled.{bind_some, both_hold}
@@ -46,6 +46,7 @@ abbrev pub IsOfGroup : Step → Type 0
 IsOfGroup (Commit renumber ops) = is_group ops ≡ true
 IsOfGroup Undo = Unit {0}
 IsOfGroup (Sync base ops) = Unit {0}
+IsOfGroup (Checkpoint base places tasks pending) = Unit {0}
 
 pub group_read : (bytes : List ℕ) (ops : List Op) → group_of bytes ≡ Some ops → is_group ops ≡ true
 unfolding group_of
@@ -77,6 +78,18 @@ sync_read rest step e =
     let here : IsOfGroup made = tt in
     subst IsOfGroup (cond_some (length o.0.1 == 0) made step o.2).1 here
 
+checkpoint_read : (rest : List ℕ) (step : Step) → checkpoint_of rest ≡ Some step → IsOfGroup step
+unfolding checkpoint_of
+checkpoint_read rest step e =
+    let u = bind_some (uuid_at rest) _ step e in
+    let p = bind_some (counted_at place_at u.0.1) _ step u.2 in
+    let t = bind_some (tasks_at p.0.1) _ step p.2 in
+    let n = bind_some (number_at w32 t.0.1) _ step t.2 in
+    let o = bind_some (many_at op_at n.0.0 n.0.1) _ step n.2 in
+    let made : Step = Checkpoint u.0.0 p.0.0 t.0.0 o.0.0 in
+    let here : IsOfGroup made = tt in
+    subst IsOfGroup (cond_some (length o.0.1 == 0) made step o.2).1 here
+
 pub step_read : (body : List ℕ) (step : Step) → step_of body ≡ Some step → IsOfGroup step
 unfolding step_of
 step_read [] step e = absurd cc
@@ -84,7 +97,9 @@ step_read (zero ∷ rest) step e = absurd cc
 step_read (suc zero ∷ rest) step e = commit_read rest step e
 step_read (suc (suc zero) ∷ rest) step e = subst IsOfGroup (cond_some _ _ step e).1 tt
 step_read (suc (suc (suc zero)) ∷ rest) step e = sync_read rest step e
-step_read (suc (suc (suc (suc b))) ∷ rest) step e = absurd cc
+step_read (suc (suc (suc (suc zero))) ∷ rest) step e = absurd cc
+step_read (suc (suc (suc (suc (suc zero)))) ∷ rest) step e = checkpoint_read rest step e
+step_read (suc (suc (suc (suc (suc (suc b))))) ∷ rest) step e = absurd cc
 
 -- ---- how the operations begin
 

@@ -1,12 +1,12 @@
 -- Places that are assigned to tasks, and what is to be looked at once some tasks have changed.
-use Rattle.std.specs.Prelude.{◌≡◌, ℕ, Bool, false, not, cond, ◌&&◌, List, [], ◌∷◌, map, Option, Some, None}
+use Rattle.std.specs.Prelude.{◌≡◌, ℕ, Bool, true, false, not, cond, ◌&&◌, ◌||◌, List, [], ◌∷◌, ◌++◌, map, Option, Some, None}
 use Rattle.std.specs.Coded.{×_prop, Π_prop, Unit-prop, Coded-set, coded_bool}
-use Rattle.std.specs.List.{list_any}
+use Rattle.std.specs.List.{list_any, list_all}
 use Rattle.std.specs.Ordering.{eq_by_cmp}
-use Rattle.std.specs.FinMap.{get}
+use Rattle.std.specs.FinMap.{get, entries}
 use Rattle.std.specs.BTreeMap as tree
 use Rattle.tw_model.specs.Maps.{bytes_cmp, same_bytes}
-use Rattle.tw_model.specs.Ops.{TasksValue, uuid_of}
+use Rattle.tw_model.specs.Ops.{TaskValue, TasksValue, uuid_of}
 use Rattle.tw_model.specs.declared.Op.{Op}
 use Rattle.tw_model.specs.declared.Op.TheVariants.{Create, Delete, Update, UndoPoint}
 use Rattle.tw_model.specs.declared.SyncOp.{SyncOp}
@@ -23,6 +23,24 @@ IsOnce (Some u ∷ places) = (is_placed places u ≡ false) × IsOnce places
 pub record IsAssignedIn (places : Places) (tasks : TasksValue) : Type 0 where
   pub same : (u : List ℕ) → is_placed places u ≡ is_open (get tasks u)
   pub once : IsOnce places
+
+-- whether a place may stand behind others: it is vacant, or an open task has it that has none of the others
+abbrev pub fits_behind : Places → TasksValue → Option (List ℕ) → Bool
+fits_behind before tasks None = true
+fits_behind before tasks (Some u) = not (is_placed before u) && is_open (get tasks u)
+
+-- whether places may stand behind others, one after another
+abbrev pub all_fit : Places → TasksValue → Places → Bool
+all_fit before tasks [] = true
+all_fit before tasks (place ∷ places) = fits_behind before tasks place && all_fit (before ++ place ∷ []) tasks places
+
+-- whether a task has a place where it is open
+abbrev pub has_its_place : Places → List ℕ × TaskValue → Bool
+has_its_place places entry = not (is_open (Some entry.1)) || is_placed places entry.0
+
+-- whether the places are assigned to the tasks, as it is tested
+abbrev pub is_assigned : Places → TasksValue → Bool
+is_assigned places tasks = all_fit [] tasks places && list_all (has_its_place places) (entries tasks)
 
 once_prop : (places : Places) → IsProp (IsOnce places)
 once_prop [] = Unit-prop

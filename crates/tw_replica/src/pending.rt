@@ -142,7 +142,7 @@ fn read_behind(
 }
 
 // A record's body takes fewer bytes.
-const BODY_LIMIT: usize = 4_294_967_296;
+pub(crate) const BODY_LIMIT: usize = 4_294_967_296;
 
 /// A copy of a body that a record can hold. To keep another there is no room.
 pub(crate) fn copy_of(alloc: Global, body: &[u8]) -> Result<Vec<u8>, Memory>

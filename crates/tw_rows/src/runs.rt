@@ -219,3 +219,50 @@ fn a_disk_that_fails_is_told_and_keeps_its_records(rt: HostRuntime) -> Result<()
     }
     Ok(())
 }
+
+// Where the last two bytes of the task's uuid stand in the journal of an added task.
+const NUMBERS: [usize; 5] = [56, 73, 131, 185, 242];
+
+// The journal after so many tasks were added, whose uuids end with their numbers.
+fn added(alloc: Global, count: u16) -> Result<Vec<u8>, Fail> {
+    let mut bytes = ADDED[..29].to_vec(alloc)?;
+    let mut journal = ADDED;
+    for number in 0..count {
+        let [high, low] = number.to_be_bytes();
+        for at in NUMBERS {
+            if at < 278 {
+                journal[at] = high;
+                journal[at + 1] = low;
+            }
+        }
+        bytes.extend_from_slice(&journal[29..])?;
+    }
+    Ok(bytes)
+}
+
+// The first command writes the state in place of the 2,000 records.
+#[test]
+fn a_line_of_200_words_adds_to_2000_tasks(rt: HostRuntime) -> Result<(), Fail> {
+    let alloc = rt.alloc();
+    let journal = added(alloc, 2000)?;
+    if journal.len() > 1 << 20 {
+        return Err(Fail::new("a long journal"));
+    }
+    let mut disk = MemoryDisk::new(alloc, journal, Vec::new(alloc))?;
+    let mut line = String::from_str(alloc, "add")?;
+    for _ in 0..200 {
+        line.push_str("|word")?;
+    }
+    for (line, printed) in [
+        ("count", "2000\n"),
+        (line.as_str(), "Created task 2001.\n"),
+        ("count", "2001\n"),
+        ("undo", "Undone 5 operations.\n"),
+        ("count", "2000\n"),
+    ] {
+        let ended = run_from(alloc, 2001, line, &mut disk, &[])?;
+        assert_eq!(rt; ended.out.bytes(), printed.as_bytes());
+        assert_eq!(rt; disk.bytes().first(), Some(&3));
+    }
+    Ok(())
+}

@@ -10,12 +10,14 @@ use Rattle.tw_http.specs.declared.message.Response.TheVariants as replies
 use Rattle.tw_segment.specs.Segment.{max_len, segment_text, IsSegment}
 use Rattle.tw_replica.specs.State.{State}
 use Rattle.tw_sync.specs.End.{IsPulled, AddedOne}
-use Rattle.tw_sync.specs.Heard.{Heard, Hears, HearsUntil, conflicts, most_exchanges}
+use Rattle.tw_sync.specs.Fold.{Reads}
+use Rattle.tw_sync.specs.Heard.{Heard, Hears, HearsUntil, conflicts, versions_in, most_exchanges}
 use Rattle.tw_sync.specs.Answers.{GrowsOn, IsAddedOne, add_heard, HeardUnasked, NoReply, AddRefused}
-use Rattle.tw_sync.specs.Refused.{EndedBy, GoesOnFrom, HeardRefused, MayAdd}
+use Rattle.tw_sync.specs.Refused.{EndedBy, IsUpToDate, HeardRefused, MayAdd}
 use Rattle.tw_sync.specs.Sync.{server_chain, IsLastReply}
-use Rattle.tw_sync.specs.Honest.{HonestRefused}
-use Rattle.tw_sync.specs.Progress.{HeardSoFar, IsUpToDate, IsAtEnd, HasPulled, HeardAll, IsMet, IsCause, HeardToStop, StopsTruly, IsStopped}
+use Rattle.tw_sync.specs.Measured.{IsMeasured}
+use Rattle.tw_sync.specs.Honest.{HonestRefused, RestsOnPulled}
+use Rattle.tw_sync.specs.Progress.{HeardSoFar, IsAtEnd, HasPulled, HeardAll, IsMet, IsCause, HeardToStop, StopsTruly, IsStopped}
 use Rattle.tw_sync.specs.Sending.{IsUnsent}
 use Rattle.tw_sync.specs.declared.ask.AddAnswer.TheVariants.{Added}
 use Rattle.tw_sync.specs.declared.cursor.Cursor.{Cursor}
@@ -26,11 +28,12 @@ use Rattle.tw_sync.specs.declared.error.SendError.TheVariants as sending
 use Rattle.tw_sync.specs.declared.error.SyncError.{SyncError}
 use Rattle.tw_sync.specs.declared.error.SyncError.TheVariants as errors
 use Rattle.tw_sync.proofs.Standing.{cut_grows, pulled_grows}
-use Rattle.tw_sync.proofs.Hearing.{kept_on, growing_on, hears_on, hears_until, hears_until_on, brought-append}
-use Rattle.tw_sync.proofs.GoingOn.{goes_on_past, goes_on_so_far, refused_on}
+use Rattle.tw_sync.proofs.Hearing.{kept_on, growing_on, hears_on, hears_until, hears_until_on, brought-append, versions_in-past}
+use Rattle.tw_sync.proofs.GoingOn.{added_leads, not_late, goes_on_past, goes_on_so_far, refused_on}
 use Rattle.tw_sync.proofs.Results.{ended_by}
 use Rattle.tw_sync.proofs.Served.{grows_on}
-use Rattle.tw_sync.proofs.Turns.{IsAsked, IsUnasked, cause_on, no_reply_says, stops_here}
+use Rattle.tw_sync.proofs.Turns.{IsAsked, IsUnasked}
+use Rattle.tw_sync.proofs.Stops.{cause_on, no_reply_says, stops_here, rests_on_none, unmeasured}
 
 -- ---- nothing is left
 
@@ -48,7 +51,14 @@ pub nothing_left : {L : Type 0} (m : LinkModel L) (client host : List ℕ) (stat
 nothing_left m client host state first now p s none = record {
   fewer = omega arith;
   kept = s.asked.kept;
-  heard = λ tells. (let t = s.asked.heard tells in record { hs = t.hs; hears = t.hears; ended = (t.so.0, t.so.1, inl t.so.2); brought_is = t.brought_is; goes_on = goes_on_so_far m client host first now p _ t s.tries });
+  heard = λ tells. (let t = s.asked.heard tells in record {
+    hs = t.hs;
+    hears = t.hears;
+    ended = (t.so.0, t.so.1, inl t.so.2);
+    written = record { pulled = p.remote.items; reads = t.reads; end = inl (refl, record { at = t.at_is; ended = t.so }) };
+    brought_is = t.brought_is;
+    goes_on = goes_on_so_far m client host state first now p _ t s.tries;
+  });
   come = λ honest. (
       let e = s.come honest in
       record {
@@ -144,13 +154,18 @@ added m client host state first a b p q id segment sent s asked grows one some t
     h : Heard
     h = add_heard client p.at segment (Added id)
 
-    all : HeardSoFar m client host first a p (λ hs. EndedBy hs (IsUpToDate client p.at)) → Hears m client host a b (h ∷ []) → HeardAll m client host first b q
+    all : HeardSoFar m client host state first a p (λ hs. EndedBy hs (IsUpToDate client p.at)) → Hears m client host a b (h ∷ []) → HeardAll m client host state first b q
     all t more = record {
       hs = t.hs ++ h ∷ [];
       hears = hears_on m client host first a b t.hs (h ∷ []) t.hears more;
       ended = ended_by t.hs h (IsLastReply client q.at) (inr (ap (λ (i : List ℕ). Ok (replies.Added i)) (sym at)));
+      written = record {
+        pulled = p.remote.items;
+        reads = subst (λ vs. Reads vs p.remote.items) (sym (versions_in-past t.hs h refl)) t.reads;
+        end = inr (p.left.items, remote, record { position = s.left.position; ended = ended_by t.hs h (λ last. last.reply ≡ Ok (replies.Added q.at)) (ap (λ (i : List ℕ). Ok (replies.Added i)) (sym at)) });
+      };
       brought_is = (let f = brought-append t.hs (h ∷ []) in let n = t.brought_is in omega (arith, f, n, versions));
-      goes_on = goes_on_past t.hs h (goes_on_so_far m client host first a p _ t s.tries) asked.welcome refl refl;
+      goes_on = goes_on_past t.hs h (goes_on_so_far m client host state first a p _ t s.tries) (asked.welcome, added_leads h.reply id refl) (not_late client p.at t.hs t.so) refl refl;
     }
 
 -- ---- a refusal
@@ -159,14 +174,18 @@ added m client host state first a b p q id segment sent s asked grows one some t
 pub unsent : {L : Type 0} (m : LinkModel L) (client host : List ℕ) (state : State) (first now : L) (p : Cursor) (e : SendError) → HasPulled m client host state first now p → IsUnsent p.left.items e → IsStopped m client host state first now (of_send e)
 unsent m client host state first now p e s not = by e not
   where
-    stop : (x : SyncError) → IsCause m first now x → ((hs : List Heard) → GoesOnFrom hs → HeardRefused client hs x) → (IsHonest m first client → HonestRefused state (server_chain m first) (server_chain m now) x) → IsStopped m client host state first now x
-    stop x cause refused says = record {
+    heard_here : Type 0
+    heard_here = HeardSoFar m client host state first now p (λ hs. EndedBy hs (IsUpToDate client p.at))
+
+    stop : (x : SyncError) → IsCause m first now x → ((t : heard_here) → HeardRefused client t.hs x × IsMeasured state client t.hs x) → (IsHonest m first client → HonestRefused state (server_chain m first) (server_chain m now) x) → RestsOnPulled m client host state first now x → IsStopped m client host state first now x
+    stop x cause why says pulled = record {
       kept = s.asked.kept;
       cause = cause;
       heard = λ tells. (let t = s.asked.heard tells in record {
         hs = t.hs;
         hears = hears_until m client host first now t.hs x t.hears;
-        refused = refused t.hs (goes_on_so_far m client host first now p _ t s.tries);
+        refused = (why t).0;
+        measured = (why t).1;
         few = λ honest. (
             let n = s.asked.count in
             let o = s.tries in
@@ -174,12 +193,21 @@ unsent m client host state first now p e s not = by e not
             let late = (s.come honest).late in
             omega (arith, n, o, b, late));
       });
-      come = λ honest. (let c = s.come honest in record { whole = c.on.whole; grows = c.on.grows; refused = says honest; added = inl c.mine; added_only = inr c.mine });
+      come = λ honest. (let c = s.come honest in record { whole = c.on.whole; grows = c.on.grows; refused = says honest; pulled = pulled; added = inl c.mine; added_only = inr c.mine });
     }
 
     by : (x : SendError) → IsUnsent p.left.items x → IsStopped m client host state first now (of_send x)
-    by (sending.TooLong bytes) n = stop (errors.SegmentTooLong bytes) n.1 (λ hs g. record { cause = tt; until = g }) (λ honest. (let t = (s.come honest).stands in record { h = p.at; versions = t.versions; ops = p.remote.items; left = p.left.items; pulled = t.pulled; len = n.0 }))
-    by sending.Memory n = stop errors.Memory tt (λ hs g. record { cause = tt; until = g }) (λ honest. tt)
+    by (sending.TooLong bytes) n =
+        stop (errors.SegmentTooLong bytes) n.1
+        (λ t. (
+          record { cause = (p.at, t.so); until = goes_on_so_far m client host state first now p _ t s.tries },
+          record { base = p.at; all = record { at = t.at_is; ended = t.so }; pulled = p.remote.items; reads = t.reads; left = p.left.items; position = s.left.position; len = n.0 },
+        ))
+        (λ honest. (
+        let e = s.come honest in
+        record { h = p.at; last = at_end_holds m client state first now p e; versions = e.stands.versions; ops = p.remote.items; left = p.left.items; pulled = e.stands.pulled; len = n.0 }))
+        tt
+    by sending.Memory n = stop errors.Memory tt (λ t. (record { cause = tt; until = goes_on_so_far m client host state first now p _ t s.tries }, tt)) (λ honest. tt) tt
 
 may_add : (e : AskError) → NoReply e → MayAdd (of_ask e)
 may_add e (inl is) = subst (λ x. MayAdd (of_ask x)) (sym is) tt
@@ -195,11 +223,12 @@ unadded m client host state first a b p segment e s un grows refused some text b
   come = λ honest. (let c = s.come honest in by c (grows c.on.honest) (refused c.on.honest));
 }
   where
-    to_stop : HeardSoFar m client host first a p (λ hs. EndedBy hs (IsUpToDate client p.at)) → (hs : List Heard) × HearsUntil m client host a b hs (of_ask e) × HeardUnasked hs e → HeardToStop m client host first b (of_ask e)
+    to_stop : HeardSoFar m client host state first a p (λ hs. EndedBy hs (IsUpToDate client p.at)) → (hs : List Heard) × HearsUntil m client host a b hs (of_ask e) × HeardUnasked hs e → HeardToStop m client host state first b (of_ask e)
     to_stop t u = record {
       hs = t.hs ++ u.0;
       hears = hears_until_on m client host first a b t.hs u.0 (of_ask e) t.hears u.1;
-      refused = refused_on m client a b t.hs u.0 e un.refused u.2 (goes_on_so_far m client host first a p _ t s.tries);
+      refused = refused_on m client a b t.hs u.0 e un.refused u.2 (goes_on_so_far m client host state first a p _ t s.tries);
+      measured = unmeasured state client (t.hs ++ u.0) e;
       few = λ honest. (
           let n = s.asked.count in
           let k = un.count in
@@ -210,16 +239,17 @@ unadded m client host state first a b p segment e s un grows refused some text b
           omega (arith, n, k, o, f, g, late));
     }
 
-    by : IsAtEnd m client state first a p → GrowsOn m a b client → AddRefused m a b p.at segment e → StopsTruly m state first b (of_ask e)
-    by c on (inl (none, inl same)) = stops_here m client state first a b (of_ask e) c.on c.mine on same (no_reply_says state (server_chain m first) (server_chain m b) e none)
+    by : IsAtEnd m client state first a p → GrowsOn m a b client → AddRefused m a b p.at segment e → StopsTruly m client host state first b (of_ask e)
+    by c on (inl (none, inl same)) = stops_here m client host state first a b (of_ask e) c.on c.mine on same (no_reply_says state (server_chain m first) (server_chain m b) e none) (rests_on_none m client host state first b e)
     by c on (inl (none, inr (id, one))) = record {
       whole = on.whole;
       grows = grows_on (m.chain first) (m.chain a) (m.chain b) c.on.grows on.grows;
       refused = no_reply_says state (server_chain m first) (server_chain m b) e none;
+      pulled = rests_on_none m client host state first b e;
       added = inr (added_one m client state first a b p id segment c on one some text back within);
       added_only = inl (may_add e none);
     }
-    by c on (inr (is, same)) = stops_here m client state first a b (of_ask e) c.on c.mine on same (subst (λ x. HonestRefused state (server_chain m first) (server_chain m b) (of_ask x)) (sym is) refl)
+    by c on (inr (is, same)) = stops_here m client host state first a b (of_ask e) c.on c.mine on same (subst (λ x. HonestRefused state (server_chain m first) (server_chain m b) (of_ask x)) (sym is) refl) (rests_on_none m client host state first b e)
 
 -- the version was added, and there was no memory for what follows
 pub added_unkept : {L : Type 0} (m : LinkModel L) (client host : List ℕ) (state : State) (first a b : L) (p : Cursor) (id segment : List ℕ) → HasPulled m client host state first a p → IsAsked m client host a b (add_heard client p.at segment (Added id))
@@ -235,6 +265,7 @@ added_unkept m client host state first a b p id segment s asked grows one some t
         whole = on.whole;
         grows = grows_on (m.chain first) (m.chain a) (m.chain b) c.on.grows on.grows;
         refused = tt;
+        pulled = tt;
         added = inr (added_one m client state first a b p id segment c on (one c.on.honest) some text back within);
         added_only = inl tt;
       });
@@ -243,11 +274,12 @@ added_unkept m client host state first a b p id segment s asked grows one some t
     h : Heard
     h = add_heard client p.at segment (Added id)
 
-    to_stop : HeardSoFar m client host first a p (λ hs. EndedBy hs (IsUpToDate client p.at)) → Hears m client host a b (h ∷ []) → HeardToStop m client host first b errors.Memory
+    to_stop : HeardSoFar m client host state first a p (λ hs. EndedBy hs (IsUpToDate client p.at)) → Hears m client host a b (h ∷ []) → HeardToStop m client host state first b errors.Memory
     to_stop t more = record {
       hs = t.hs ++ h ∷ [];
       hears = inl (hears_on m client host first a b t.hs (h ∷ []) t.hears more);
-      refused = record { cause = tt; until = goes_on_past t.hs h (goes_on_so_far m client host first a p _ t s.tries) asked.welcome refl refl };
+      refused = record { cause = tt; until = goes_on_past t.hs h (goes_on_so_far m client host state first a p _ t s.tries) (asked.welcome, added_leads h.reply id refl) (not_late client p.at t.hs t.so) refl refl };
+      measured = tt;
       few = λ honest. (
           let n = s.asked.count in
           let k = asked.count in

@@ -13,6 +13,7 @@ use Rattle.tw_sync.specs.declared.cursor.Cursor.{Cursor}
 use Rattle.tw_sync.proofs.Steps.{back-append}
 use Rattle.tw_sync.proofs.Served.{grows_same}
 use Rattle.tw_sync.proofs.Hearing.{hears_none, kept_same}
+use Rattle.tw_sync.proofs.Standing.{start_left}
 
 -- ---- what is pending, as replicas exchange it
 
@@ -20,7 +21,7 @@ put_some-append : (o : Option SyncOp) (xs ys : List SyncOp) → put_some o (xs +
 put_some-append None xs ys = refl
 put_some-append (Some op) xs ys = refl
 
-plain-append : (xs ys : List Op) → plain (xs ++ ys) ≡ plain xs ++ plain ys
+pub plain-append : (xs ys : List Op) → plain (xs ++ ys) ≡ plain xs ++ plain ys
 plain-append [] ys = refl
 plain-append (x ∷ xs) ys = ap (put_some (synced x)) (plain-append xs ys) ∙ put_some-append (synced x) (plain xs) (plain ys)
 
@@ -44,17 +45,21 @@ pub starts : {L : Type 0} (m : LinkModel L) (client host : List ℕ) (state : St
 starts m client host state link cursor whole s = record {
   fewer = (let e = ap length s.left in omega (arith, e));
   tries = (let e = s.conflicts in omega (arith, e));
+  left = start_left state cursor s;
   asked = record {
     kept = kept_same m link;
     count = omega arith;
     heard = λ tells. record {
       hs = [];
       hears = hears_none m client host link;
+      at_is = s.at;
+      reads = s.remote;
       brought_is = sym s.versions;
       bytes_are = sym s.bytes;
       conflicts_are = sym s.conflicts;
-      welcome = tt;
-      so = tt;
+      each = tt;
+      followed = tt;
+      so = refl;
     };
   };
   come = λ honest. record {

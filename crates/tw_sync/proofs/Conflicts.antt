@@ -2,17 +2,19 @@
 use Rattle.std.proofs.Common.{◌≡◌, ℕ, ◌+◌, ◌≤◌, inr, length, List, [], ◌∷◌, ◌++◌, refl, sym, ap, subst, ◌∙◌, arith, length-append}
 use Rattle.std.proofs.lemmas.List.{append-nil, append_assoc}
 use Rattle.tw_model.specs.Ops.{apply_all}
+use Rattle.tw_model.specs.LocalOps.{plain}
 use Rattle.tw_protocol.specs.Chain.{Version, latest, Grows}
 use Rattle.tw_http.specs.Link.{LinkModel, IsHonest}
+use Rattle.tw_transform.specs.Positions.{IsPosition}
 use Rattle.tw_replica.specs.State.{State}
 use Rattle.tw_replica.specs.Sound.{start_of}
 use Rattle.tw_sync.specs.Alike.{SameFor}
 use Rattle.tw_sync.specs.End.{IsPulled}
 use Rattle.tw_sync.specs.Heard.{Heard, Hears}
 use Rattle.tw_sync.specs.Answers.{GrowsOn, IsRefusedOne, add_heard, child_heard}
-use Rattle.tw_sync.specs.Refused.{EndedBy, IsConflict, IsOutOfSync}
-use Rattle.tw_sync.specs.Cursor.{StandsIn, GoesFurther}
-use Rattle.tw_sync.specs.Progress.{HeardSoFar, IsPulling, IsAtEnd, HasPulled, IsLate, HeardToStop, IsStopped}
+use Rattle.tw_sync.specs.Refused.{EndedBy, IsConflict, IsUpToDate, IsOutOfSync}
+use Rattle.tw_sync.specs.Cursor.{HasLeft, StandsIn, GoesFurther}
+use Rattle.tw_sync.specs.Progress.{HeardSoFar, IsAsking, IsAtEnd, HasPulled, IsLate, HeardToStop, IsStopped}
 use Rattle.tw_sync.specs.declared.ask.ChildAnswer.TheVariants.{UpToDate}
 use Rattle.tw_sync.specs.declared.ask.AddAnswer.TheVariants.{Conflict}
 use Rattle.tw_sync.specs.declared.cursor.Cursor.{Cursor}
@@ -20,7 +22,7 @@ use Rattle.tw_sync.specs.declared.error.SyncError.TheVariants as errors
 use Rattle.tw_sync.proofs.Standing.{cut_grows, stands_grown}
 use Rattle.tw_sync.proofs.Coming.{late_goes_on}
 use Rattle.tw_sync.proofs.Hearing.{kept_on, growing_on, hears_on}
-use Rattle.tw_sync.proofs.GoingOn.{goes_on_past, goes_on_so_far}
+use Rattle.tw_sync.proofs.GoingOn.{conflict_leads, not_late, goes_to_last, goes_on_so_far, heard_any}
 use Rattle.tw_sync.proofs.Results.{ended_by}
 use Rattle.tw_sync.proofs.Served.{grows_on}
 use Rattle.tw_sync.proofs.Turns.{IsAsked, IsTold, asked_on}
@@ -35,11 +37,17 @@ pub record IsLater (p q : Cursor) : Type 0 where
   pub bytes : q.bytes ≡ p.bytes
   pub conflicts : q.conflicts ≡ p.conflicts + 1
 
+later_left : (state : State) (p q : Cursor) → IsLater p q → HasLeft state p → HasLeft state q
+later_left state p q same s = record {
+  position = subst (λ r. IsPosition (start_of state) (plain state.pending) r q.left.items) (sym same.remote) (subst (IsPosition (start_of state) (plain state.pending) p.remote.items) (sym same.left) s.position);
+  tasks = subst (λ l. SameFor l q.tasks (apply_all (start_of state) q.remote.items)) (sym same.left) (subst (λ t. SameFor p.left.items t (apply_all (start_of state) q.remote.items)) (sym same.tasks) (subst (λ r. SameFor p.left.items p.tasks (apply_all (start_of state) r)) (sym same.remote) s.tasks));
+}
+
 later_stands : (state : State) (chain : List Version) (p q : Cursor) → IsLater p q → StandsIn state chain p → StandsIn state chain q
 later_stands state chain p q same s = record {
   versions = s.versions;
   pulled = subst (λ h. IsPulled state chain h s.versions q.remote.items q.left.items) (sym same.at) (subst (λ r. IsPulled state chain p.at s.versions r q.left.items) (sym same.remote) (subst (λ l. IsPulled state chain p.at s.versions p.remote.items l) (sym same.left) s.pulled));
-  tasks = subst (λ l. SameFor l q.tasks (apply_all (start_of state) q.remote.items)) (sym same.left) (subst (λ t. SameFor p.left.items t (apply_all (start_of state) q.remote.items)) (sym same.tasks) (subst (λ r. SameFor p.left.items p.tasks (apply_all (start_of state) r)) (sym same.remote) s.tasks));
+  tasks = (later_left state p q same (record { position = s.pulled.position; tasks = s.tasks })).tasks;
   count = same.versions ∙ s.count;
   bytes = same.bytes ∙ s.bytes;
 }
@@ -86,8 +94,10 @@ pub came_late : {L : Type 0} (m : LinkModel L) (client host : List ℕ) (state :
 came_late m client host state first a b p q segment last s asked grows one same = record {
   fewer = (let n = s.fewer in let e = ap length same.left in omega (arith, n, e));
   tries = (let o = s.tries in let e = same.conflicts in omega (arith, o, e));
-  asked = asked_on m client host first a b p q 1 0 _ _ (add_heard client p.at segment (Conflict last)) s.asked asked (record { versions = (let e = same.versions in omega (arith, e)); bytes = (let e = same.bytes in omega (arith, e)); conflicts = same.conflicts })
-      (let e = same.conflicts in let f = same.versions in omega (arith, e, f)) (λ hs u. ended_by hs (add_heard client p.at segment (Conflict last)) (IsConflict last) refl);
+  left = later_left state p q same s.left;
+  asked = asked_on m client host state first a b p q 1 0 (λ hs. EndedBy hs (IsUpToDate client p.at)) (λ hs. EndedBy hs (IsConflict last)) (add_heard client p.at segment (Conflict last)) s.asked asked (conflict_leads (add_heard client p.at segment (Conflict last)).reply last refl)
+      (record { at = same.at; ops = []; reads = refl; remote = same.remote ∙ sym (append-nil p.remote.items); versions = (let e = same.versions in omega (arith, e)); bytes = (let e = same.bytes in omega (arith, e)); conflicts = same.conflicts })
+      (let e = same.conflicts in let f = same.versions in omega (arith, e, f)) (λ hs ended late. absurd (let calm = not_late client p.at hs ended in omega (arith, calm, late))) (λ hs u. ended_by hs (add_heard client p.at segment (Conflict last)) (IsConflict last) refl);
   come = λ honest. (
       let e = s.come honest in
       let on = grows e.on.honest in
@@ -107,11 +117,12 @@ came_late m client host state first a b p q segment last s asked grows one same 
 
 -- ---- what follows a conflict
 
-pub late_pulls : {L : Type 0} (m : LinkModel L) (client host : List ℕ) (state : State) (first now : L) (p : Cursor) (last : List ℕ) → IsLate m client host state first now p last → p.conflicts ≤ 15 → IsPulling m client host state first now p
+pub late_pulls : {L : Type 0} (m : LinkModel L) (client host : List ℕ) (state : State) (first now : L) (p : Cursor) (last : List ℕ) → IsLate m client host state first now p last → p.conflicts ≤ 15 → IsAsking m client host state first now p
 late_pulls m client host state first now p last s few = record {
   fewer = s.fewer;
   tries = few;
-  asked = record { kept = s.asked.kept; count = s.asked.count; heard = λ tells. (let t = s.asked.heard tells in record { hs = t.hs; hears = t.hears; brought_is = t.brought_is; bytes_are = t.bytes_are; conflicts_are = t.conflicts_are; welcome = t.welcome; so = tt }) };
+  left = s.left;
+  asked = record { kept = s.asked.kept; count = s.asked.count; heard = λ tells. heard_any m client host state first now p (λ hs. EndedBy hs (IsConflict last)) (s.asked.heard tells) };
   come = s.come;
 }
 
@@ -142,10 +153,11 @@ late_alone m client host state first a b p last s tries asked tells = record {
       none = refl;
     }
 
-    to_stop : HeardSoFar m client host first a p (λ hs. EndedBy hs (IsConflict last)) → Hears m client host a b (h ∷ []) → HeardToStop m client host first b (errors.OutOfSync p.at last)
+    to_stop : HeardSoFar m client host state first a p (λ hs. EndedBy hs (IsConflict last)) → Hears m client host a b (h ∷ []) → HeardToStop m client host state first b (errors.OutOfSync p.at last)
     to_stop t more = record {
       hs = t.hs ++ h ∷ [];
       hears = hears_on m client host first a b t.hs (h ∷ []) t.hears more;
-      refused = record { cause = two t.hs t.so; until = goes_on_past t.hs h (goes_on_so_far m client host first a p _ t tries) asked.welcome refl refl };
+      refused = record { cause = two t.hs t.so; until = goes_to_last t.hs h (goes_on_so_far m client host state first a p _ t tries) };
+      measured = tt;
       few = λ honest. absurd (never honest);
     }

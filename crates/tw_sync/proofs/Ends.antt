@@ -1,5 +1,6 @@
 -- A new replica agrees with a chain, the ends of a sync keep agreement, and what a refused one added cancels.
 use Rattle.std.proofs.Common.{◌≡◌, ℕ, List, [], ◌∷◌, ◌++◌, inl, inr, refl, sym, subst}
+use Rattle.std.proofs.lemmas.List.{append-nil}
 use Rattle.tw_model.specs.Ops.{TasksValue, apply_all}
 use Rattle.tw_model.specs.declared.SyncOp.{SyncOp}
 use Rattle.tw_model.specs.LocalOps.{plain}
@@ -12,11 +13,12 @@ use Rattle.tw_replica.proofs.Touched.{assigned_in}
 use Rattle.tw_replica.proofs.Soundness as replica
 use Rattle.tw_sync.specs.Fold.{IsFold, Agrees}
 use Rattle.tw_sync.specs.End.{ServerChain, IsLeft, IsPushed, stands_at}
-use Rattle.tw_sync.specs.Laws.{NewReplicaAgrees, AddedVersionCancels, SyncEndAgrees}
+use Rattle.tw_sync.specs.Laws.{NewReplicaAgrees, AddedVersionCancels, PushedIsAdded, CutOffIsAdded, SyncEndAgrees}
 use Rattle.tw_sync.specs.declared.report.SyncReport.{SyncReport}
 use Rattle.tw_sync.proofs.Reading.{reads-append, reads_last}
 use Rattle.tw_sync.proofs.PositionLemmas.{own_versions_cancel_at}
 use Rattle.tw_sync.proofs.Folds.{agrees_is_kept, fold_on}
+use Rattle.tw_sync.proofs.Standing.{between_grows}
 
 pub new_replica_agrees : NewReplicaAgrees
 new_replica_agrees chain = record {
@@ -58,3 +60,40 @@ added_version_cancels old before after later a added = record {
   reads = reads-append added.versions (added.v ∷ []) added.ops added.left added.pulled.reads (reads_last added.v added.left added.reads_back);
   position = own_versions_cancel_at (start_of old) (plain old.pending) added.ops added.left later (plain_same (start_of old) old.pending a.sound.fits).0 added.pulled.position;
 }
+
+-- ---- what was sent
+
+pub pushed_is_added : PushedIsAdded
+pushed_is_added old new before after report p = (
+  record {
+    v = p.v;
+    versions = p.versions;
+    ops = p.ops;
+    left = p.left;
+    some = p.some;
+    pulled = p.pulled;
+    segment = p.segment;
+    reads_back = p.reads_back;
+    within = p.within;
+    sent = p.sent;
+    pulled_last = p.pulled_last;
+    mine = p.mine;
+  },
+  refl,
+)
+
+pub cut_off_is_added : CutOffIsAdded
+cut_off_is_added old new before after chain report p grows = (
+  record {
+    pending = sym (append-nil (plain old.pending));
+    v = p.v;
+    versions = p.versions;
+    pulled = p.ops;
+    sent = p.left;
+    behind = between_grows after.chain chain old.base p.v.id (p.versions ++ p.v ∷ []) p.sent grows;
+    reads = p.pulled.reads;
+    position = p.pulled.position;
+    reads_back = p.reads_back;
+  },
+  refl,
+)

@@ -2,8 +2,9 @@
 use Rattle.std.proofs.Common.{◌≡◌, ℕ, ◌+◌, inl, inr, List, [], ◌∷◌, ◌++◌, refl, sym, ap, subst, ◌∙◌, append_assoc, arith}
 use Rattle.std.specs.List.{AllByRecursion}
 use Rattle.std.proofs.lemmas.List.{append-nil}
+use Rattle.tw_protocol.specs.Chain.{Version}
 use Rattle.tw_http.specs.Link.{LinkModel, Exchange}
-use Rattle.tw_sync.specs.Heard.{Heard, AreHeard, Hears, HearsUnread, HearsUntil, pulled_bytes, brought, conflicts}
+use Rattle.tw_sync.specs.Heard.{Heard, AreHeard, Hears, HearsUnread, HearsUntil, pulled_bytes, brought, brought_by, versions_in, conflicts}
 use Rattle.tw_sync.specs.Answers.{IsLinkKept, GrowsOn}
 use Rattle.tw_sync.specs.declared.error.SyncError.{SyncError}
 use Rattle.tw_sync.specs.declared.error.SyncError.TheVariants as errors
@@ -22,6 +23,14 @@ conflicts-append (h ∷ hs) ks = let rest = conflicts-append hs ks in omega (ari
 pub pulled_bytes-append : (hs ks : List Heard) → pulled_bytes (hs ++ ks) ≡ pulled_bytes hs + pulled_bytes ks
 pulled_bytes-append [] ks = omega arith
 pulled_bytes-append (h ∷ hs) ks = let rest = pulled_bytes-append hs ks in omega (arith, rest)
+
+pub versions_in-append : (hs ks : List Heard) → versions_in (hs ++ ks) ≡ versions_in hs ++ versions_in ks
+versions_in-append [] ks = refl
+versions_in-append (h ∷ hs) ks = ap (λ vs. brought_by h.reply ++ vs) (versions_in-append hs ks) ∙ sym (append_assoc (brought_by h.reply) (versions_in hs) (versions_in ks))
+
+-- a reply that brings no version
+pub versions_in-past : (hs : List Heard) (h : Heard) → brought_by h.reply ≡ [] → versions_in (hs ++ h ∷ []) ≡ versions_in hs
+versions_in-past hs h none = versions_in-append hs (h ∷ []) ∙ ap (λ (vs : List Version). versions_in hs ++ (vs ++ [])) none ∙ append-nil (versions_in hs)
 
 pub all-append : {A : Type 0} (P : A → Type 0) (xs ys : List A) → AllByRecursion P xs → AllByRecursion P ys → AllByRecursion P (xs ++ ys)
 all-append P [] ys a b = b

@@ -7,6 +7,7 @@ pub mod Standing
 pub mod Results
 pub mod Coming
 pub mod Turns
+pub mod Stops
 pub mod Others
 pub mod Adding
 pub mod Conflicts
@@ -25,3 +26,5 @@ pub mod Unheard
 pub mod Hearing
 pub mod GoingOn
 pub mod Complete
+pub mod Following
+pub mod Worlds

@@ -2,7 +2,7 @@
 use Rattle.std.proofs.Common.{◌≡◌, ◌⊎◌, ℕ, ◌+◌, inl, inr, Bool, true, false, cond, length, List, [], ◌∷◌, ◌++◌, Option, Some, None, refl, sym, ap, subst, ◌∙◌, arith, length-append}
 use Rattle.std.proofs.lemmas.Bool.{true≢false}
 use Rattle.std.proofs.lemmas.Cmp.{nat_list_eq_equiv}
-use Rattle.tw_world.specs.Disk.{DiskModel}
+use Rattle.tw_world.specs.Disk.{DiskModel, LeavesOnly}
 use Rattle.tw_model.specs.Ops.{apply_all, fit_part}
 use Rattle.tw_model.specs.LocalOps.{plain}
 use Rattle.tw_model.proofs.Ops.{apply_all-append}
@@ -18,7 +18,7 @@ use Rattle.tw_replica.specs.Assign.{assigned}
 use Rattle.tw_replica.specs.State.{State, synced}
 use Rattle.tw_replica.specs.Sound.{start_of}
 use Rattle.tw_replica.specs.Core.{state_of}
-use Rattle.tw_replica.specs.Replica.{IsReplicaOn, StepRefused}
+use Rattle.tw_replica.specs.Replica.{IsReplicaOn, OpensToEither, StepRefused}
 use Rattle.tw_replica.specs.declared.replica.records.RecordError.{RecordError}
 use Rattle.tw_replica.specs.declared.replica.records.RecordError.TheVariants as records
 use Rattle.tw_replica.specs.declared.replica.Replica.{Replica}
@@ -26,8 +26,9 @@ use Rattle.tw_sync.specs.Fold.{Reads, ReadsBetween}
 use Rattle.tw_sync.specs.End.{IsPulled, IsIdle, IsLeft, IsPushed, SyncEnd, MayHaveAdded, report_of}
 use Rattle.tw_sync.specs.Heard.{Heard}
 use Rattle.tw_sync.specs.Refused.{GoesOnFrom, HeardRefused, JournalRefused, SyncRefused, IsUnchanged, MayAdd}
-use Rattle.tw_sync.specs.Sync.{server_chain, record_body, record_size, RecordsOfSync, IsEndIn}
-use Rattle.tw_sync.specs.Honest.{HonestRefused, IsLongRecord}
+use Rattle.tw_sync.specs.Sync.{server_chain, record_body, record_size, RecordsOfSync, IsEndIn, IsSyncOf}
+use Rattle.tw_sync.specs.Measured.{IsHeardRecord, IsMeasured}
+use Rattle.tw_sync.specs.Honest.{HonestRefused, RestsOnPulled, IsLongRecord}
 use Rattle.tw_sync.specs.Progress.{HasNothingLeft, HasSent, HasMet, IsCause}
 use Rattle.tw_sync.specs.Causes.{of_record}
 use Rattle.tw_sync.specs.Keeping.{moved_state, IsMovedTo, IsNotMoved}
@@ -145,6 +146,13 @@ end_in m client state first now cursor dropped sent met sum = by (moved_state cu
     by None end = tt
     by (Some next) end = (made_report cursor dropped sent, end next refl)
 
+pub moved_is_sync : (state : State) (cursor : Cursor) → IsSyncOf state (moved_state cursor state)
+moved_is_sync state cursor = by (same_id cursor.at state.base)
+  where
+    by : (b : Bool) → IsSyncOf state (cond b None (Some (synced cursor.at cursor.remote.items state)))
+    by true = tt
+    by false = (cursor.at, cursor.remote.items, refl)
+
 -- ---- its record
 
 -- what was pulled and sent is what the versions since the old base are read as
@@ -160,18 +168,23 @@ read_since m client state first now cursor sent met = by met.end
     }
 
 pub records_are : {D L : Type 0} (m : DiskModel D) (links : LinkModel L) (client : List ℕ) (old new : Replica) (before after : D) (first last : L) (cursor : Cursor) (sent : ℕ) (honest : Type 0) → (honest → HasMet links client (state_of old.core) first last cursor sent)
-    → IsMovedTo m old new before after cursor (moved_state cursor (state_of old.core)) → (bodies : List (List ℕ)) → IsReplicaOn m old before bodies → RecordsOfSync m old new before after honest (links.chain last) bodies
-records_are m links client old new before after first last cursor sent honest met moved bodies on = by (same_id cursor.at old.core.base) refl moved
+    → IsMovedTo m old new before after cursor (moved_state cursor (state_of old.core)) → (bodies : List (List ℕ)) → IsReplicaOn m old before bodies → LeavesOnly m before after (OpensToEither (state_of old.core) (moved_state cursor (state_of old.core)))
+    → RecordsOfSync m old new before after honest (links.chain last) bodies
+records_are m links client old new before after first last cursor sent honest met moved bodies on leaves = by (same_id cursor.at old.core.base) refl moved leaves
   where
-    by : (b : Bool) → same_id cursor.at old.core.base ≡ b → IsMovedTo m old new before after cursor (cond b None (Some (synced cursor.at cursor.remote.items (state_of old.core)))) → RecordsOfSync m old new before after honest (links.chain last) bodies
-    by true e same = inl (record { base = ap (λ s. s.base) same.state; same = same })
-    by false e there =
+    next : State
+    next = synced cursor.at cursor.remote.items (state_of old.core)
+
+    by : (b : Bool) → same_id cursor.at old.core.base ≡ b → IsMovedTo m old new before after cursor (cond b None (Some next)) → LeavesOnly m before after (OpensToEither (state_of old.core) (cond b None (Some next))) → RecordsOfSync m old new before after honest (links.chain last) bodies
+    by true e same run = inl (record { base = ap (λ s. s.base) same.state; same = same })
+    by false e there run =
         let base : new.core.base ≡ cursor.at = ap (λ s. s.base) there.0 in
         inr (record {
           moved = λ stays. apart cursor.at old.core.base e (sym base ∙ stays);
           ops = cursor.remote.items;
           read = λ is. subst (λ b. ReadsBetween (links.chain last) old.core.base b cursor.remote.items) (sym base) (read_since links client (state_of old.core) first last cursor sent (met is));
           on = subst (λ b. IsReplicaOn m new after (bodies ++ record_body b cursor.remote.items ∷ [])) (sym base) (there.1 bodies on);
+          leaves = subst (λ s. LeavesOnly m before after (OpensToEither (state_of old.core) (Some s))) (sym there.0) run;
         })
 
 -- ---- refusals
@@ -205,16 +218,27 @@ module _ {D L : Type 0} (m : DiskModel D) (links : LinkModel L) (client : List �
   unmoved_refused (records.Journal e) r = journal_refused e r
   unmoved_refused records.Memory r = record { same = r.1; is_open = live }
 
-  long_record : (bytes : ℕ) → HasMet links client (state_of old.core) first last cursor sent → bytes ≡ record_size cursor.at cursor.remote.items → IsLongRecord (state_of old.core) (links.chain last) bytes
+  met_last : HasMet links client (state_of old.core) first last cursor sent → HoldsAll (links.chain first) (links.chain last) cursor.at
+  met_last met = by met.end
+    where
+      by : HasNothingLeft links (state_of old.core) first last cursor sent ⊎ HasSent links (state_of old.core) first last cursor sent → HoldsAll (links.chain first) (links.chain last) cursor.at
+      by (inl e) = e.last
+      by (inr e) = subst (HoldsAll (links.chain first) (links.chain last)) (sym e.at) e.last
+
+  long_record : (bytes : ℕ) → HasMet links client (state_of old.core) first last cursor sent → bytes ≡ record_size cursor.at cursor.remote.items → IsLongRecord (state_of old.core) (server_chain links first) (server_chain links last) bytes
   long_record bytes met len =
       let r = read_since links client (state_of old.core) first last cursor sent met in
-      record { h = cursor.at; versions = r.versions; ops = cursor.remote.items; between = r.between; reads = r.reads; len = len }
+      record { h = cursor.at; last = met_last met; versions = r.versions; ops = cursor.remote.items; between = r.between; reads = r.reads; len = len }
 
   pub unmoved_honest : HasMet links client (state_of old.core) first last cursor sent → (e : RecordError) → IsNotMoved m old new before after cursor e → HonestRefused (state_of old.core) (server_chain links first) (server_chain links last) (of_record e)
   unmoved_honest met (records.Journal journal.Disk) r = tt
   unmoved_honest met (records.Journal journal.Closed) r = tt
   unmoved_honest met (records.Journal (journal.TooLong bytes)) r = long_record bytes met r.0.0
   unmoved_honest met records.Memory r = tt
+
+  pub unmoved_rests : (host : List ℕ) (e : RecordError) → RestsOnPulled links client host (state_of old.core) first last (of_record e)
+  unmoved_rests host (records.Journal e) = tt
+  unmoved_rests host records.Memory = tt
 
   pub unmoved_may_add : (e : RecordError) → IsNotMoved m old new before after cursor e → MayAdd (of_record e)
   unmoved_may_add (records.Journal journal.Disk) r = tt
@@ -231,6 +255,12 @@ module _ {D L : Type 0} (m : DiskModel D) (links : LinkModel L) (client : List �
   pub unmoved_cause : (hs : List Heard) (e : RecordError) → IsNotMoved m old new before after cursor e → GoesOnFrom hs → HeardRefused client hs (of_record e)
   unmoved_cause hs (records.Journal e) r g = record { cause = tt; until = g }
   unmoved_cause hs records.Memory r g = record { cause = tt; until = g }
+
+  pub unmoved_measured : (hs : List Heard) (e : RecordError) → IsNotMoved m old new before after cursor e → IsHeardRecord (state_of old.core) client hs cursor.at cursor.remote.items → IsMeasured (state_of old.core) client hs (of_record e)
+  unmoved_measured hs (records.Journal journal.Disk) r h = tt
+  unmoved_measured hs (records.Journal journal.Closed) r h = tt
+  unmoved_measured hs (records.Journal (journal.TooLong bytes)) r h = record { base = cursor.at; ops = cursor.remote.items; heard = h; len = r.0.0 }
+  unmoved_measured hs records.Memory r h = tt
 
 -- a sync that came to its end has added what was left, or nothing
 pub may_have_added : {L : Type 0} (m : LinkModel L) (client : List ℕ) (state : State) (first now : L) (cursor : Cursor) (sent : ℕ) → HasMet m client state first now cursor sent → MayHaveAdded state (server_chain m first) (server_chain m now)

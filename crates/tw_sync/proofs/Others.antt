@@ -17,7 +17,7 @@ use Rattle.tw_sync.specs.declared.cursor.Cursor.{Cursor}
 use Rattle.tw_sync.specs.declared.error.SyncError.TheVariants as errors
 use Rattle.tw_sync.proofs.Hearing.{hears_until}
 use Rattle.tw_sync.proofs.GoingOn.{goes_on_to_conflict}
-use Rattle.tw_sync.proofs.Turns.{late_by_one}
+use Rattle.tw_sync.proofs.Stops.{late_by_one}
 
 none_there : (v : Version) → Contains [] v → ⊥
 none_there v at = let lt = at.1 in omega (arith, lt)
@@ -78,18 +78,20 @@ busy m client host state first now p last own s over = record {
         whole = c.on.whole;
         grows = c.on.grows;
         refused = others_added m first now 16 c.on.whole c.on.grows (own honest.tells) c.mine (let n = c.others in omega (arith, n, over));
+        pulled = tt;
         added = inl c.mine;
         added_only = inr c.mine;
       });
 }
   where
-    to_stop : HeardSoFar m client host first now p (λ hs. EndedBy hs (IsConflict last)) → HeardToStop m client host first now (errors.Busy last)
+    to_stop : HeardSoFar m client host state first now p (λ hs. EndedBy hs (IsConflict last)) → HeardToStop m client host state first now (errors.Busy last)
     to_stop t =
         let sixteen : conflicts t.hs ≡ 16 = (let n = t.conflicts_are in let o = s.tries in omega (arith, n, o, over)) in
         record {
           hs = t.hs;
           hears = hears_until m client host first now t.hs (errors.Busy last) t.hears;
-          refused = record { cause = (t.so, sixteen); until = goes_on_to_conflict t.hs last t.welcome (let b = t.bytes_are in let w = p.within in omega (arith, b, w)) sixteen t.so };
+          refused = record { cause = (t.so, sixteen); until = goes_on_to_conflict t.hs last t.each t.followed (let b = t.bytes_are in let w = p.within in omega (arith, b, w)) sixteen t.so };
+          measured = tt;
           few = λ honest. (
               let n = s.asked.count in
               let o = s.tries in

@@ -15,7 +15,7 @@ use Rattle.tw_replica.specs.Sound.{start_of}
 use Rattle.tw_sync.specs.Fold.{Reads}
 use Rattle.tw_sync.specs.Alike.{SameFor}
 use Rattle.tw_sync.specs.End.{IsPulled}
-use Rattle.tw_sync.specs.Cursor.{TakesVersion, IsAtStart, StandsIn, Stands}
+use Rattle.tw_sync.specs.Cursor.{TakesVersion, IsAtStart, HasLeft, StandsIn, Stands}
 use Rattle.tw_sync.specs.Honest.{segments_len}
 use Rattle.tw_sync.specs.declared.cursor.Cursor.{Cursor}
 use Rattle.tw_sync.proofs.Reading.{reads-append, reads_last}
@@ -70,6 +70,12 @@ stands_grown state old new cursor s g = record {
   bytes = s.bytes;
 }
 
+pub start_left : (state : State) (cursor : Cursor) → IsAtStart state cursor → HasLeft state cursor
+start_left state cursor s = record {
+  position = subst (λ ops. IsPosition (start_of state) (plain state.pending) ops cursor.left.items) (sym s.remote) (sym s.left);
+  tasks = subst (λ ops. SameFor cursor.left.items cursor.tasks (apply_all (start_of state) ops)) (sym s.remote) s.tasks;
+}
+
 -- where the chain knows its base, the start stands in the chain
 pub start_stands : (state : State) (chain : List Version) (cursor : Cursor) (front back : List Version) → IsAtStart state cursor → IsCut chain cursor.at front back → StandsIn state chain cursor
 start_stands state chain cursor front back s cut = record {
@@ -77,9 +83,9 @@ start_stands state chain cursor front back s cut = record {
   pulled = record {
     between = subst (λ b. IsBetween chain b cursor.at []) s.at (between_none chain cursor.at front back cut);
     reads = s.remote;
-    position = subst (λ ops. IsPosition (start_of state) (plain state.pending) ops cursor.left.items) (sym s.remote) (sym s.left);
+    position = (start_left state cursor s).position;
   };
-  tasks = subst (λ ops. SameFor cursor.left.items cursor.tasks (apply_all (start_of state) ops)) (sym s.remote) s.tasks;
+  tasks = (start_left state cursor s).tasks;
   count = s.versions;
   bytes = s.bytes;
 }
@@ -98,23 +104,32 @@ same_left [] ops old new there made s = subst (λ ls. SameFor ls new (apply_all 
 same_left (l ∷ ls) ops old new there made s =
     subst (λ w. SameFor (grid (fit_part old ops) (l ∷ ls)).1 w (apply_all there ops)) (sym (made (λ e. cc))) (grid_same (fit_part old ops) (l ∷ ls) (apply_all old ops) (apply_all there ops) (apply_all_same ops (l ∷ ls) old there s))
 
--- it goes on to the child of the version where it stood
-pub stands_on : (state : State) (chain : List Version) (v : Version) (old new : Cursor) → IsChain chain → IsBetween chain old.at v.id (v ∷ []) → StandsIn state chain old → TakesVersion old new v.id v.segment → StandsIn state chain new
-stands_on state chain v old new whole next s t =
+-- a version is taken
+pub left_on : (state : State) (old new : Cursor) (id segment : List ℕ) → HasLeft state old → TakesVersion old new id segment → HasLeft state new
+left_on state old new id segment s t =
     let base : TasksValue = start_of state in
     let mine : List SyncOp = plain state.pending in
     let joined : List SyncOp = old.remote.items ++ t.ops in
     let there : TasksValue = apply_all base old.remote.items in
-    let position : IsPosition base mine joined new.left.items = position_pulls base mine old.remote.items old.left.items t.ops s.pulled.position ∙ sym (grid_alike t.ops old.left.items old.tasks there s.tasks) ∙ sym t.left in
+    let position : IsPosition base mine joined new.left.items = position_pulls base mine old.remote.items old.left.items t.ops s.position ∙ sym (grid_alike t.ops old.left.items old.tasks there s.tasks) ∙ sym t.left in
     let made : apply_all there t.ops ≡ apply_all base new.remote.items = sym (apply_all-append base old.remote.items t.ops) ∙ ap (apply_all base) (sym t.remote) in
+    record {
+      position = subst (λ xs. IsPosition base mine xs new.left.items) (sym t.remote) position;
+      tasks = subst (SameFor new.left.items new.tasks) made (subst (λ ls. SameFor ls new.tasks (apply_all there t.ops)) (sym t.left) (same_left old.left.items t.ops old.tasks new.tasks there t.tasks s.tasks));
+    }
+
+-- it goes on to the child of the version where it stood
+pub stands_on : (state : State) (chain : List Version) (v : Version) (old new : Cursor) → IsChain chain → IsBetween chain old.at v.id (v ∷ []) → StandsIn state chain old → TakesVersion old new v.id v.segment → StandsIn state chain new
+stands_on state chain v old new whole next s t =
+    let left : HasLeft state new = left_on state old new v.id v.segment (record { position = s.pulled.position; tasks = s.tasks }) t in
     record {
       versions = s.versions ++ v ∷ [];
       pulled = record {
         between = subst (λ h. IsBetween chain state.base h (s.versions ++ v ∷ [])) (sym t.at) (between_joins chain state.base old.at v.id s.versions (v ∷ []) whole s.pulled.between next);
         reads = subst (λ xs. Reads (s.versions ++ v ∷ []) xs) (sym t.remote) (reads-append s.versions (v ∷ []) old.remote.items t.ops s.pulled.reads (reads_last v t.ops t.reads));
-        position = subst (λ xs. IsPosition base mine xs new.left.items) (sym t.remote) position;
+        position = left.position;
       };
-      tasks = subst (SameFor new.left.items new.tasks) made (subst (λ ls. SameFor ls new.tasks (apply_all there t.ops)) (sym t.left) (same_left old.left.items t.ops old.tasks new.tasks there t.tasks s.tasks));
+      tasks = left.tasks;
       count = (let n = length-append s.versions (v ∷ []) in omega (arith, n, s.count, t.versions));
       bytes = (let n = segments_len-append s.versions (v ∷ []) in omega (arith, n, s.bytes, t.bytes));
     }

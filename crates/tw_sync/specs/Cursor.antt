@@ -9,6 +9,7 @@ use Rattle.tw_segment.specs.Refusals.{IsUnread}
 use Rattle.tw_segment.specs.declared.error.SegmentError.{SegmentError}
 use Rattle.tw_segment.specs.declared.error.SegmentError.TheVariants as segments
 use Rattle.tw_transform.specs.Grid.{grid}
+use Rattle.tw_transform.specs.Positions.{IsPosition}
 use Rattle.tw_replica.specs.State.{State}
 use Rattle.tw_replica.specs.Sound.{start_of}
 use Rattle.tw_sync.specs.Alike.{SameFor}
@@ -52,6 +53,11 @@ pub record IsAtStart (state : State) (cursor : Cursor) : Type 0 where
   pub versions : cursor.versions ≡ 0
   pub bytes : cursor.bytes ≡ 0
   pub conflicts : cursor.conflicts ≡ 0
+
+-- over all that was pulled, this is left of what is pending
+pub record HasLeft (state : State) (cursor : Cursor) : Type 0 where
+  pub position : IsPosition (start_of state) (plain state.pending) cursor.remote.items cursor.left.items
+  pub tasks : SameFor cursor.left.items cursor.tasks (apply_all (start_of state) cursor.remote.items)
 
 -- a sync of this state stands here in the chain
 pub record StandsIn (state : State) (chain : List Version) (cursor : Cursor) : Type 0 where

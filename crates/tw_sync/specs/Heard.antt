@@ -1,5 +1,7 @@
 -- What a call heard over its link: its requests, and what the replies are read as (TaskChampion book, "HTTP Representation").
 use Rattle.std.specs.Prelude.{◌≡◌, ◌⊎◌, ℕ, ◌+◌, ◌*◌, min, List, [], ◌∷◌, ◌++◌, length, Result, Ok, Err}
+use Rattle.tw_protocol.specs.Chain.{Version}
+use Rattle.tw_protocol.specs.Answer.{version}
 use Rattle.tw_http.specs.Link.{LinkModel, Exchange}
 use Rattle.tw_http.specs.Messages.{request_text}
 use Rattle.tw_http.specs.Responses.{IsResponseAnswer}
@@ -77,6 +79,18 @@ brought_bytes (Ok TooLong) = []
 brought_bytes (Ok Taken) = []
 brought_bytes (Err e) = []
 
+-- the version that a 200 to get-child brought
+abbrev pub brought_by : Result Response HttpError → List Version
+brought_by (Ok (Child id parent segment)) = version id parent segment ∷ []
+brought_by (Ok (Added id)) = []
+brought_by (Ok (Conflict latest)) = []
+brought_by (Ok UpToDate) = []
+brought_by (Ok Gone) = []
+brought_by (Ok Bad) = []
+brought_by (Ok TooLong) = []
+brought_by (Ok Taken) = []
+brought_by (Err e) = []
+
 -- one for a 200 to get-child
 abbrev pub is_child : Result Response HttpError → ℕ
 is_child (Ok (Child id parent segment)) = 1
@@ -100,6 +114,11 @@ is_conflict (Ok Bad) = 0
 is_conflict (Ok TooLong) = 0
 is_conflict (Ok Taken) = 0
 is_conflict (Err e) = 0
+
+-- the versions that were brought, one after another
+abbrev pub versions_in : List Heard → List Version
+versions_in [] = []
+versions_in (h ∷ hs) = brought_by h.reply ++ versions_in hs
 
 -- how many bytes of segments were brought
 abbrev pub pulled_bytes : List Heard → ℕ

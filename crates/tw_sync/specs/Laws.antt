@@ -9,7 +9,8 @@ use Rattle.tw_replica.specs.State.{State, start}
 use Rattle.tw_replica.specs.Sound.{start_of}
 use Rattle.tw_sync.specs.Fold.{IsFold, Agrees}
 use Rattle.tw_sync.specs.Positions.{IsPositionIn}
-use Rattle.tw_sync.specs.End.{ServerChain, SyncEnd, AddedOne}
+use Rattle.tw_sync.specs.Resuming.{WasAdded}
+use Rattle.tw_sync.specs.End.{ServerChain, SyncEnd, IsPushed, AddedOne}
 use Rattle.tw_sync.specs.declared.report.SyncReport.{SyncReport}
 
 -- nothing is pending of no tasks, and nothing is up to nil
@@ -37,6 +38,14 @@ AgreeingReplicasAreEqual = (one other : State) (chain : List Version) → IsChai
 abbrev pub AddedVersionCancels : Type 0
 AddedVersionCancels = (old : State) (before after : ServerChain) (later : List SyncOp) → Agrees old after.chain → (added : AddedOne old before after)
     → IsPositionIn after.chain old.base (plain old.pending ++ later) added.v.id (grid (grid (fit_part (start_of old) added.ops) (plain old.pending)).0 later).1
+
+-- what a sync that ends has added is what a refused one may have added
+abbrev pub PushedIsAdded : Type 0
+PushedIsAdded = (old new : State) (before after : ServerChain) (report : SyncReport) (pushed : IsPushed old new before after report) → (added : AddedOne old before after) × (added.v ≡ pushed.v)
+
+-- where a sync is cut off between its add-version and its record, its version was added, of all that is pending
+abbrev pub CutOffIsAdded : Type 0
+CutOffIsAdded = (old new : State) (before after : ServerChain) (chain : List Version) (report : SyncReport) (pushed : IsPushed old new before after report) → Grows after.chain chain → (was : WasAdded old chain (plain old.pending) []) × (was.v ≡ pushed.v)
 
 -- a sync of a replica that agrees with the chain ends in one that agrees with it
 abbrev pub SyncEndAgrees : Type 0

@@ -8,6 +8,7 @@ pub mod Heard
 pub mod Answers
 pub mod Refused
 pub mod Sync
+pub mod Measured
 pub mod Honest
 pub mod Alike
 pub mod Cursor
@@ -16,3 +17,5 @@ pub mod Resuming
 pub mod Sending
 pub mod Keeping
 pub mod Synced
+pub mod Following
+pub mod World

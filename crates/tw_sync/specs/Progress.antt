@@ -1,22 +1,22 @@
 -- How far a sync has come, what it heard, and where it ends.
-use Rattle.std.specs.Prelude.{◌≡◌, ◌⊎◌, ℕ, ◌+◌, ◌*◌, ◌<◌, ◌≤◌, Bool, true, false, IsTrue, List, [], ◌∷◌, ◌++◌, length, Ok}
+use Rattle.std.specs.Prelude.{◌≡◌, ◌⊎◌, ℕ, ◌+◌, ◌*◌, ◌<◌, ◌≤◌, Bool, true, false, IsTrue, List, [], ◌∷◌, ◌++◌, length}
 use Rattle.std.specs.List.{AllByRecursion}
 use Rattle.tw_model.specs.LocalOps.{plain}
 use Rattle.tw_model.specs.declared.SyncOp.{SyncOp}
 use Rattle.tw_world.specs.Disk.{Rose}
-use Rattle.tw_protocol.specs.Chain.{Version, IsChain, IsBetween, Grows, HoldsAll, latest}
+use Rattle.tw_protocol.specs.Chain.{Version, IsChain, IsBetween, Grows, HoldsAll, latest, last_from}
 use Rattle.tw_http.specs.Link.{LinkModel, IsHonest}
-use Rattle.tw_http.specs.declared.message.Request.TheVariants as asks
-use Rattle.tw_http.specs.declared.message.Response.TheVariants as replies
 use Rattle.tw_segment.specs.Segment.{segment_text, max_len, IsSegment}
 use Rattle.tw_replica.specs.State.{State}
+use Rattle.tw_sync.specs.Fold.{Reads}
 use Rattle.tw_sync.specs.End.{IsPulled, MayHaveAdded}
-use Rattle.tw_sync.specs.Heard.{Heard, Hears, HearsUntil, brought, pulled_bytes, conflicts, most_exchanges}
+use Rattle.tw_sync.specs.Heard.{Heard, Hears, HearsUntil, is_conflict, brought, pulled_bytes, conflicts, versions_in, most_exchanges}
 use Rattle.tw_sync.specs.Answers.{IsLinkKept, GrowsOn, AnsweredAt}
-use Rattle.tw_sync.specs.Refused.{EndedBy, IsWelcome, IsConflict, GoesOnFrom, HeardRefused, MayAdd, max_pull}
+use Rattle.tw_sync.specs.Refused.{EndedBy, LeadsOn, EachBringsNext, IsConflict, IsUpToDate, GoesOnFrom, HeardRefused, MayAdd, max_pull}
 use Rattle.tw_sync.specs.Sync.{server_chain, IsLastReply}
-use Rattle.tw_sync.specs.Honest.{HonestRefused}
-use Rattle.tw_sync.specs.Cursor.{Stands, StandsIn, GoesFurther}
+use Rattle.tw_sync.specs.Measured.{IsHeardRecord, IsMeasured}
+use Rattle.tw_sync.specs.Honest.{HonestRefused, RestsOnPulled}
+use Rattle.tw_sync.specs.Cursor.{HasLeft, Stands, StandsIn, GoesFurther}
 use Rattle.tw_sync.specs.declared.cursor.Cursor.{Cursor}
 use Rattle.tw_sync.specs.declared.error.SyncError.{SyncError}
 use Rattle.tw_sync.specs.declared.error.SyncError.TheVariants as errors
@@ -24,24 +24,29 @@ use Rattle.tw_sync.specs.declared.error.SyncError.TheVariants as errors
 -- ---- what was asked
 
 -- what was heard since a sync began counts what the cursor counts, and is so
-pub record HeardSoFar {L : Type 0} (m : LinkModel L) (client host : List ℕ) (first now : L) (cursor : Cursor) (Q : List Heard → Type 0) : Type 0 where
+pub record HeardSoFar {L : Type 0} (m : LinkModel L) (client host : List ℕ) (state : State) (first now : L) (cursor : Cursor) (Q : List Heard → Type 0) : Type 0 where
   pub hs : List Heard
   pub hears : Hears m client host first now hs
+  pub at_is : cursor.at ≡ last_from state.base (versions_in hs)
+  pub reads : Reads (versions_in hs) cursor.remote.items
   pub brought_is : brought hs ≡ cursor.versions
   pub bytes_are : pulled_bytes hs ≡ cursor.bytes
   pub conflicts_are : conflicts hs ≡ cursor.conflicts
-  pub welcome : AllByRecursion IsWelcome hs
+  pub each : AllByRecursion LeadsOn hs
+  pub followed : EachBringsNext hs
   pub so : Q hs
 
 -- there were exchanges for the versions, two for each conflict, and so many besides
-pub record HasAsked {L : Type 0} (m : LinkModel L) (client host : List ℕ) (first now : L) (cursor : Cursor) (besides : ℕ) (Q : List Heard → Type 0) : Type 0 where
+pub record HasAsked {L : Type 0} (m : LinkModel L) (client host : List ℕ) (state : State) (first now : L) (cursor : Cursor) (besides : ℕ) (Q : List Heard → Type 0) : Type 0 where
   pub kept : IsLinkKept m first now
   pub count : m.exchanges now ≤ m.exchanges first + (cursor.versions + 2 * cursor.conflicts + besides)
-  pub heard : IsTrue (m.tells_list first) → HeardSoFar m client host first now cursor Q
+  pub heard : IsTrue (m.tells_list first) → HeardSoFar m client host state first now cursor Q
 
--- there is no version behind the one asked for
-abbrev pub IsUpToDate : (client base : List ℕ) → Heard → Type 0
-IsUpToDate client base heard = (heard.asked ≡ asks.Child client base) × (heard.reply ≡ Ok replies.UpToDate)
+-- one where the last thing heard is a 409
+abbrev pub ends_late : List Heard → ℕ
+ends_late [] = 0
+ends_late (h ∷ []) = is_conflict h.reply
+ends_late (h ∷ next ∷ hs) = ends_late (next ∷ hs)
 
 -- ---- how far it has come over an honest link
 
@@ -66,18 +71,27 @@ pub record IsAtEnd {L : Type 0} (m : LinkModel L) (client : List ℕ) (state : S
 
 -- ---- its steps
 
--- a sync that began at this state and this link asks for what stands behind its cursor
-pub record IsPulling {L : Type 0} (m : LinkModel L) (client host : List ℕ) (state : State) (first now : L) (cursor : Cursor) : Type 0 where
+-- a sync that began at this state and this link asks for what stands behind its cursor, and what it heard is so
+pub record Asks {L : Type 0} (m : LinkModel L) (client host : List ℕ) (state : State) (first now : L) (cursor : Cursor) (Q : List Heard → Type 0) : Type 0 where
   pub fewer : length cursor.left.items ≤ length (plain state.pending)
   pub tries : cursor.conflicts ≤ 15
-  pub asked : HasAsked m client host first now cursor 0 (λ hs. Unit {0})
+  pub left : HasLeft state cursor
+  pub asked : HasAsked m client host state first now cursor 0 Q
   pub come : IsHonest m first client → HasCome m client state first now cursor
+
+abbrev pub IsAsking : {L : Type 0} → LinkModel L → (client host : List ℕ) → State → (first now : L) → Cursor → Type 0
+IsAsking m client host state first now cursor = Asks m client host state first now cursor (λ hs. Unit {0})
+
+-- it asks, and not since a version came too late
+abbrev pub IsPulling : {L : Type 0} → LinkModel L → (client host : List ℕ) → State → (first now : L) → Cursor → Type 0
+IsPulling m client host state first now cursor = Asks m client host state first now cursor (λ hs. ends_late hs ≡ 0)
 
 -- it was told that nothing does
 pub record HasPulled {L : Type 0} (m : LinkModel L) (client host : List ℕ) (state : State) (first now : L) (cursor : Cursor) : Type 0 where
   pub fewer : length cursor.left.items ≤ length (plain state.pending)
   pub tries : cursor.conflicts ≤ 15
-  pub asked : HasAsked m client host first now cursor 1 (λ hs. EndedBy hs (IsUpToDate client cursor.at))
+  pub left : HasLeft state cursor
+  pub asked : HasAsked m client host state first now cursor 1 (λ hs. EndedBy hs (IsUpToDate client cursor.at))
   pub come : IsHonest m first client → IsAtEnd m client state first now cursor
 
 -- whether it goes on pulling
@@ -89,7 +103,8 @@ PullsOn false m client host state first now cursor = HasPulled m client host sta
 pub record IsLate {L : Type 0} (m : LinkModel L) (client host : List ℕ) (state : State) (first now : L) (cursor : Cursor) (last : List ℕ) : Type 0 where
   pub fewer : length cursor.left.items ≤ length (plain state.pending)
   pub tries : cursor.conflicts ≤ 16
-  pub asked : HasAsked m client host first now cursor 0 (λ hs. EndedBy hs (IsConflict last))
+  pub left : HasLeft state cursor
+  pub asked : HasAsked m client host state first now cursor 0 (λ hs. EndedBy hs (IsConflict last))
   pub come : IsHonest m first client → HasCome m client state first now cursor
   pub behind : IsHonest m first client → GoesFurther (m.chain now) cursor.at
 
@@ -130,10 +145,11 @@ pub record HasMet {L : Type 0} (m : LinkModel L) (client : List ℕ) (state : St
   pub end : HasNothingLeft m state first now cursor sent ⊎ HasSent m state first now cursor sent
 
 -- what was heard up to the end
-pub record HeardAll {L : Type 0} (m : LinkModel L) (client host : List ℕ) (first now : L) (cursor : Cursor) : Type 0 where
+pub record HeardAll {L : Type 0} (m : LinkModel L) (client host : List ℕ) (state : State) (first now : L) (cursor : Cursor) : Type 0 where
   pub hs : List Heard
   pub hears : Hears m client host first now hs
   pub ended : EndedBy hs (IsLastReply client cursor.at)
+  pub written : IsHeardRecord state client hs cursor.at cursor.remote.items
   pub brought_is : brought hs ≡ cursor.versions
   pub goes_on : GoesOnFrom hs
 
@@ -141,7 +157,7 @@ pub record HeardAll {L : Type 0} (m : LinkModel L) (client host : List ℕ) (fir
 pub record IsMet {L : Type 0} (m : LinkModel L) (client host : List ℕ) (state : State) (first now : L) (cursor : Cursor) (sent : ℕ) : Type 0 where
   pub fewer : sent ≤ length (plain state.pending)
   pub kept : IsLinkKept m first now
-  pub heard : IsTrue (m.tells_list first) → HeardAll m client host first now cursor
+  pub heard : IsTrue (m.tells_list first) → HeardAll m client host state first now cursor
   pub come : IsHonest m first client → HasMet m client state first now cursor sent
 
 -- ---- its refusal
@@ -160,17 +176,19 @@ IsCause m first now (errors.Segment version) = Unit {0}
 IsCause m first now errors.Memory = Unit {0}
 
 -- what was heard up to the refusal
-pub record HeardToStop {L : Type 0} (m : LinkModel L) (client host : List ℕ) (first now : L) (e : SyncError) : Type 0 where
+pub record HeardToStop {L : Type 0} (m : LinkModel L) (client host : List ℕ) (state : State) (first now : L) (e : SyncError) : Type 0 where
   pub hs : List Heard
   pub hears : HearsUntil m client host first now hs e
   pub refused : HeardRefused client hs e
+  pub measured : IsMeasured state client hs e
   pub few : IsHonest m first client → m.exchanges now ≤ m.exchanges first + most_exchanges (brought hs) + 1
 
 -- what it says over an honest link
-pub record StopsTruly {L : Type 0} (m : LinkModel L) (state : State) (first now : L) (e : SyncError) : Type 0 where
+pub record StopsTruly {L : Type 0} (m : LinkModel L) (client host : List ℕ) (state : State) (first now : L) (e : SyncError) : Type 0 where
   pub whole : IsChain (m.chain now)
   pub grows : Grows (m.chain first) (m.chain now)
   pub refused : HonestRefused state (server_chain m first) (server_chain m now) e
+  pub pulled : RestsOnPulled m client host state first now e
   pub added : MayHaveAdded state (server_chain m first) (server_chain m now)
   pub added_only : MayAdd e ⊎ (m.own now ≡ m.own first)
 
@@ -178,5 +196,5 @@ pub record StopsTruly {L : Type 0} (m : LinkModel L) (state : State) (first now 
 pub record IsStopped {L : Type 0} (m : LinkModel L) (client host : List ℕ) (state : State) (first now : L) (e : SyncError) : Type 0 where
   pub kept : IsLinkKept m first now
   pub cause : IsCause m first now e
-  pub heard : IsTrue (m.tells_list first) → HeardToStop m client host first now e
-  pub come : IsHonest m first client → StopsTruly m state first now e
+  pub heard : IsTrue (m.tells_list first) → HeardToStop m client host state first now e
+  pub come : IsHonest m first client → StopsTruly m client host state first now e

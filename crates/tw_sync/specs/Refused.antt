@@ -17,7 +17,7 @@ use Rattle.tw_segment.specs.declared.error.SegmentError.TheVariants as segments
 use Rattle.tw_replica.specs.Core.{state_of}
 use Rattle.tw_replica.specs.Replica.{IsSame}
 use Rattle.tw_replica.specs.declared.replica.Replica.{Replica}
-use Rattle.tw_sync.specs.Heard.{Heard, conflicts, pulled_bytes}
+use Rattle.tw_sync.specs.Heard.{Heard, is_child, is_conflict, conflicts, pulled_bytes}
 use Rattle.tw_sync.specs.declared.error.ReplyKind.{ReplyKind}
 use Rattle.tw_sync.specs.declared.error.ReplyKind.TheVariants.{Cut, Head, Header, Length, TooLong, Parent, Nil, Status}
 use Rattle.tw_sync.specs.declared.error.SyncError.{SyncError}
@@ -63,6 +63,14 @@ IsBadReply (Status code) heard = (heard.reply ≡ Err (http.Status code)) ⊎ ((
 abbrev pub IsWelcome : Heard → Type 0
 IsWelcome heard = (kind : ReplyKind) → ¬ (IsBadReply kind heard)
 
+-- a reply that a sync goes on from: no 410
+abbrev pub LeadsOn : Heard → Type 0
+LeadsOn heard = IsWelcome heard × ¬ (heard.reply ≡ Ok replies.Gone)
+
+-- a 404 to get-child of this version: there is none behind it
+abbrev pub IsUpToDate : (client base : List ℕ) → Heard → Type 0
+IsUpToDate client base heard = (heard.asked ≡ asks.Child client base) × (heard.reply ≡ Ok replies.UpToDate)
+
 -- a 410 to get-child of this version
 abbrev pub IsGone : (client base : List ℕ) → Heard → Type 0
 IsGone client base heard = (heard.asked ≡ asks.Child client base) × (heard.reply ≡ Ok replies.Gone)
@@ -104,14 +112,24 @@ HeardCause client hs (errors.Busy parent) = EndedBy hs (IsConflict parent) × (c
 HeardCause client hs (errors.OutOfSync base parent) = IsOutOfSync client hs base parent
 HeardCause client hs (errors.Segment version) = EndedBy hs (IsBadSegment version)
 HeardCause client hs (errors.PullTooLong bytes) = IsTooMuch hs bytes
-HeardCause client hs (errors.SegmentTooLong bytes) = Unit {0}
+HeardCause client hs (errors.SegmentTooLong bytes) = (base : List ℕ) × EndedBy hs (IsUpToDate client base)
 HeardCause client hs errors.Link = Unit {0}
 HeardCause client hs (errors.Journal e) = Unit {0}
 HeardCause client hs errors.Memory = Unit {0}
 
--- replies that a sync goes on from: each is welcome, and their segments and conflicts are within their limits
+-- what follows a 409 brings a version
+abbrev pub BringsNext : Heard → List Heard → Type 0
+BringsNext h [] = Unit {0}
+BringsNext h (next ∷ hs) = is_conflict h.reply ≡ 1 → is_child next.reply ≡ 1
+
+abbrev pub EachBringsNext : List Heard → Type 0
+EachBringsNext [] = Unit {0}
+EachBringsNext (h ∷ hs) = BringsNext h hs × EachBringsNext hs
+
+-- replies that a sync goes on from: each leads on, each 409 is followed by a version, and their segments and conflicts are within their limits
 pub record GoesOnFrom (hs : List Heard) : Type 0 where
-  pub welcome : AllByRecursion IsWelcome hs
+  pub each : AllByRecursion LeadsOn hs
+  pub followed : EachBringsNext hs
   pub within : pulled_bytes hs ≤ max_pull
   pub few : conflicts hs ≤ 15
 
@@ -122,6 +140,8 @@ GoesOnToLast hs = (last : Heard) × (ends : EndsWith hs last) × GoesOnFrom ends
 -- a sync is refused for a reply or for a limit at the first reply that it does not go on from
 abbrev pub GoesOnUntil : List Heard → SyncError → Type 0
 GoesOnUntil hs (errors.Reply kind) = GoesOnToLast hs
+GoesOnUntil hs (errors.Gone base) = GoesOnToLast hs
+GoesOnUntil hs (errors.OutOfSync base parent) = GoesOnToLast hs
 GoesOnUntil hs (errors.Busy parent) = GoesOnToLast hs
 GoesOnUntil hs (errors.PullTooLong bytes) = GoesOnToLast hs
 GoesOnUntil hs e = GoesOnFrom hs

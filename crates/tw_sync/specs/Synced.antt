@@ -13,6 +13,7 @@ use Rattle.tw_sync.specs.Heard.{Heard, Hears, HearsUntil, brought, most_exchange
 use Rattle.tw_sync.specs.Answers.{IsLinkKept}
 use Rattle.tw_sync.specs.Refused.{HeardRefused, SyncRefused, MayAdd}
 use Rattle.tw_sync.specs.Sync.{server_chain, RecordsOfSync, LeavesEnd, HeardEnd}
+use Rattle.tw_sync.specs.Measured.{IsMeasured}
 use Rattle.tw_sync.specs.Honest.{HonestRefused, CanSync, IsWant}
 use Rattle.tw_sync.specs.Resuming.{WasAdded, SendsLater}
 use Rattle.tw_sync.specs.declared.report.SyncReport.{SyncReport}
@@ -41,6 +42,7 @@ pub record RefusedEnd {D L : Type 0} (d : DiskModel D) (m : LinkModel L) (client
   pub added_only : IsHonest m first client → MayAdd e ⊎ (m.own now ≡ m.own first)
   pub refused : SyncRefused d m old new before after first now e
   pub honest : IsHonest m first client → HonestRefused (state_of old.core) (server_chain m first) (server_chain m now) e
-  pub complete : CanSync d m old before after first now client → IsWant e
+  pub complete : CanSync d m old before after first now client host → IsWant e
   pub heard : IsTrue (m.tells_list first) → (hs : List Heard) × HearsUntil m client host first now hs e × HeardRefused client hs e
       × (IsHonest m first client → m.exchanges now ≤ m.exchanges first + most_exchanges (brought hs) + 1)
+  pub measured : IsTrue (m.tells_list first) → (hs : List Heard) × HearsUntil m client host first now hs e × IsMeasured (state_of old.core) client hs e

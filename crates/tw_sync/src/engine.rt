@@ -14,6 +14,7 @@ ghost use Rattle.tw_sync.specs.Heard.{Heard, Hears, HearsUntil, brought, most_ex
 ghost use Rattle.tw_sync.specs.Answers.{IsLinkKept};
 ghost use Rattle.tw_sync.specs.Refused.{HeardRefused, SyncRefused, MayAdd};
 ghost use Rattle.tw_sync.specs.Sync.{server_chain, RecordsOfSync, LeavesEnd, HeardEnd};
+ghost use Rattle.tw_sync.specs.Measured.{IsMeasured};
 ghost use Rattle.tw_sync.specs.Honest.{HonestRefused, CanSync, IsWant};
 ghost use Rattle.tw_sync.specs.Resuming.{WasAdded, SendsLater};
 ghost use Rattle.tw_model.specs.declared.SyncOp.{SyncOp};
@@ -60,7 +61,7 @@ pub fn sync<D: Disk, L: Link>(
     ensures closed { is_closed replica.old.journal ≡ true → result ≡ Err (errors.Journal journal.Closed) }
     ensures refused { IfErr result (SyncRefused D.model L.model replica.old replica.new disk.old disk.new link.old link.new) }
     ensures honest { IfErr result (λ e. IsHonest L.model link.old client → HonestRefused (state_of replica.old.core) (server_chain L.model link.old) (server_chain L.model link.new) e) }
-    ensures complete { IfErr result (λ e. CanSync D.model L.model replica.old disk.old disk.new link.old link.new client → IsWant e) }
+    ensures complete { IfErr result (λ e. CanSync D.model L.model replica.old disk.old disk.new link.old link.new client host.now → IsWant e) }
 
     ensures records { (bodies : List (List ℕ)) → IsReplicaOn D.model replica.old disk.old bodies → IfOk result (λ report. RecordsOfSync D.model replica.old replica.new disk.old disk.new (IsHonest L.model link.old client) (L.model.chain link.new) bodies) }
     ensures any_moment { (bodies : List (List ℕ)) → IsReplicaOn D.model replica.old disk.old bodies → LeavesEnd D.model disk.old disk.new (state_of replica.old.core) (IsHonest L.model link.old client) (server_chain L.model link.old) (server_chain L.model link.new) }
@@ -69,6 +70,7 @@ pub fn sync<D: Disk, L: Link>(
 
     ensures heard { IfOk result (λ report. IsTrue (L.model.tells_list link.old) → (hs : List Heard) × Hears L.model client host.now link.old link.new hs × HeardEnd client hs report) }
     ensures refused_heard { IfErr result (λ e. IsTrue (L.model.tells_list link.old) → (hs : List Heard) × HearsUntil L.model client host.now link.old link.new hs e × HeardRefused client hs e × (IsHonest L.model link.old client → L.model.exchanges link.new ≤ L.model.exchanges link.old + most_exchanges (brought hs) + 1)) }
+    ensures measured { IfErr result (λ e. IsTrue (L.model.tells_list link.old) → (hs : List Heard) × HearsUntil L.model client host.now link.old link.new hs e × IsMeasured (state_of replica.old.core) client hs e) }
     ensures exchanges { IfOk result (λ report. IsHonest L.model link.old client → L.model.exchanges link.new ≤ L.model.exchanges link.old + most_exchanges report.pulled) }
     ensures link_kept { IsLinkKept L.model link.old link.new }
 {

@@ -1,5 +1,7 @@
 //! Laws of chains, positions and ends of a sync. Each function does nothing: its contract is the law.
-ghost use Rattle.tw_sync.specs.Laws.{NewReplicaAgrees, AgreesIsKept, FoldIsOne, PendingActsOnTheFold, AgreeingReplicasAreEqual, AddedVersionCancels, SyncEndAgrees};
+ghost use Rattle.tw_sync.specs.Laws.{NewReplicaAgrees, AgreesIsKept, FoldIsOne, PendingActsOnTheFold, AgreeingReplicasAreEqual, AddedVersionCancels, PushedIsAdded, CutOffIsAdded, SyncEndAgrees};
+ghost use Rattle.tw_sync.specs.Following.{CommitFollows, UndoStaysBehind, AddedForFollowing};
+ghost use Rattle.tw_sync.specs.World.{ReachedIsGood, ReachedFollows};
 ghost use Rattle.tw_sync.specs.Positions.{ChainStarts, ChainPulls, ChainFits, ChainPushes, OwnVersionsCancelAt, OwnVersionCancelsIn, OwnVersionsCancelEachTime};
 ghost use Rattle.tw_sync.specs.Steps.{CommitAgrees, UndoAgrees};
 
@@ -71,6 +73,16 @@ pub fn added_version_cancels()
     ensures { AddedVersionCancels }
 {}
 
+/// What a sync that ends has added is what a refused one may have added.
+pub fn what_a_sync_sent_is_added()
+    ensures { PushedIsAdded }
+{}
+
+/// A sync that is cut off between its add-version and its record has added what was left of all that is pending.
+pub fn a_cut_off_sync_was_added()
+    ensures { CutOffIsAdded }
+{}
+
 /// A commit of a group leaves a replica in agreement with the chains that it agreed with.
 pub fn commit_agrees()
     ensures { CommitAgrees }
@@ -84,4 +96,31 @@ pub fn undo_agrees()
 /// A sync of a replica that agrees with the chain ends in one that agrees with it.
 pub fn sync_end_agrees()
     ensures { SyncEndAgrees }
+{}
+
+/// A commit puts its operations behind what was pending and what stands there already.
+pub fn a_commit_follows()
+    ensures { CommitFollows }
+{}
+
+/// An undo that does not reach into what was pending leaves it, and a part of what stands behind it.
+pub fn an_undo_stays_behind()
+    ensures { UndoStaysBehind }
+{}
+
+/// The version that a refused sync added is one that a later sync takes for added, after any commits, and undos that do
+/// not reach into what was pending then.
+pub fn what_was_added_stays_added()
+    ensures { AddedForFollowing }
+{}
+
+/// In every world that any runs, crashes, lost and repeated requests and other clients lead to from empty disks,
+/// each replica that a machine's disk may open to agrees with the server's chain.
+pub fn every_reached_world_is_good()
+    ensures { ReachedIsGood }
+{}
+
+/// There the tasks of each replica are the server's chain folded to its base, then what is pending.
+pub fn every_reached_replica_follows_the_chain()
+    ensures { ReachedFollows }
 {}

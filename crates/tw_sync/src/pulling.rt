@@ -2,7 +2,7 @@
 ghost use Rattle.std.specs.Prelude.{◌≡◌, ◌<◌, ◌≤◌, true, false, IfOk, OnOk, IfErr, List, ℕ};
 ghost use Rattle.tw_http.specs.Messages.{IsHost};
 ghost use Rattle.tw_replica.specs.State.{State};
-ghost use Rattle.tw_sync.specs.Progress.{IsPulling, HasPulled, PullsOn, IsLate, IsStopped};
+ghost use Rattle.tw_sync.specs.Progress.{IsAsking, IsPulling, HasPulled, PullsOn, IsLate, IsStopped};
 ghost use Rattle.tw_sync.specs.declared.error.SyncError.TheVariants as errors;
 
 use crate::ask::{ChildAnswer, ask_child};
@@ -39,12 +39,13 @@ fn pull_one<L: Link>(
 ) -> Result<bool, SyncError>
     requires host { IsHost host.now }
     ensures goes_on { IfOk result (λ more. (state : State) (first : L) → IsPulling L.model client host.now state first link.old cursor.old → PullsOn more L.model client host.now state first link.new cursor.new) }
+    ensures found { IfOk result (λ more. more ≡ true → (state : State) (first : L) → IsAsking L.model client host.now state first link.old cursor.old → IsPulling L.model client host.now state first link.new cursor.new) }
     ensures farther { IfOk result (λ more. more ≡ true → cursor.old.bytes < cursor.new.bytes) }
     ensures conflicts { OnOk result (cursor.new.conflicts ≡ cursor.old.conflicts) }
 
     // Where a version came too late, there is one more.
     ensures late { IfOk result (λ more. more ≡ false → cursor.old.conflicts ≤ 15 → (state : State) (first : L) (last : List ℕ) → IsLate L.model client host.now state first link.old cursor.old last → IsStopped L.model client host.now state first link.new (errors.OutOfSync cursor.new.at last)) }
-    ensures stopped { IfErr result (λ e. (state : State) (first : L) → IsPulling L.model client host.now state first link.old cursor.old → IsStopped L.model client host.now state first link.new e) }
+    ensures stopped { IfErr result (λ e. (state : State) (first : L) → IsAsking L.model client host.now state first link.old cursor.old → IsStopped L.model client host.now state first link.new e) }
 {
     match ask_child(alloc, link, client, host, cursor.at)? {
         ChildAnswer::Found { id, segment } => {

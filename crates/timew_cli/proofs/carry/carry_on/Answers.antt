@@ -6,7 +6,8 @@ use Rattle.timew_store.specs.declared.interval.Interval.{Interval}
 use Rattle.timew_cli.specs.Carried.{Carried, view_of}
 use Rattle.timew_cli.specs.Step.{Among}
 use Rattle.timew_cli.specs.declared.cause.Cause.{Cause}
-use Rattle.timew_cli.proofs.Ending.{among_here, by_undo, by_change, view_ends, view_fails, some_view, none_view}
+use Rattle.timew_cli.specs.declared.cause.Cause.TheVariants.{Memory}
+use Rattle.timew_cli.proofs.Ending.{passed_ends, rests, among_here, by_undo, by_change, view_ends, view_fails, some_view, none_view}
 use Rattle.timew_cli.proofs.carry.carry_on.Goals as goal
 
 pub returns-then-is_undo-clause-any_moment : goal.returns-then-is_undo-clause-any_moment
@@ -27,6 +28,12 @@ returns-then-not-is_view-clause-any_moment g c = λ bodies history on.
 
 pub returns-in_err-text-clause-any_moment : goal.returns-in_err-text-clause-any_moment
 returns-in_err-text-clause-any_moment g c = λ bodies history on. among_here g.F.Folder.model g.D.Disk.model c.args.store c.args.folder.now c.args.disk.now bodies history _ on
+
+pub returns-in_err-text-clause-ends : goal.returns-in_err-text-clause-ends
+returns-in_err-text-clause-ends g c = λ bodies history on.
+    let m = g.F.Folder.model in
+    let n = g.D.Disk.model in
+    passed_ends m n _ _ bodies (held_by m c.args.folder.now history) c.from_residual.result Memory c.from_residual.ensures.1 (rests m n c.args.store c.args.folder.now c.args.disk.now bodies history on)
 
 pub returns-in-Some-clause-ends : goal.returns-in-Some-clause-ends
 returns-in-Some-clause-ends g c = λ bodies history on.

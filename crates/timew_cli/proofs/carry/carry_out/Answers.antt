@@ -11,7 +11,7 @@ pub returns-in_err-store-clause-refused : goal.returns-in_err-store-clause-refus
 returns-in_err-store-clause-refused g c =
     let m = g.F.Folder.model in
     let n = g.D.Disk.model in
-    passed_on c.from_residual.result _ _ c.from_residual.ensures.1 (load_ends m n c.args.command.now c.args.now c.args.zone.now c.args.folder.now c.load.new.folder c.args.disk.now c.load.new.disk c.in_err-store.field-0.0 c.in_err-store.ensures.refused)
+    passed_on c.from_residual.result _ _ c.from_residual.ensures.1 (load_ends m n c.args.command.now c.args.now c.args.zone.now c.args.folder.now c.load.new.folder c.args.disk.now c.load.new.disk c.in_err-store.field-0.0 c.in_err-store.ensures.refused c.in_err-store.ensures.stays)
 
 pub returns-in_err-store-clause-complete : goal.returns-in_err-store-clause-complete
 returns-in_err-store-clause-complete g c =
@@ -31,7 +31,7 @@ returns-in_err-shown-clause-refused g c =
     let m = g.F.Folder.model in
     let n = g.D.Disk.model in
     passed_on c.from_residual-in_err-shown.result _ _ c.from_residual-in_err-shown.ensures.1
-    (step_ends m n c.args.command.now c.args.now c.args.zone.now c.in_ok-store.store c.args.folder.now c.load.new.folder c.carry_on.new.folder c.args.disk.now c.load.new.disk c.carry_on.new.disk c.in_ok-store.ensures.loaded c.load.ensures.folder c.load.ensures.disk c.in_err-shown.field-0.0 c.in_err-shown.ensures.ends c.in_err-shown.ensures.faults)
+    (step_ends m n c.args.command.now c.args.now c.args.zone.now c.in_ok-store.store c.args.folder.now c.load.new.folder c.carry_on.new.folder c.args.disk.now c.load.new.disk c.carry_on.new.disk c.in_ok-store.ensures.loaded g.met.F.Folder.seen_may_stay g.met.D.Disk.seen_may_stay c.load.ensures.folder c.load.ensures.disk c.in_err-shown.field-0.0 c.in_err-shown.ensures.ends c.in_err-shown.ensures.faults)
 
 pub returns-in_err-shown-clause-complete : goal.returns-in_err-shown-clause-complete
 returns-in_err-shown-clause-complete g c =

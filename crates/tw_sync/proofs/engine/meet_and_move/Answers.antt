@@ -12,10 +12,11 @@ use Rattle.tw_sync.proofs.Folds.{agrees_is_kept}
 use Rattle.tw_sync.proofs.Ends.{sync_end_agrees}
 use Rattle.tw_sync.proofs.Hearing.{hears_none, hears_until, kept_same}
 use Rattle.tw_sync.proofs.Served.{grows_same}
+use Rattle.tw_sync.proofs.GoingOn.{goes_on_none}
 use Rattle.tw_sync.proofs.Results.{passed_on}
 use Rattle.tw_sync.proofs.Complete.{can_sync}
 use Rattle.tw_sync.proofs.Begun.{starts}
-use Rattle.tw_sync.proofs.Moved.{made_report, sync_end, moved_to, end_in, records_are, stopped_refused, unmoved_refused, unmoved_honest, unmoved_may_add, unmoved_state, unmoved_cause, may_have_added}
+use Rattle.tw_sync.proofs.Moved.{made_report, sync_end, moved_to, end_in, moved_is_sync, records_are, stopped_refused, unmoved_refused, unmoved_honest, unmoved_rests, unmoved_may_add, unmoved_state, unmoved_cause, unmoved_measured, may_have_added}
 use Rattle.tw_sync.proofs.Resumed.{sends_later}
 use Rattle.tw_sync.proofs.engine.meet_and_move.Goals as goal
 
@@ -25,7 +26,7 @@ pub returns-in_err-cursor-clause-any : goal.returns-in_err-cursor-clause-any
 returns-in_err-cursor-clause-any g c = record {
   agrees = λ honest a. a;
   grows = λ honest. grows_same (g.L.Link.model.chain c.args.link.now);
-  any_moment = λ bodies on. record { next = None; end = λ h. tt; leaves = nothing_written g.D.Disk.model g.met.D.Disk.only_now c.args.replica.now c.args.disk.now bodies None on };
+  any_moment = λ bodies on. record { next = None; made = tt; end = λ h. tt; leaves = nothing_written g.D.Disk.model g.met.D.Disk.only_now c.args.replica.now c.args.disk.now bodies None on };
   link_kept = kept_same g.L.Link.model c.args.link.now;
 }
 
@@ -40,7 +41,8 @@ returns-in_err-cursor-clause-refused g c =
       refused = record { same = record { state = refl; journal = refl; disk = refl }; is_open = c.requires.open };
       honest = λ honest. tt;
       complete = λ can. inl refl;
-      heard = λ tells. ([], inl (hears_none m c.args.client c.args.host.now first), record { cause = tt; until = record { welcome = tt; within = omega arith; few = omega arith } }, λ honest. omega arith);
+      heard = λ tells. ([], inl (hears_none m c.args.client c.args.host.now first), record { cause = tt; until = goes_on_none }, λ honest. omega arith);
+      measured = λ tells. ([], inl (hears_none m c.args.client c.args.host.now first), tt);
     })
 
 -- ---- the chain is not met
@@ -57,7 +59,7 @@ returns-in_err-pushed-clause-any g c =
     record {
       agrees = λ honest a. agrees_is_kept state (m.chain first) (m.chain now) a (st.come honest).grows;
       grows = λ honest. (st.come honest).grows;
-      any_moment = λ bodies on. record { next = None; end = λ h. tt; leaves = nothing_written g.D.Disk.model g.met.D.Disk.only_now old c.args.disk.now bodies None on };
+      any_moment = λ bodies on. record { next = None; made = tt; end = λ h. tt; leaves = nothing_written g.D.Disk.model g.met.D.Disk.only_now old c.args.disk.now bodies None on };
       link_kept = st.kept;
     }
 
@@ -81,8 +83,9 @@ returns-in_err-pushed-clause-refused g c =
       added_only = λ honest. (st.come honest).added_only;
       refused = refused;
       honest = λ honest. (st.come honest).refused;
-      complete = λ can. can_sync d m old old disk disk first now client e can refused (st.come can.honest).refused;
+      complete = λ can. can_sync d m old old disk disk first now client c.args.host.now e can refused (st.come can.honest).refused (st.come can.honest).pulled;
       heard = λ tells. (let t = st.heard tells in (t.hs, t.hears, t.refused, t.few));
+      measured = λ tells. (let t = st.heard tells in (t.hs, t.hears, t.measured));
     })
 
 -- ---- the chain is met
@@ -122,7 +125,7 @@ returns-in_err-stand_at-clause-any g c =
     record {
       agrees = λ honest a. subst (λ t. Agrees t (m.chain now)) (sym same) (agrees_is_kept state (m.chain first) (m.chain now) a (met.come honest).on.grows);
       grows = λ honest. (met.come honest).on.grows;
-      any_moment = λ bodies on. record { next = moved_state cursor state; end = λ honest. end_in m client state first now cursor dropped sent (met.come honest) sum; leaves = c.stand_at.ensures.any_moment bodies on };
+      any_moment = λ bodies on. record { next = moved_state cursor state; made = moved_is_sync state cursor; end = λ honest. end_in m client state first now cursor dropped sent (met.come honest) sum; leaves = c.stand_at.ensures.any_moment bodies on };
       link_kept = met.kept;
     }
 
@@ -153,10 +156,11 @@ returns-in_err-stand_at-clause-refused g c =
       added_only = λ honest. inl (unmoved_may_add d m client old new before after first now cursor sent live e un);
       refused = refused;
       honest = λ honest. unmoved_honest d m client old new before after first now cursor sent live (met.come honest) e un;
-      complete = λ can. can_sync d m old new before after first now client (of_record e) can refused (unmoved_honest d m client old new before after first now cursor sent live (met.come can.honest) e un);
+      complete = λ can. can_sync d m old new before after first now client host (of_record e) can refused (unmoved_honest d m client old new before after first now cursor sent live (met.come can.honest) e un) (unmoved_rests d m client old new before after first now cursor sent live host e);
       heard = λ tells. (
           let t = met.heard tells in
           (t.hs, hears_until m client host first now t.hs (of_record e) t.hears, unmoved_cause d m client old new before after first now cursor sent live t.hs e un t.goes_on, λ honest. (let n = (met.come honest).few in let b = t.brought_is in omega (arith, n, b))));
+      measured = λ tells. (let t = met.heard tells in (t.hs, hears_until m client host first now t.hs (of_record e) t.hears, unmoved_measured d m client old new before after first now cursor sent live t.hs e un t.written));
     })
 
 -- ---- the replica is moved
@@ -185,7 +189,7 @@ returns-clause-any g c =
       agrees = λ honest a. sync_end_agrees state (state_of new.core) (server_chain m first) (server_chain m now) (made_report cursor dropped sent) (met.come honest).on.whole a
           (sync_end m client state (state_of new.core) first now cursor dropped sent (met.come honest) sum moved);
       grows = λ honest. (met.come honest).on.grows;
-      any_moment = λ bodies on. record { next = moved_state cursor state; end = λ honest. end_in m client state first now cursor dropped sent (met.come honest) sum; leaves = c.stand_at.ensures.any_moment bodies on };
+      any_moment = λ bodies on. record { next = moved_state cursor state; made = moved_is_sync state cursor; end = λ honest. end_in m client state first now cursor dropped sent (met.come honest) sum; leaves = c.stand_at.ensures.any_moment bodies on };
       link_kept = met.kept;
     }
 
@@ -214,7 +218,7 @@ returns-clause-done g c =
     record {
       ended = λ honest. sync_end m client state (state_of new.core) first now cursor dropped sent (met.come honest) sum (moved_to d old new before after cursor (moved_state cursor state) moved);
       cancels = λ honest a mine later was. sends_later m client state first now cursor dropped sent mine later was a.sound (met.come honest);
-      records = λ bodies on. records_are d m client old new before after first now cursor sent (IsHonest m first client) met.come moved bodies on;
-      heard = λ tells. (let t = met.heard tells in (t.hs, t.hears, record { ended = t.ended; brought_is = t.brought_is; goes_on = t.goes_on }));
+      records = λ bodies on. records_are d m client old new before after first now cursor sent (IsHonest m first client) met.come moved bodies on (c.stand_at.ensures.any_moment bodies on);
+      heard = λ tells. (let t = met.heard tells in (t.hs, t.hears, record { ended = t.ended; brought_is = t.brought_is; read = (t.written.pulled, t.written.reads); goes_on = t.goes_on }));
       exchanges = λ honest. (met.come honest).few;
     }

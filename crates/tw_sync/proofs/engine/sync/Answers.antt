@@ -56,3 +56,6 @@ returns-clause-complete g c = if_err_map c.meet_and_move.result _ _ c.meet_and_m
 
 pub returns-clause-refused_heard : goal.returns-clause-refused_heard
 returns-clause-refused_heard g c = if_err_map c.meet_and_move.result _ _ c.meet_and_move.ensures.refused (λ e end. end.heard)
+
+pub returns-clause-measured : goal.returns-clause-measured
+returns-clause-measured g c = if_err_map c.meet_and_move.result _ _ c.meet_and_move.ensures.refused (λ e end. end.measured)

@@ -1,12 +1,13 @@
-use Rattle.std.proofs.Common.{subst, ◌∙◌}
-use Rattle.tw_sync.specs.Progress.{PullsOn}
+use Rattle.std.proofs.Common.{◌≡◌, subst, ◌∙◌}
+use Rattle.tw_sync.specs.Progress.{ends_late, PullsOn}
+use Rattle.tw_sync.proofs.GoingOn.{asks}
 use Rattle.tw_sync.proofs.Results.{passed_on}
 use Rattle.tw_sync.proofs.pulling.pull.Goals as goal
 
 pub returns-in_err-pull_one-clause-stopped : goal.returns-in_err-pull_one-clause-stopped
 returns-in_err-pull_one-clause-stopped g c =
     passed_on c.from_residual.result _ _ c.from_residual.ensures.1
-    (λ state first s. c.in_err-pull_one.ensures.stopped state first (c.loop.invariant.pulls state first s))
+    (λ state first s. c.in_err-pull_one.ensures.stopped state first (asks g.L.Link.model c.args.client c.args.host.now state first c.loop.link c.loop.cursor (λ hs. ends_late hs ≡ 0) (c.loop.invariant.pulls state first s)))
 
 pub loop-preserved : goal.loop-preserved
 loop-preserved g c = record {

@@ -1,5 +1,4 @@
-use Rattle.std.proofs.Common.{◌≡◌, true, false, rules, subst}
-use Rattle.tw_sync.specs.Progress.{PullsOn}
+use Rattle.std.proofs.Common.{◌≡◌, true, false, rules}
 use Rattle.tw_sync.proofs.Results.{passed_on, on_ok_map, if_err_map}
 use Rattle.tw_sync.proofs.Conflicts.{late_pulls}
 use Rattle.tw_sync.proofs.Others.{busy}
@@ -24,13 +23,11 @@ returns-clause-pulled g c =
     let more : c.in_ok-pull_one.field-0 ≡ true = search rules in
     on_ok_map c.pull.result c.pull.ensures.pulled
     (λ pulled state first s.
-    pulled state first (subst (λ b. PullsOn b g.L.Link.model c.args.client c.args.host.now state first c.pull_one.new.link c.pull_one.new.cursor) more
-    (c.in_ok-pull_one.ensures.goes_on state first (late_pulls g.L.Link.model c.args.client c.args.host.now state first c.args.link.now c.args.cursor.now c.args.latest s c.if-cursor-gt15.false))))
+    pulled state first (c.in_ok-pull_one.ensures.found more state first (late_pulls g.L.Link.model c.args.client c.args.host.now state first c.args.link.now c.args.cursor.now c.args.latest s c.if-cursor-gt15.false)))
 
 pub returns-clause-stopped : goal.returns-clause-stopped
 returns-clause-stopped g c =
     let more : c.in_ok-pull_one.field-0 ≡ true = search rules in
     if_err_map c.pull.result _ _ c.pull.ensures.stopped
     (λ e stopped state first s.
-    stopped state first (subst (λ b. PullsOn b g.L.Link.model c.args.client c.args.host.now state first c.pull_one.new.link c.pull_one.new.cursor) more
-    (c.in_ok-pull_one.ensures.goes_on state first (late_pulls g.L.Link.model c.args.client c.args.host.now state first c.args.link.now c.args.cursor.now c.args.latest s c.if-cursor-gt15.false))))
+    stopped state first (c.in_ok-pull_one.ensures.found more state first (late_pulls g.L.Link.model c.args.client c.args.host.now state first c.args.link.now c.args.cursor.now c.args.latest s c.if-cursor-gt15.false)))

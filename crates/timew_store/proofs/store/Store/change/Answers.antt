@@ -1,64 +1,93 @@
-use Rattle.std.proofs.Common.{◌≡◌, length, rules, sym, subst}
-use Rattle.timew_store.specs.Held.{replaced}
-use Rattle.timew_store.specs.Store.{HoldMonths}
+use Rattle.std.proofs.Common.{◌≡◌, length, rules, refl, ap, ◌∙◌}
+use Rattle.timew_store.specs.Edit.{edited}
+use Rattle.timew_store.specs.Store.{rows_kept}
 use Rattle.timew_store.specs.Writing.{changes_of}
-use Rattle.timew_store.proofs.Prepares.{stays_here, change_ready, moved_nowhere, moved_on, either_on, none_changed, some_changed, one_body, change_refused}
-use Rattle.timew_store.proofs.Loads.{passed_on}
+use Rattle.timew_store.specs.declared.kept.Months.{Months}
+use Rattle.timew_store.specs.declared.store.Store.{Store}
+use Rattle.timew_store.proofs.Prepares.{file_names, stays_here, change_ready, moved_nowhere, moved_on, either_on, none_changed, some_changed, one_body, change_refused}
+use Rattle.timew_store.proofs.Restored.{restored, edit_holds}
 use Rattle.timew_store.proofs.store.Store.change.Goals as goal
 
 pub returns-in_err-prepared-clause-any_moment : goal.returns-in_err-prepared-clause-any_moment
 returns-in_err-prepared-clause-any_moment g c = λ bodies history on. stays_here g.F.Folder.model g.D.Disk.model c.args.self.now.journal c.args.folder.now c.args.disk.now bodies history _ on.rest
 
+pub returns-in-Err-clause-any_moment : goal.returns-in-Err-clause-any_moment
+returns-in-Err-clause-any_moment g c = λ bodies history on. stays_here g.F.Folder.model g.D.Disk.model c.args.self.now.journal c.args.folder.now c.args.disk.now bodies history _ on.rest
+
+pub returns-in-Err-clause-refused : goal.returns-in-Err-clause-refused
+returns-in-Err-clause-refused g c =
+    let old = c.args.self.now in
+    (ap (λ (m : Months). let s : Store = record { journal = old.journal; months = m; before = old.before } in s) (restored old.months c.replace-files.result c.in-Err.rows c.replace-files.ensures.value c.in-Err.ensures.err _ _), refl, refl)
+
 pub returns-then-len-eq0-clause-changed : goal.returns-then-len-eq0-clause-changed
 returns-then-len-eq0-clause-changed g c = λ bodies history on.
+    let old = c.args.self.now in
     let files = g.F.Folder.model.seen c.args.folder.now in
     let changes = changes_of c.in_ok-prepared.prepared.changes.items in
+    let is = c.in_ok-prepared.ensures in
     let none : length c.in_ok-prepared.prepared.changes.items ≡ 0 = search rules in
-    moved_nowhere g.F.Folder.model g.D.Disk.model c.args.self.now c.args.folder.now c.args.disk.now bodies history on c.args.next (changes_of c.in_ok-prepared.prepared.changes.items) (c.in_ok-prepared.ensures.changes (g.F.Folder.model.seen c.args.folder.now) on.months)
-    c.put.new.self (none_changed c.in_ok-prepared.prepared.changes.items none) c.put.ensures.journal (subst (HoldMonths (replaced files changes)) (sym c.put.ensures.months) (c.in_ok-prepared.ensures.months files on.months))
+    moved_nowhere g.F.Folder.model g.D.Disk.model old c.args.folder.now c.args.disk.now bodies history on (edited c.args.edit (rows_kept old)) changes (is.changes files on.months) _ (none_changed c.in_ok-prepared.prepared.changes.items none) refl
+    (edit_holds files changes old.months c.months_after.result c.args.edit c.in_ok-prepared.prepared.files.items c.in-Ok.rows.items (c.in-Ok.ensures.rows ∙ ap (λ (m : Months). m.rows) c.replace-files.ensures.value)
+    (ap (λ v. v.items) c.months_after.ensures.files) c.months_after.ensures.rows (is.files files on.months) (is.rows files on.months))
 
 pub returns-then-len-eq0-clause-any_moment : goal.returns-then-len-eq0-clause-any_moment
 returns-then-len-eq0-clause-any_moment g c = λ bodies history on. stays_here g.F.Folder.model g.D.Disk.model c.args.self.now.journal c.args.folder.now c.args.disk.now bodies history _ on.rest
 
-pub returns-in_err-write-clause-any_moment : goal.returns-in_err-write-clause-any_moment
-returns-in_err-write-clause-any_moment g c = λ bodies history on.
+pub write_change-requires-clause-names : goal.write_change-requires-clause-names
+write_change-requires-clause-names g c = file_names c.in_ok-prepared.prepared.changes.items c.in_ok-prepared.ensures.named
+
+pub returns-in-Ok-write_change-clause-changed : goal.returns-in-Ok-write_change-clause-changed
+returns-in-Ok-write_change-clause-changed g c = λ bodies history on.
     let m = g.F.Folder.model in
     let n = g.D.Disk.model in
+    let old = c.args.self.now in
+    let next = edited c.args.edit (rows_kept old) in
+    let files = m.seen c.args.folder.now in
+    let changes = changes_of c.in_ok-prepared.prepared.changes.items in
+    let is = c.in_ok-prepared.ensures in
+    let are = is.changes files on.months in
+    let body = c.deref.result.now in
+    let body_is = c.deref.ensures.value ∙ is.body in
+    let some : length c.in_ok-prepared.prepared.changes.items ≡ 0 → ⊥ = search rules in
+    moved_on m n old c.args.folder.now c.args.disk.now bodies history on next changes are _ c.write_change.new.folder c.write_change.new.disk body (some_changed c.in_ok-prepared.prepared.changes.items some) body_is
+    (edit_holds files changes old.months c.months_after-in-Ok-write_change.result c.args.edit c.in_ok-prepared.prepared.files.items c.in-Ok.rows.items (c.in-Ok.ensures.rows ∙ ap (λ (m : Months). m.rows) c.replace-files.ensures.value)
+    (ap (λ v. v.items) c.months_after-in-Ok-write_change.ensures.files) c.months_after-in-Ok-write_change.ensures.rows (is.files files on.months) (is.rows files on.months))
+    (c.in-Ok-write_change.ensures.replaced on.rest.tells)
+    (c.in-Ok-write_change.ensures.done bodies history _ (change_ready m n old c.args.folder.now c.args.disk.now bodies history on next changes are body body_is is.named))
+
+pub returns-in-Ok-write_change-clause-any_moment : goal.returns-in-Ok-write_change-clause-any_moment
+returns-in-Ok-write_change-clause-any_moment g c = λ bodies history on.
+    let m = g.F.Folder.model in
+    let n = g.D.Disk.model in
+    let old = c.args.self.now in
+    let next = edited c.args.edit (rows_kept old) in
     let changes = changes_of c.in_ok-prepared.prepared.changes.items in
     let are = c.in_ok-prepared.ensures.changes (m.seen c.args.folder.now) on.months in
     let some : length c.in_ok-prepared.prepared.changes.items ≡ 0 → ⊥ = search rules in
-    either_on m n c.args.self.now c.args.folder.now c.args.disk.now bodies history on c.args.next changes are c.write.new.folder c.write.new.disk (some_changed c.in_ok-prepared.prepared.changes.items some)
-    (c.write.ensures.any_moment bodies history _ (change_ready m n c.args.self.now c.args.folder.now c.args.disk.now bodies history on c.args.next changes are c.in_ok-prepared.prepared.body.items c.in_ok-prepared.ensures.body c.in_ok-prepared.ensures.named))
+    either_on m n old c.args.folder.now c.args.disk.now bodies history on next changes are c.write_change.new.folder c.write_change.new.disk (some_changed c.in_ok-prepared.prepared.changes.items some)
+    (c.write_change.ensures.any_moment bodies history _ (change_ready m n old c.args.folder.now c.args.disk.now bodies history on next changes are c.deref.result.now (c.deref.ensures.value ∙ c.in_ok-prepared.ensures.body) c.in_ok-prepared.ensures.named))
 
-pub returns-clause-changed : goal.returns-clause-changed
-returns-clause-changed g c = λ bodies history on.
+pub returns-in-Err-write_change-clause-any_moment : goal.returns-in-Err-write_change-clause-any_moment
+returns-in-Err-write_change-clause-any_moment g c = λ bodies history on.
     let m = g.F.Folder.model in
     let n = g.D.Disk.model in
+    let old = c.args.self.now in
+    let next = edited c.args.edit (rows_kept old) in
     let changes = changes_of c.in_ok-prepared.prepared.changes.items in
     let are = c.in_ok-prepared.ensures.changes (m.seen c.args.folder.now) on.months in
     let some : length c.in_ok-prepared.prepared.changes.items ≡ 0 → ⊥ = search rules in
-    moved_on m n c.args.self.now c.args.folder.now c.args.disk.now bodies history on c.args.next changes are c.write.new.self c.write.new.folder c.write.new.disk c.in_ok-prepared.prepared.body.items (some_changed c.in_ok-prepared.prepared.changes.items some) c.in_ok-prepared.ensures.body
-    (subst (HoldMonths (replaced (m.seen c.args.folder.now) changes)) (sym c.in_ok-write.ensures.months) (c.in_ok-prepared.ensures.months (m.seen c.args.folder.now) on.months))
-    (c.in_ok-write.ensures.replaced on.rest.tells)
-    (c.in_ok-write.ensures.done bodies history _ (change_ready m n c.args.self.now c.args.folder.now c.args.disk.now bodies history on c.args.next changes are c.in_ok-prepared.prepared.body.items c.in_ok-prepared.ensures.body c.in_ok-prepared.ensures.named))
+    either_on m n old c.args.folder.now c.args.disk.now bodies history on next changes are c.write_change.new.folder c.write_change.new.disk (some_changed c.in_ok-prepared.prepared.changes.items some)
+    (c.write_change.ensures.any_moment bodies history _ (change_ready m n old c.args.folder.now c.args.disk.now bodies history on next changes are c.deref.result.now (c.deref.ensures.value ∙ c.in_ok-prepared.ensures.body) c.in_ok-prepared.ensures.named))
 
-pub returns-clause-any_moment : goal.returns-clause-any_moment
-returns-clause-any_moment g c = λ bodies history on.
+pub returns-in-Err-write_change-clause-refused : goal.returns-in-Err-write_change-clause-refused
+returns-in-Err-write_change-clause-refused g c =
     let m = g.F.Folder.model in
     let n = g.D.Disk.model in
+    let old = c.args.self.now in
+    let next = edited c.args.edit (rows_kept old) in
     let changes = changes_of c.in_ok-prepared.prepared.changes.items in
-    let are = c.in_ok-prepared.ensures.changes (m.seen c.args.folder.now) on.months in
+    let body_is = c.deref.ensures.value ∙ c.in_ok-prepared.ensures.body in
     let some : length c.in_ok-prepared.prepared.changes.items ≡ 0 → ⊥ = search rules in
-    either_on m n c.args.self.now c.args.folder.now c.args.disk.now bodies history on c.args.next changes are c.write.new.folder c.write.new.disk (some_changed c.in_ok-prepared.prepared.changes.items some)
-    (c.write.ensures.any_moment bodies history _ (change_ready m n c.args.self.now c.args.folder.now c.args.disk.now bodies history on c.args.next changes are c.in_ok-prepared.prepared.body.items c.in_ok-prepared.ensures.body c.in_ok-prepared.ensures.named))
-
-pub returns-in_err-write-clause-refused : goal.returns-in_err-write-clause-refused
-returns-in_err-write-clause-refused g c =
-    let m = g.F.Folder.model in
-    let n = g.D.Disk.model in
-    let some : length c.in_ok-prepared.prepared.changes.items ≡ 0 → ⊥ = search rules in
-    passed_on c.from_residual-in_err-write.result _ _ c.from_residual-in_err-write.ensures.1
-    (change_refused m n c.args.self.now c.write.new.self c.args.folder.now c.write.new.folder c.args.disk.now c.write.new.disk c.args.next c.in_ok-prepared.prepared.body.items c.in_err-write.field-0.0
-    (λ bodies history on. one_body m n c.args.self.now c.args.folder.now c.args.disk.now bodies history on c.args.next (changes_of c.in_ok-prepared.prepared.changes.items) (c.in_ok-prepared.ensures.changes (m.seen c.args.folder.now) on.months)
-    c.in_ok-prepared.prepared.body.items (some_changed c.in_ok-prepared.prepared.changes.items some) c.in_ok-prepared.ensures.body)
-    c.in_err-write.ensures.kept c.in_err-write.ensures.refused)
+    change_refused m n old _ c.args.folder.now c.write_change.new.folder c.args.disk.now c.write_change.new.disk next c.deref.result.now c.in-Err-write_change.error
+    (λ bodies history on. one_body m n old c.args.folder.now c.args.disk.now bodies history on next changes (c.in_ok-prepared.ensures.changes (m.seen c.args.folder.now) on.months) c.deref.result.now (some_changed c.in_ok-prepared.prepared.changes.items some) body_is)
+    (restored old.months c.replace-files.result c.from_rows-rows.result c.replace-files.ensures.value (c.from_rows-rows.ensures ∙ c.in-Ok.ensures.rows) _ _) c.in-Err-write_change.ensures.refused

@@ -4,6 +4,7 @@ use Rattle.timew_store.specs.Loading.{OpensAlike}
 use Rattle.timew_store.specs.Store.{IsLoadFault}
 use Rattle.timew_store.proofs.Loads.{passed_on, finish_refused, months_refused, months_fault, store_fault, store_loaded}
 use Rattle.timew_store.proofs.ReadOn.{turns_then_reads}
+use Rattle.timew_store.proofs.Stays.{months_stay, spares_too}
 use Rattle.timew_store.proofs.store.Store.load.Goals as goal
 
 pub returns-in_err-journal-clause-refused : goal.returns-in_err-journal-clause-refused
@@ -38,3 +39,14 @@ pub returns-clause-loaded : goal.returns-clause-loaded
 returns-clause-loaded g c = λ told settled tells.
     store_loaded g.F.Folder.model g.D.Disk.model c.args.folder.now c.open_and_finish.new.folder c.read_months.new.folder c.args.disk.now c.open_and_finish.new.disk _ (c.open_and_finish.ensures.folder.tells ∙ told) c.read_months.ensures.reads
     (c.in_ok-journal.ensures.loaded told settled tells) (c.in_ok-months.ensures.months (c.open_and_finish.ensures.folder.tells ∙ told))
+
+pub returns-in_err-journal-clause-stays : goal.returns-in_err-journal-clause-stays
+returns-in_err-journal-clause-stays g c =
+    passed_on c.from_residual.result _ _ c.from_residual.ensures.1
+    (spares_too c.in_err-journal.field-0.0 _ c.in_err-journal.ensures.stays)
+
+pub returns-in_err-months-clause-stays : goal.returns-in_err-months-clause-stays
+returns-in_err-months-clause-stays g c =
+    passed_on c.from_residual-in_err-months.result _ _ c.from_residual-in_err-months.ensures.1
+    (λ spares. months_stay g.F.Folder.model g.D.Disk.model g.met.D.Disk.seen_may_stay c.args.folder.now c.args.disk.now g.met.F.Folder.seen_may_stay c.open_and_finish.new.folder c.read_months.new.folder c.open_and_finish.new.disk c.in_ok-journal.journal
+    c.open_and_finish.ensures.folder c.open_and_finish.ensures.disk c.read_months.ensures.reads c.in_ok-journal.ensures.loaded)

@@ -15,7 +15,7 @@ returns-in_err-change-clause-any_moment g c = λ bodies history on.
 pub returns-in_err-change-clause-refused : goal.returns-in_err-change-clause-refused
 returns-in_err-change-clause-refused g c =
     passed_on c.from_residual.result _ _ c.from_residual.ensures.1
-    (refl, refl, walk_undo_refused g.F.Folder.model g.D.Disk.model c.args.self.now c.args.self.now c.args.folder.now c.args.disk.now c.last_change.new.disk c.in_err-change.field-0.0 c.in_err-change.ensures.refused)
+    (refl, refl, walk_undo_refused g.F.Folder.model g.D.Disk.model c.args.self.now c.args.self.now c.args.folder.now c.args.disk.now c.last_change.new.disk c.in_err-change.field-0.0 (refl, c.last_change.ensures.untouched) c.in_err-change.ensures.refused)
 
 pub returns-in_default-clause-any_moment : goal.returns-in_default-clause-any_moment
 returns-in_default-clause-any_moment g c = λ bodies history on.

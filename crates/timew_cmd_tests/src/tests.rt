@@ -1,0 +1,84 @@
+use std::alloc::Global;
+use std::test::Fail;
+use timew_cmd::{Command, TimewError, WordsError, plan, read_words};
+use timew_store::{Intervals, read_month, write_month};
+use tw_time::Zone;
+use tw_world::Moment;
+
+mod commands;
+mod refusals;
+mod texts;
+
+// 2026-01-05T10:00:00Z
+const NOW: u64 = 1_767_607_200;
+
+const CODE: &str = "inc 20260105T090000Z - 20260105T090005Z # code\n";
+
+const TWO: &str =
+    "inc 20260105T080000Z - 20260105T083000Z # a # \"note\"\ninc 20260105T090000Z # b\n";
+
+fn read(alloc: Global, lines: &str) -> Result<Intervals, Fail> {
+    let Ok(rows) = read_month(alloc, lines.as_bytes()) else {
+        return Err(Fail::from("a bad line"));
+    };
+    match Intervals::in_order(rows) {
+        Some(rows) => Ok(rows),
+        None => Err(Fail::from("out of order")),
+    }
+}
+
+// The words of a text, which spaces part, and in which `_` stands for one.
+fn words_of(alloc: Global, text: &str) -> Result<Vec<String>, Fail> {
+    let mut words = Vec::new(alloc);
+    if text.is_empty() {
+        return Ok(words);
+    }
+    let mut word = String::new(alloc);
+    for c in text.chars() {
+        if c == ' ' {
+            words.push(word)?;
+            word = String::new(alloc);
+        } else {
+            word.push(if c == '_' { ' ' } else { c })?;
+        }
+    }
+    words.push(word)?;
+    Ok(words)
+}
+
+fn judged(alloc: Global, words: &str) -> Result<Result<Command, WordsError>, Fail> {
+    let words = words_of(alloc, words)?;
+    let Some(now) = Moment::new(NOW, 0) else {
+        return Err(Fail::from("no moment"));
+    };
+    Ok(read_words(alloc, &words, now, &Zone::utc()))
+}
+
+// What words lead to from the intervals of some lines.
+fn planned(
+    alloc: Global,
+    words: &str,
+    before: &str,
+) -> Result<Result<Intervals, TimewError>, Fail> {
+    let words = words_of(alloc, words)?;
+    let Some(now) = Moment::new(NOW, 0) else {
+        return Err(Fail::from("no moment"));
+    };
+    match read_words(alloc, &words, now, &Zone::utc()) {
+        Ok(command) => {
+            let rows = read(alloc, before)?;
+            match plan(alloc, &command, &rows, NOW) {
+                Ok(edit) => Ok(Ok(rows.edited(edit)?)),
+                Err(error) => Ok(Err(error)),
+            }
+        }
+        Err(_) => Err(Fail::from("bad words")),
+    }
+}
+
+fn leads_to(alloc: Global, words: &str, before: &str, after: &str) -> Result<bool, Fail> {
+    match planned(alloc, words, before)? {
+        Ok(next) => Ok(write_month(alloc, &next, 2026, 1)?.as_slice() == after.as_bytes()),
+        Err(_) => Ok(false),
+    }
+}

@@ -1,0 +1,111 @@
+use super::{CODE, NOW, TWO, read};
+use std::str;
+use std::test::Fail;
+use timew_cmd::{Range, export_text, stored_text, summary_text, tracking_text};
+use tw_time::Zone;
+
+const SUMMARIES: [(&str, u64, u64, &str); 3] = [
+    (
+        CODE,
+        0,
+        NOW,
+        "ID Start               End                 Time    Tags\n 1 2026-01-05 09:00:00 2026-01-05 09:00:05 0:00:05 code\n\nTotal 0:00:05\n",
+    ),
+    (
+        TWO,
+        NOW - 6_000,
+        NOW - 60,
+        "ID Start               End                 Time    Tags\n 2 2026-01-05 08:20:00 2026-01-05 08:30:00 0:10:00 a\n 1 2026-01-05 09:00:00 2026-01-05 09:59:00 0:59:00 b\n\nTotal 1:09:00\n",
+    ),
+    (TWO, NOW, NOW, "ID Start End Time Tags\n\nTotal 0:00:00\n"),
+];
+
+#[test]
+fn a_summary_cuts_the_intervals_to_its_range(rt: HostRuntime) -> Result<(), Fail> {
+    let alloc = rt.alloc();
+    for (lines, from, to, want) in SUMMARIES {
+        let rows = read(alloc, lines)?;
+        let text = summary_text(alloc, &rows, from, to, NOW, &Zone::utc())?;
+        assert_eq!(rt; str::from_utf8(text.as_slice()).ok(), Some(want));
+    }
+    Ok(())
+}
+
+const EXPORTS: [(&str, &str); 2] = [
+    ("", "[\n]\n"),
+    (
+        TWO,
+        "[\n{\"annotation\":\"note\",\"end\":\"20260105T083000Z\",\"id\":2,\"start\":\"20260105T080000Z\",\"tags\":[\"a\"]},\n{\"id\":1,\"start\":\"20260105T090000Z\",\"tags\":[\"b\"]}\n]\n",
+    ),
+];
+
+#[test]
+fn an_export_has_an_object_a_line(rt: HostRuntime) -> Result<(), Fail> {
+    let alloc = rt.alloc();
+    for (lines, want) in EXPORTS {
+        let rows = read(alloc, lines)?;
+        let text = export_text(alloc, &rows, 0, NOW, NOW)?;
+        assert_eq!(rt; str::from_utf8(text.as_slice()).ok(), Some(want));
+    }
+    Ok(())
+}
+
+const TRACKED: [(&str, &str); 4] = [
+    (CODE, ""),
+    (TWO, "Tracking b since 20260105T090000Z.\n"),
+    (
+        "inc 20260105T090000Z # a b\n",
+        "Tracking a b since 20260105T090000Z.\n",
+    ),
+    (
+        "inc 20260105T090000Z\n",
+        "Tracking  since 20260105T090000Z.\n",
+    ),
+];
+
+#[test]
+fn what_is_tracked_is_told(rt: HostRuntime) -> Result<(), Fail> {
+    let alloc = rt.alloc();
+    for (lines, want) in TRACKED {
+        let rows = read(alloc, lines)?;
+        match tracking_text(alloc, &rows)? {
+            Some(text) => assert_eq!(rt; str::from_utf8(text.as_slice()).ok(), Some(want)),
+            None => assert_eq!(rt; want, ""),
+        }
+    }
+    Ok(())
+}
+
+#[test]
+fn how_many_there_are_is_told(rt: HostRuntime) -> Result<(), Fail> {
+    for (count, want) in [(1, "Stored 1 interval.\n"), (12, "Stored 12 intervals.\n")] {
+        let text = stored_text(rt.alloc(), count)?;
+        assert_eq!(rt; str::from_utf8(text.as_slice()).ok(), Some(want));
+    }
+    Ok(())
+}
+
+// Monday the 5th of January 2026, 10:00 in UTC; in the other zone it is 5:00.
+#[test]
+fn a_day_and_a_week_begin_at_midnight(rt: HostRuntime) -> Result<(), Fail> {
+    let Ok(west) = Zone::read("EST5") else {
+        return Err(Fail::from("no zone"));
+    };
+    let utc = Zone::utc();
+    let midnight = NOW - 36_000;
+    assert_eq!(rt; Range::Day.bounds(NOW, &utc), (midnight, midnight + 86_400));
+    assert_eq!(rt;
+        Range::Week.bounds(NOW, &utc),
+        (midnight, midnight + 604_800)
+    );
+    assert_eq!(rt;
+        Range::Week.bounds(NOW + 86_400, &utc),
+        (midnight, midnight + 604_800)
+    );
+    assert_eq!(rt;
+        Range::Day.bounds(NOW, &west),
+        (midnight + 18_000, midnight + 104_400)
+    );
+    assert_eq!(rt; Range::Day.bounds(0, &west).0, 0);
+    Ok(())
+}

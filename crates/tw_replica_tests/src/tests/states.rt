@@ -1,0 +1,126 @@
+// Records that tell a whole state.
+use super::{ADDED, counts, disk_of, version};
+use std::alloc::Global;
+use std::test::Fail;
+use tw_replica::{OpenError, Replica};
+use tw_world::{Memory, MemoryDisk};
+use uuid::Uuid;
+
+// Four bytes of a number.
+fn put_number(out: &mut Vec<u8>, number: usize) -> Result<(), Memory> {
+    let bytes = (number as u64).to_be_bytes();
+    out.extend_from_slice(&bytes[4..])?;
+    Ok(())
+}
+
+// Places, of which each is vacant or has the uuid whose bytes are all this one.
+fn put_places(out: &mut Vec<u8>, places: &[Option<u8>]) -> Result<(), Memory> {
+    put_number(out, places.len())?;
+    for place in places {
+        match place {
+            None => out.push(0)?,
+            Some(byte) => {
+                out.push(1)?;
+                out.extend_from_slice(&[*byte; 16])?;
+            }
+        }
+    }
+    Ok(())
+}
+
+// The property that makes a task an open one.
+const PENDING: [u8; 25] = [
+    0, 0, 0, 1, 0, 0, 0, 6, 115, 116, 97, 116, 117, 115, 0, 0, 0, 7, 112, 101, 110, 100, 105, 110,
+    103,
+];
+
+// Open tasks with these uuids.
+fn put_tasks(out: &mut Vec<u8>, tasks: &[u8]) -> Result<(), Memory> {
+    put_number(out, tasks.len())?;
+    for byte in tasks {
+        out.extend_from_slice(&[*byte; 16])?;
+        out.extend_from_slice(&PENDING)?;
+    }
+    Ok(())
+}
+
+// The body of a state at version 9, with so many pending operations in these bytes.
+fn state(
+    alloc: Global,
+    places: &[Option<u8>],
+    tasks: &[u8],
+    count: usize,
+    ops: &[u8],
+) -> Result<Vec<u8>, Memory> {
+    let mut body = Vec::new(alloc);
+    body.push(5)?;
+    body.extend_from_slice(&[9; 16])?;
+    put_places(&mut body, places)?;
+    put_tasks(&mut body, tasks)?;
+    put_number(&mut body, count)?;
+    body.extend_from_slice(ops)?;
+    Ok(body)
+}
+
+// A file of records with one more that has this body.
+fn with_record(alloc: Global, records: &[u8], body: &Vec<u8>) -> Result<MemoryDisk, Memory> {
+    let mut bytes = records.to_vec(alloc)?;
+    bytes.push(1)?;
+    put_number(&mut bytes, body.len())?;
+    bytes.extend_from_slice(body)?;
+    disk_of(alloc, &bytes)
+}
+
+// Two tasks of which the one is pending, and a vacant place between theirs.
+const PLACES: [Option<u8>; 3] = [Some(8), None, Some(7)];
+
+#[test]
+fn a_state_takes_the_place_of_what_was_there(rt: HostRuntime) -> Result<(), Fail> {
+    let alloc = rt.alloc();
+    let body = state(alloc, &PLACES, &[8], 3, &ADDED[24..])?;
+    for records in [&ADDED[..13], ADDED.as_slice()] {
+        let mut disk = with_record(alloc, records, &body)?;
+        let mut replica = Replica::open(alloc, &mut disk)?;
+        assert_eq!(rt; counts(&replica), (2, 3, Some(3)));
+        assert_eq!(rt; replica.base(), version());
+        assert_eq!(rt; replica.uuid_of(1), Some(Uuid::from_bytes([8; 16])));
+        assert_eq!(rt; replica.tasks_at_base(alloc)?.len(), 1);
+        assert_eq!(rt; replica.undo(alloc, &mut disk), Ok(2));
+        assert_eq!(rt; counts(&replica), (1, 0, None));
+    }
+    Ok(())
+}
+
+// Why a file is not opened that has this body behind its first record.
+fn refusal(alloc: Global, body: Vec<u8>) -> Result<Option<OpenError>, Memory> {
+    let mut disk = with_record(alloc, &ADDED[..13], &body)?;
+    Ok(Replica::open(alloc, &mut disk).err())
+}
+
+// Each row is places, tasks, and pending operations with their number: pending that does not begin with an undo point,
+// that does not fit, that is longer than it counts, and shorter; a uuid at two places, at the place of no task, an open
+// task without a place; tasks whose uuids fall, and one that stands twice.
+#[test]
+fn a_state_that_is_not_sound_is_damaged(rt: HostRuntime) -> Result<(), Fail> {
+    let alloc = rt.alloc();
+    let (add, make) = (&ADDED[24..], &ADDED[24..42]);
+    let table: [(&[Option<u8>], &[u8], usize, &[u8]); 9] = [
+        (&PLACES, &[8], 2, &ADDED[25..]),
+        (&[Some(7)], &[7], 2, make),
+        (&PLACES, &[8], 2, add),
+        (&PLACES, &[8], 4, add),
+        (&[Some(8), Some(8)], &[8], 0, &[]),
+        (&[Some(8), Some(6)], &[8], 0, &[]),
+        (&[None], &[8], 0, &[]),
+        (&[Some(7), Some(8)], &[8, 7], 0, &[]),
+        (&[Some(8)], &[8, 8], 0, &[]),
+    ];
+    for (places, tasks, count, ops) in table {
+        let body = state(alloc, places, tasks, count, ops)?;
+        assert_eq!(rt;
+            refusal(alloc, body)?,
+            Some(OpenError::Damaged { offset: 13 })
+        );
+    }
+    Ok(())
+}
