@@ -10,8 +10,6 @@ mod network;
 mod operations;
 mod summary;
 mod tasks;
-#[cfg(test)]
-mod tests;
 mod world;
 
 pub use world::generate;

@@ -11,5 +11,3 @@ mod recurrence;
 
 pub use crate::instances::{due_changes, due_instances};
 
-#[cfg(test)]
-mod tests;

@@ -12,5 +12,3 @@ pub use error::SegmentError;
 pub use reading::read_segment;
 pub use writing::write_segment;
 
-#[cfg(test)]
-mod tests;

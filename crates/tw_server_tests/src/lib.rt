@@ -4,4 +4,6 @@
 #![tactic(auto)]
 
 #[cfg(test)]
+mod link;
+#[cfg(test)]
 mod tests;

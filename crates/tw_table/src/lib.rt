@@ -7,5 +7,3 @@ mod table;
 
 pub use table::{Column, table_text};
 
-#[cfg(test)]
-mod tests;

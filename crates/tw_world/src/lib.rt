@@ -35,5 +35,3 @@ pub use sink::{Sink, StreamError};
 pub use source::Source;
 pub use texts::{Memory, Text};
 
-#[cfg(test)]
-mod tests;

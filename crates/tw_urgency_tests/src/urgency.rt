@@ -1,9 +1,11 @@
 ghost use Rattle.tw_urgency.specs.Urgency.{AreWeights};
 
-use super::*;
 use std::alloc::Global;
 use std::test::Fail;
 use tw_model::{TaskMap, Tasks};
+use tw_urgency::{
+    Coefficients, all_blocking, blocked, blocking, is_blocked, reached, urgency_of, would_cycle,
+};
 use tw_world::Memory;
 use uuid::Uuid;
 

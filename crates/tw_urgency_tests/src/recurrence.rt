@@ -1,7 +1,7 @@
-use crate::{due_changes, due_instances};
 use std::alloc::Global;
 use std::test::Fail;
 use tw_model::{Change, Op, TaskMap, Tasks, make};
+use tw_recur::{due_changes, due_instances};
 use tw_time::Zone;
 use tw_world::{Memory, Moment};
 use uuid::Uuid;

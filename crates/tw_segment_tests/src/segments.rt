@@ -1,8 +1,7 @@
-use crate::timestamp::read_timestamp;
-use crate::{SegmentError, read_segment, write_segment};
 use std::alloc::Global;
 use std::test::Fail;
 use tw_model::SyncOp;
+use tw_segment::{SegmentError, read_segment, write_segment};
 use tw_world::{Memory, Moment, Text};
 use uuid::Uuid;
 
@@ -103,9 +102,23 @@ fn other_texts_are_refused_by_their_first_fault(rt: HostRuntime) {
     }
 }
 
+// The moment of an update with this timestamp, where its segment is read.
+fn moment_of(alloc: Global, timestamp: &str) -> Result<Option<Moment>, Memory> {
+    let text = format!(in alloc;
+        "{{\"operations\":[{{\"Update\":{{\"property\":\"p\",\"timestamp\":\"{timestamp}\",\"uuid\":\"{UUID}\"}}}}]}}"
+    )?;
+    Ok(match read_segment(alloc, text.as_bytes()) {
+        Ok(ops) => match ops.first() {
+            Some(SyncOp::Update { at, .. }) => Some(*at),
+            _ => None,
+        },
+        Err(_) => None,
+    })
+}
+
 // The seconds and nanoseconds that Python's `datetime` gives.
 #[test]
-fn timestamps_have_offsets_and_decimals(rt: HostRuntime) {
+fn timestamps_have_offsets_and_decimals(rt: HostRuntime) -> Result<(), Fail> {
     let rows = [
         ("2023-11-14T22:13:20Z", 1700000000, 0),
         ("2023-11-14T22:13:20.5Z", 1700000000, 500000000),
@@ -120,7 +133,7 @@ fn timestamps_have_offsets_and_decimals(rt: HostRuntime) {
     ];
     for (text, seconds, nanos) in rows {
         assert_eq!(rt;
-            read_timestamp(text),
+            moment_of(rt.alloc(), text)?,
             Moment::new(seconds, nanos),
             "at {text}"
         );
@@ -145,6 +158,7 @@ fn timestamps_have_offsets_and_decimals(rt: HostRuntime) {
         "",
     ];
     for text in others {
-        assert_eq!(rt; read_timestamp(text), None, "at {text}");
+        assert_eq!(rt; moment_of(rt.alloc(), text)?, None, "at {text}");
     }
+    Ok(())
 }

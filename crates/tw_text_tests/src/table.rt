@@ -1,7 +1,7 @@
-use crate::{Column, table_text};
 use std::alloc::Global;
 use std::str;
 use std::test::Fail;
+use tw_table::{Column, table_text};
 use tw_world::Memory;
 
 const COLUMNS: [Column; 3] = [

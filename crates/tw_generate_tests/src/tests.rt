@@ -2,9 +2,9 @@
 ghost use Rattle.std.specs.Prelude.{◌≤◌};
 ghost use Rattle.tw_urgency.specs.Urgency.{AreWeights};
 
-use crate::generate;
 use std::alloc::Global;
 use std::test::Fail;
+use tw_generate::generate;
 use tw_urgency::Coefficients;
 use tw_world::Memory;
 

@@ -1,6 +1,6 @@
-use crate::{Disk, IdWords, MemoryDisk, Moment, Text};
 use std::collections::BTreeMap;
 use std::test::Fail;
+use tw_world::{Disk, IdWords, MemoryDisk, Moment, Text};
 
 #[test]
 fn a_seed_draws_its_identifiers(rt: HostRuntime) {
