@@ -10,4 +10,3 @@ pub mod laws;
 mod recurrence;
 
 pub use crate::instances::{due_changes, due_instances};
-

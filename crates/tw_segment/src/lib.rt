@@ -11,4 +11,3 @@ mod writing;
 pub use error::SegmentError;
 pub use reading::read_segment;
 pub use writing::write_segment;
-

@@ -6,4 +6,3 @@
 mod table;
 
 pub use table::{Column, table_text};
-

@@ -34,4 +34,3 @@ pub use peer::Peer;
 pub use sink::{Sink, StreamError};
 pub use source::Source;
 pub use texts::{Memory, Text};
-
