@@ -70,27 +70,3 @@ impl<S: Dialer + Timer + Copy> Link for TcpLink<S> {
         }
     }
 }
-
-#[cfg(test)]
-mod tests {
-    use super::*;
-    use std::test::Fail;
-    use tw_world::Text;
-
-    #[test]
-    fn an_exchange_with_no_server_is_a_fault(rt: HostRuntime) -> Result<(), Fail> {
-        let alloc = rt.alloc();
-        let mut reply = Vec::new(alloc);
-        for host in ["127.0.0.1", "no such host"] {
-            let host = Text::from_str(alloc, host)?;
-            let mut link = TcpLink::new(&rt, Address { host, port: 1 });
-            assert_eq!(rt;
-                link.exchange(b"request", &mut reply),
-                Err(LinkError::Failed)
-            );
-            assert_eq!(rt; link.faults, 1);
-            assert_eq!(rt; link.exchanges, 1);
-        }
-        Ok(())
-    }
-}

@@ -198,6 +198,3 @@ fn bad_reply(kind: ReplyKind) -> AskError
 {
     AskError::Reply { kind }
 }
-
-#[cfg(test)]
-mod tests;

@@ -1,9 +1,10 @@
-// What no clause says: that a question comes to its answer, and that each kind of reply is met.
-use super::{ChildAnswer, ask_child};
-use crate::error::{AskError, ReplyKind};
+// What no clause says: that a sync comes to its end, and that each kind of reply is met.
 use std::alloc::Global;
 use std::test::Fail;
 use tw_http::{Link, LinkError};
+use tw_replica::Replica;
+use tw_sync::{ReplyKind, SyncError, SyncReport, sync};
+use tw_world::MemoryDisk;
 use uuid::Uuid;
 
 const HOST: &str = "localhost:8080";
@@ -41,37 +42,24 @@ impl Link for OneReply {
     }
 }
 
-fn link_of(reply: Option<&'static str>) -> OneReply {
-    OneReply {
+// What a sync of a new replica comes to where each reply of the server is this one.
+fn ended(
+    alloc: Global,
+    reply: Option<&'static str>,
+) -> Result<Result<SyncReport, SyncError>, Fail> {
+    let mut disk = MemoryDisk::new(alloc, Vec::new(alloc), Vec::new(alloc))?;
+    let Ok(mut replica) = Replica::open(alloc, &mut disk) else {
+        return Err(Fail::from("no replica"));
+    };
+    let mut link = OneReply {
         reply,
         exchanges: 0,
         faults: 0,
-    }
+    };
+    let client = Uuid::from_bytes([9; 16]);
+    Ok(sync(alloc, &mut replica, &mut disk, &mut link, client, HOST))
 }
 
-// The text of the id that ends in a number.
-fn id(last: u8) -> Uuid {
-    Uuid::from_bytes([0, 0, 0, 0, 0, 0, 64, 0, 128, 0, 0, 0, 0, 0, 0, last])
-}
-
-// Asks for the version behind 1, where the server's reply is this one.
-fn ask_over(alloc: Global, reply: Option<&'static str>) -> Result<ChildAnswer, AskError> {
-    let mut link = link_of(reply);
-    ask_child(alloc, &mut link, id(9), HOST, id(1))
-}
-
-// Whether the answer is a version of this id and segment.
-fn brings(answer: &ChildAnswer, id: Uuid, segment: &[u8]) -> bool {
-    match answer {
-        ChildAnswer::Found {
-            id: found,
-            segment: bytes,
-        } => *found == id && bytes.as_slice() == segment,
-        _ => false,
-    }
-}
-
-/// Replies to get-child-version of the version 1, and the kinds that they are told by.
 const REFUSED: [(&str, ReplyKind); 11] = [
     ("HTTP/1.1 200 OK\r\n", ReplyKind::Cut),
     ("SSH-2.0\r\n\r\n", ReplyKind::Head),
@@ -91,7 +79,7 @@ const REFUSED: [(&str, ReplyKind); 11] = [
     ),
     (
         "HTTP/1.1 200 OK\r\nContent-Length: 0\r\nX-Version-Id: 00000000-0000-0000-0000-000000000000\r\n\
-         X-Parent-Version-Id: 00000000-0000-4000-8000-000000000001\r\n\r\n",
+         X-Parent-Version-Id: 00000000-0000-0000-0000-000000000000\r\n\r\n",
         ReplyKind::Nil,
     ),
     (
@@ -116,8 +104,8 @@ const REFUSED: [(&str, ReplyKind); 11] = [
 fn each_bad_reply_is_told_by_its_kind(rt: HostRuntime) -> Result<(), Fail> {
     for (reply, kind) in REFUSED {
         assert_eq!(rt;
-            ask_over(rt.alloc(), Some(reply)).err(),
-            Some(AskError::Reply { kind }),
+            ended(rt.alloc(), Some(reply))?.err(),
+            Some(SyncError::Reply { kind }),
             "{reply}"
         );
     }
@@ -125,19 +113,22 @@ fn each_bad_reply_is_told_by_its_kind(rt: HostRuntime) -> Result<(), Fail> {
 }
 
 #[test]
-fn get_child_version_is_answered(rt: HostRuntime) -> Result<(), Fail> {
+fn each_reply_that_is_no_version_ends_a_sync(rt: HostRuntime) -> Result<(), Fail> {
     let alloc = rt.alloc();
-    let child =
-        "HTTP/1.1 200 OK\r\nContent-Length: 2\r\nX-Version-Id: 00000000-0000-4000-8000-000000000002\r\n\
-         X-Parent-Version-Id: 00000000-0000-4000-8000-000000000001\r\n\r\n{}";
-    let Ok(found) = ask_over(alloc, Some(child)) else {
-        return Err(Fail::new("no version"));
-    };
-    assert!(rt; brings(&found, id(2), b"{}"));
     let none = "HTTP/1.1 404 Not Found\r\nContent-Length: 0\r\n\r\n";
-    assert!(rt; matches!(ask_over(alloc, Some(none)), Ok(ChildAnswer::UpToDate)));
+    let base = Uuid::nil();
+    let report = SyncReport {
+        pulled: 0,
+        dropped: 0,
+        pushed: 0,
+        base,
+    };
+    assert_eq!(rt; ended(alloc, Some(none))?.ok(), Some(report));
     let gone = "HTTP/1.1 410 Gone\r\nContent-Length: 0\r\n\r\n";
-    assert!(rt; matches!(ask_over(alloc, Some(gone)), Ok(ChildAnswer::Gone)));
-    assert_eq!(rt; ask_over(alloc, None).err(), Some(AskError::Link));
+    assert_eq!(rt;
+        ended(alloc, Some(gone))?.err(),
+        Some(SyncError::Gone { base })
+    );
+    assert_eq!(rt; ended(alloc, None)?.err(), Some(SyncError::Link));
     Ok(())
 }
