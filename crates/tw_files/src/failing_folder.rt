@@ -1,6 +1,10 @@
 // A folder whose every call fails.
-ghost use Rattle.std.specs.Prelude.{◌≡◌, ◌≤◌};
+ghost use Rattle.std.specs.Prelude.{◌≡◌, ◌≤◌, List, ℕ, map, option_map, Err, IfOk, IfErr, OnOk, IsErrOf};
+ghost use Rattle.std.specs.String.{string_bytes};
+ghost use Rattle.std.specs.FinMap.{get, insert, keys};
 ghost use Rattle.tw_world.specs.Disk.{Rose};
+ghost use Rattle.tw_world.specs.Crash.{Tells, Settled, Steps, Reads};
+ghost use Rattle.tw_world.specs.Folder.{Replaced};
 
 use std::alloc::Global;
 use tw_world::{Folder, FolderError};
@@ -12,7 +16,12 @@ pub struct FailingFolder {
 }
 
 impl FailingFolder {
-    pub fn new() -> FailingFolder {
+    ghost use Rattle.tw_files.specs.FileFolder.{failing_folder_model};
+
+    /// A folder that was not asked yet.
+    pub fn new() -> FailingFolder
+        ensures { failing_folder_model.faults result ≡ 0 }
+    {
         FailingFolder { faults: 0 }
     }
 
@@ -38,15 +47,33 @@ impl Folder for FailingFolder {
 
     ghost only_now = { λ folder c left. left };
 
-    fn names(&mut self, _alloc: Global) -> Result<Vec<String>, FolderError> {
+    fn names(&mut self, _alloc: Global) -> Result<Vec<String>, FolderError>
+        ensures names { IfOk result (λ names. Tells failing_folder_model self.old → map string_bytes names.items ≡ keys (failing_folder_model.seen self.old)) }
+        ensures reads { Reads failing_folder_model self.old self.new }
+        ensures failed { IsErrOf result FolderError.Failed → Rose (failing_folder_model.faults self.old) (failing_folder_model.faults self.new) }
+        ensures always { result ≡ Err FolderError.Failed }
+    {
         Err(self.fail())
     }
 
-    fn read(&mut self, _alloc: Global, _name: &str) -> Result<Option<Vec<u8>>, FolderError> {
+    fn read(&mut self, _alloc: Global, _name: &str) -> Result<Option<Vec<u8>>, FolderError>
+        ensures bytes { IfOk result (λ file. Tells failing_folder_model self.old → option_map (λ bytes. bytes.items) file ≡ get (failing_folder_model.seen self.old) _name.now) }
+        ensures reads { Reads failing_folder_model self.old self.new }
+        ensures failed { IsErrOf result FolderError.Failed → Rose (failing_folder_model.faults self.old) (failing_folder_model.faults self.new) }
+        ensures always { result ≡ Err FolderError.Failed }
+    {
+        // Whether there is such a file is not known.
         Err(self.fail())
     }
 
-    fn replace(&mut self, _name: &str, _bytes: &[u8]) -> Result<(), FolderError> {
+    fn replace(&mut self, _name: &str, _bytes: &[u8]) -> Result<(), FolderError>
+        ensures replaced { OnOk result (Tells failing_folder_model self.old → failing_folder_model.seen self.new ≡ insert (failing_folder_model.seen self.old) _name.now _bytes.now) }
+        ensures settled { OnOk result (Tells failing_folder_model self.old → Settled failing_folder_model self.new) }
+        ensures all_or_nothing { Tells failing_folder_model self.old → Replaced _name.now _bytes.now (failing_folder_model.seen self.old) (failing_folder_model.seen self.new) }
+        ensures steps { Steps failing_folder_model (Replaced _name.now _bytes.now) self.old self.new }
+        ensures failed { IfErr result (λ e. (e ≡ FolderError.Failed) × Rose (failing_folder_model.faults self.old) (failing_folder_model.faults self.new)) }
+        ensures always { result ≡ Err FolderError.Failed }
+    {
         Err(self.fail())
     }
 }
