@@ -1,12 +1,13 @@
 #!/usr/bin/env python3
 """Times `tw task` beside Taskwarrior's `task` on the same tasks, and compares their peak memory.
 
-    bench/run.py [--tw PATH] [--task PATH] [--sizes 1000,10000,50000] [--runs 9] [--per-record 1] [--synced] [--commands add,count]
+    bench/run.py [--tw PATH] [--task PATH] [--sizes 1000,10000,50000] [--runs 9] [--per-record 1] [--synced] [--state] [--commands add,count]
 
 For each number of tasks it builds a store for each program, as that many `add`s leave it: a journal,
 in the format that docs/FORMATS.md gives, with `--per-record` tasks in each record, and Taskwarrior's
 `pending.data`, `undo.data` and `backlog.data`. With `--synced` the tasks came from a server, and there
-is nothing to undo: a journal of one sync, and Taskwarrior's `pending.data` alone.
+is nothing to undo: a journal of one sync, and Taskwarrior's `pending.data` alone. With `--state` the journal has slots and a thousand
+records, in whose place a first command put the one that tells their state.
 The runs of the two programs alternate, and each changes something that is not changed yet: `modify` sets
 another project, `annotate` adds another note, `done` ends another task, `modify-all` changes every task, and `import` reads as many
 tasks from a file into an empty store.
@@ -89,33 +90,26 @@ def record(body):
     return b"\x01" + struct.pack(">I", len(body)) + body
 
 
-def write_synced(folder, number):
-    """The store of `tw` after a first sync: the magic, and one record of a sync."""
-    os.makedirs(folder)
-    group = [operation for task in tasks(number) for operation in synced_operations(*task)]
-    with open(os.path.join(folder, "replica.journal"), "wb") as file:
-        file.write(record(b"TWREPL01"))
-        file.write(record(b"\x03" + bytes(range(16)) + struct.pack(">I", len(group)) + b"".join(group)))
+def sync(group):
+    return b"\x03" + bytes(range(16)) + struct.pack(">I", len(group)) + b"".join(group)
 
 
-def write_journal(folder, number, per_record):
-    """The store of `tw`: the magic, and commits of `per_record` tasks each."""
+def commit(group):
+    return b"\x01\x00" + struct.pack(">I", len(group) + 1) + b"\x04" + b"".join(group)
+
+
+def write_journal(folder, number, per_record, body, operations, with_slots):
+    """The store of `tw`: the magic, and records of `per_record` tasks each, with slots before them or not."""
     os.makedirs(folder)
     group = []
     with open(os.path.join(folder, "replica.journal"), "wb") as file:
-        file.write(record(b"TWREPL01"))
-        for uuid, second, description in tasks(number):
-            group += operations(uuid, second, description)
-            if len(group) == 5 * per_record:
-                write_commit(file, group)
+        magic = record(b"TWREPL01")
+        file.write(b"\x02" + magic[1:] + struct.pack(">QQ", 29, 0) if with_slots else magic)
+        for place, task in enumerate(tasks(number), 1):
+            group += operations(*task)
+            if place % per_record == 0 or place == number:
+                file.write(record(body(group)))
                 group = []
-        if group:
-            write_commit(file, group)
-
-
-def write_commit(file, group):
-    head = b"\x01\x00" + struct.pack(">I", len(group) + 1)
-    file.write(record(head + b"\x04" + b"".join(group)))
 
 
 def hyphenated(uuid):
@@ -213,13 +207,14 @@ class Program:
 def programs(arguments, folder, number):
     base = {"PATH": os.environ.get("PATH", ""), "HOME": folder, "LANG": "C.UTF-8", "TZ": ""}
     tw_store = os.path.join(folder, "tw")
-    if arguments.synced:
-        write_synced(tw_store, number)
-    else:
-        write_journal(tw_store, number, arguments.per_record)
+    per_record = max(number // 1000, 1) if arguments.state else number if arguments.synced else arguments.per_record
+    kind = (sync, synced_operations) if arguments.synced else (commit, operations)
+    write_journal(tw_store, number, per_record, *kind, arguments.state)
     imported = os.path.join(folder, "import.json")
     write_import(imported, number)
     found = [Program([arguments.tw, "task"], dict(base, TASKDATA=tw_store), imported)]
+    if arguments.state:
+        found[0].run(["count"])
     if arguments.rival:
         task_store = os.path.join(folder, "task")
         write_data(task_store, number, not arguments.synced)
@@ -285,6 +280,7 @@ def main():
     parser = options("Times tw beside Taskwarrior.", "task", "tasks", COMMANDS)
     parser.add_argument("--per-record", type=int, default=1, help="tasks in a record")
     parser.add_argument("--synced", action="store_true", help="stores after a first sync")
+    parser.add_argument("--state", action="store_true", help="a journal that begins with a state")
     start(parser, "task", "tasks", programs)
 
 

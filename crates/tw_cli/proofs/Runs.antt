@@ -24,6 +24,7 @@ use Rattle.tw_cli.specs.Cause.{line_cause}
 use Rattle.tw_cli.specs.Whole.{went, IsRun}
 use Rattle.tw_cli.specs.declared.carry.CarryError.TheVariants as carry
 use Rattle.tw_replica.specs.declared.error.OpenError.TheVariants as opening
+use Rattle.tw_replica.proofs.Replaying.{opens_as_before}
 use Rattle.tw_cli.specs.declared.syncing.SyncFailure.TheVariants as failure
 use Rattle.tw_cli.specs.declared.asked.Job.{Job}
 use Rattle.tw_cli.specs.declared.asked.Job.TheVariants.{Here, Sync, Generate}
@@ -47,7 +48,7 @@ module _ {D S O L : Type 0} (m : DiskModel D) (sources : SourceModel S) (s : Sin
   -- memory runs out before anything is asked for
   pub want_is_run : OnlyNow m → (asked : Result Job LineError) (ids : IdWords) (d : D) (i : S) (o : O) (l : L) → IsRun m sources s links asked ids ids (went d d i i o o l l) Memory
   want_is_run only_now (Ok (Here request)) ids d i o l = record {
-    gives = ((carry.Memory, refl, tt, refl), refl);
+    gives = ((carry.Open opening.Memory, refl, ((λ tells. opens_as_before (m.seen d) (m.seen d) (inl refl)), refl), refl), refl);
     complete = λ can. inr refl;
     any_moment = inl (leaves_as_it_was m only_now d);
     grows = λ honest. grows_same (links.chain l);
@@ -57,7 +58,7 @@ module _ {D S O L : Type 0} (m : DiskModel D) (sources : SourceModel S) (s : Sin
     link_kept = link_same l;
   }
   want_is_run only_now (Ok (Sync server)) ids d i o l = record {
-    gives = (failure.Open opening.Memory, refl, (tt, refl), refl);
+    gives = (failure.Open opening.Memory, refl, ((λ tells. opens_as_before (m.seen d) (m.seen d) (inl refl)), refl), refl);
     complete = λ can well. inl (inr refl);
     any_moment = λ tells. record { next = None; end = λ honest state opens. tt; leaves = leaves_as_it_was m only_now d };
     grows = λ honest. grows_same (links.chain l);

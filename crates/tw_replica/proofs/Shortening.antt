@@ -18,12 +18,13 @@ use Rattle.tw_replica.specs.Body.{body_of, IsStep}
 use Rattle.tw_replica.specs.Reading.{◌>>=◌, step_of}
 use Rattle.tw_replica.specs.State.{State, start, applied, replayed, Stands, checkpoint}
 use Rattle.tw_replica.specs.Sound.{IsSound}
-use Rattle.tw_replica.specs.Replica.{magic, OpensTo, OpeningRefused}
+use Rattle.tw_replica.specs.Replica.{magic, OpensTo, KeepsRecords, OpeningRefused}
 use Rattle.tw_replica.specs.Opening.{is_due, state_body, opened_bodies, IsAtMost, OpensAlike, IsOpening, ShorteningRefused, shortening_in_open}
 use Rattle.tw_replica.specs.declared.opening.ShorteningError.{ShorteningError}
 use Rattle.tw_replica.specs.declared.opening.ShorteningError.TheVariants.{Disk, Memory}
 use Rattle.tw_replica.proofs.StepAgain.{step_again}
 use Rattle.tw_replica.proofs.Soundness.{checkpoint_leads, stands_sound}
+use Rattle.tw_replica.proofs.Replaying.{opens_as_before}
 
 -- ---- whether it is due
 
@@ -148,6 +149,6 @@ module _ {D : Type 0} (m : DiskModel D) where
       joined m before mid new (IsOpening m before) (weaker m before mid (IsImageThen m before magic) (IsOpening m before) first (λ c has. inl has))
       (weaker m mid new (λ c. OpensTo c state) (IsOpening m before) second (λ c opens. inr (record { state = state; first = record { bodies = bodies; records = records; stands = stands }; second = opens })))
 
-  pub shortening_refused : (before mid after : D) (e : ShorteningError) → Kept m before mid → ShorteningRefused m mid after e → OpeningRefused m before after (shortening_in_open e)
-  shortening_refused before mid after Disk kept r = omega (arith, kept.faults, r)
-  shortening_refused before mid after Memory kept r = tt
+  pub shortening_refused : (before mid after : D) (e : ShorteningError) → Kept m before mid → (Tells m before → KeepsRecords (m.seen before) (m.seen mid)) → ShorteningRefused m mid after e → OpeningRefused m before after (shortening_in_open e)
+  shortening_refused before mid after Disk kept keeps r = omega (arith, kept.faults, r)
+  shortening_refused before mid after Memory kept keeps r = λ tells. opens_as_before _ _ (subst (λ (d : D). KeepsRecords (m.seen before) (m.seen d)) (sym r) (keeps tells))

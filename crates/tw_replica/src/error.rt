@@ -12,9 +12,9 @@ use tw_world::Memory;
 pub enum OpenError {
     /// The disk failed.
     Disk,
-    /// The bytes at this offset are no record of a replica, or one whose step leads nowhere.
+    /// The bytes at this offset are no record of a replica, or one whose step leads nowhere. The records are as they were.
     Damaged { offset: u64 },
-    /// There was no memory left.
+    /// There was no memory left. The records are as they were.
     Memory,
 }
 

@@ -1,5 +1,6 @@
 use Rattle.std.proofs.Common.{◌≡◌, inl, inr, refl, sym, subst, ⊎_elim}
 use Rattle.tw_replica.specs.Prepared.{PreparedRefused}
+use Rattle.tw_replica.specs.Replica.{held_state}
 use Rattle.tw_commands.specs.Ready.{IsReady, NotReady}
 use Rattle.tw_commands.specs.declared.request.Request.{Request}
 use Rattle.tw_cli.specs.Input.{with_input}
@@ -7,6 +8,7 @@ use Rattle.tw_cli.specs.Run.{CarriedOut, Refuses, PassesLimit, Drew}
 use Rattle.tw_cli.specs.Crash.{LeavesRecords, LeavesBy, next_of}
 use Rattle.tw_cli.specs.declared.cause.Cause.TheVariants as causes
 use Rattle.tw_cli.proofs.Carrying.{ok_is, err_is, opening_wants, opening_draws, taking_draws, stays_unread, unread_wants, taken_with, can_with, drew, want_drew, refuses, refuses_never, shows_text, passes_limit, fits_always, leaves_written}
+use Rattle.tw_cli.proofs.Openings.{stays_open}
 use Rattle.tw_cli.proofs.carry.carry_out.Goals as goal
 
 -- the replica was not opened
@@ -60,6 +62,10 @@ returns-in-Ok-Err-clause-ids g c =
     (drew g.D.Disk.model c.with_input-request.result c.args.ids.now c.args.disk.now c.open.new.disk c.in-Ok.replica c.in-Ok.ensures.opened c.decide.new.ids c.in-Ok-Err.ensures.ids))
 
 -- there was no memory
+pub returns-in-Err-decide-clause-refused : goal.returns-in-Err-decide-clause-refused
+returns-in-Err-decide-clause-refused g c =
+    (held_state c.in-Ok.replica, stays_open g.D.Disk.model c.args.disk.now c.open.new.disk c.in-Ok.replica c.in-Ok.ensures.opened)
+
 pub returns-in-Err-decide-clause-any_moment : goal.returns-in-Err-decide-clause-any_moment
 returns-in-Err-decide-clause-any_moment g c =
     inl c.open.ensures.any_moment
