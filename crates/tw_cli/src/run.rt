@@ -2,6 +2,7 @@
 ghost use Rattle.std.specs.Prelude.{◌≡◌, List};
 ghost use Rattle.tw_world.specs.Disk.{Kept, Tells};
 ghost use Rattle.tw_sync.specs.Answers.{IsLinkKept};
+ghost use Rattle.tw_cli.specs.Opening.{KeepsState};
 ghost use Rattle.tw_cli.specs.Fault.{Told, status_of};
 ghost use Rattle.tw_cli.specs.Asked.{asked_by};
 ghost use Rattle.tw_cli.specs.Whole.{went, RunGives, EndsWell, RunLeaves, IsHonestFor, ChainGrows, RunDraws, RunKeepsInput, IsRun};
@@ -68,6 +69,8 @@ pub fn task_run<D: Disk, L: Link, S: Source, O: Sink, E: Sink>(
         (went disk.old disk.new input.old input.new out.old out.new link.old link.new) result.cause }
     ensures any_moment { RunLeaves D.model S.model O.model L.model (asked_by words.now settings.now now zone.entry) ids.old
         (went disk.old disk.new input.old input.new out.old out.new link.old link.new) result.cause }
+
+    ensures stays { KeepsState D.model disk.old disk.new result.cause }
 
     // A replica that agrees with the server's chain agrees with it after each run.
     ensures agrees { Tells D.model disk.old → IsHonestFor L.model (asked_by words.now settings.now now zone.entry) link.old
