@@ -42,7 +42,7 @@ sized at back = by_case (utc_parts at) back
     by_case None back = absurd (no_moment at back)
     by_case (Some p) back = refl
 
-printed_is : (text : List ℕ) (at : ℕ) → basic_moment text ≡ Some at → (text ≡ basic at) × IsPrinted at
+pub printed_is : (text : List ℕ) (at : ℕ) → basic_moment text ≡ Some at → (text ≡ basic at) × IsPrinted at
 printed_is text at is =
     let same = printed_again text at is in
     let back : basic_moment (basic at) ≡ Some at = subst (λ (t : List ℕ). basic_moment t ≡ Some at) same is in

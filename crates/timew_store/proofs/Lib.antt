@@ -14,6 +14,7 @@ pub mod BareTags
 pub mod Lines
 pub mod LineBack
 pub mod ExactLine
+pub mod DayMoments
 pub mod ReadRows
 pub mod Judging
 pub mod Grouping

@@ -22,3 +22,4 @@ pub mod Known
 pub mod Few
 pub mod Edit
 pub mod Texts
+pub mod Day

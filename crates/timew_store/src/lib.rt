@@ -7,6 +7,7 @@ mod after;
 mod bare;
 mod body;
 mod changes;
+mod day;
 mod edit;
 mod error;
 mod exact;
