@@ -6,6 +6,7 @@ use Rattle.tw_world.specs.Sink.{SinkModel}
 use Rattle.tw_world.specs.Source.{SourceModel}
 use Rattle.tw_world.specs.declared.ids.IdWords.{IdWords}
 use Rattle.tw_world.proofs.Moments.{CountsNow, OnlyNow, started, weaker}
+use Rattle.tw_journal.specs.Form.{has_areas}
 use Rattle.tw_journal.specs.Open.{Records, IsImageThen}
 use Rattle.tw_journal.proofs.Unique.{one_records}
 use Rattle.tw_model.specs.declared.changes.Change.{Change}
@@ -15,6 +16,7 @@ use Rattle.tw_http.specs.Link.{LinkModel, IsHonest, IsChainOf, IsServedChain}
 use Rattle.tw_replica.specs.State.{State, applied, undone}
 use Rattle.tw_replica.specs.Prepared.{step_bodies}
 use Rattle.tw_replica.specs.Replica.{magic, OpensTo, OpensToEither}
+use Rattle.tw_replica.specs.Opening.{IsOpening, opened_bodies}
 use Rattle.tw_replica.proofs.Commits.{changes_are_group}
 use Rattle.tw_sync.specs.Answers.{IsLinkKept}
 use Rattle.tw_sync.specs.Sync.{server_chain, IsEndIn}
@@ -97,6 +99,12 @@ module _ {D : Type 0} (m : DiskModel D) (d0 d1 : D) (states : List State) (stand
       let bodies : seen.2.bodies ≡ same.0 = one_records magic (m.seen d0) seen.2.bodies same.0 seen.2.records same.1 in
       (seen.0, seen.1, record { bodies = seen.2.bodies; records = subst (Records magic file) (sym bodies) same.2; stands = seen.2.stands })
 
+  opening_among : (file : List ℕ) → IsOpening m d0 file → OpensAmong states file
+  opening_among file (inl image) = image_among file image
+  opening_among file (inr alike) =
+      let is : alike.state ≡ seen.0 = opens_one (m.seen d0) alike.state seen.0 alike.first seen.2 in
+      (seen.0, seen.1, subst (OpensTo file) is alike.second)
+
   wider : (next : Option State) (file : List ℕ) → OpensAmong states file → OpensAmong (with_next states next) file
   wider next file o = (o.0, widen states next o.0 o.1, o.2)
 
@@ -111,11 +119,11 @@ module _ {D : Type 0} (m : DiskModel D) (d0 d1 : D) (states : List State) (stand
       either_among (next seen.0) file (subst (λ s. OpensToEither s (next s) file) is step.opens)
 
   records_among : LeavesRecords m d0 d1 → LeavesOnly m d0 d1 (OpensAmong states)
-  records_among run = weaker m d0 d1 (IsImageThen m d0 magic) (OpensAmong states) (run tells) image_among
+  records_among run = weaker m d0 d1 (IsOpening m d0) (OpensAmong states) (run tells) opening_among
 
   steps_among : (next : State → Option State) → LeavesEither m next d0 d1 → LeavesOnly m d0 d1 (OpensAmong (with_next states (next seen.0)))
-  steps_among next run = weaker m d0 d1 (λ file. IsImageThen m d0 magic file ⊎ IsStepOf (m.seen d0) next file) (OpensAmong (with_next states (next seen.0))) (run tells)
-      (λ file left. ⊎_elim (λ image. wider (next seen.0) file (image_among file image)) (step_among next file) left)
+  steps_among next run = weaker m d0 d1 (λ file. IsOpening m d0 file ⊎ IsStepOf (m.seen d0) next file) (OpensAmong (with_next states (next seen.0))) (run tells)
+      (λ file left. ⊎_elim (λ opening. wider (next seen.0) file (opening_among file opening)) (step_among next file) left)
 
   module _ (counts_now : CountsNow m) (opens : Type 0) (cause : Cause) (chain now : List Version) (grows : Grows chain now) (served : IsServedChain chain → IsServedChain now) where
     cut_runs : (next : Option State) → Makes chain now seen.0 next → Runs chain now states (with_next states next)
@@ -171,7 +179,7 @@ module _ {D S O L : Type 0} (m : DiskModel D) (sources : SourceModel S) (s : Sin
   here = stands (m.seen d0) (seen_may_stay d0 tells)
 
   opens_more : (more : List (List ℕ)) (old new : State) → HasMore (m.seen d0) (m.seen d1) more old new → OpensTo (m.seen d1) new
-  opens_more more old new h = record { bodies = h.bodies ++ more; records = h.has; stands = h.stands }
+  opens_more more old new h = record { bodies = opened_bodies (has_areas (m.seen d0)) old h.bodies ++ more; records = h.has; stands = h.stands }
 
   opened_is : (more : List (List ℕ)) (old new : State) → HasMore (m.seen d0) (m.seen d1) more old new → old ≡ here.0
   opened_is more old new h = opens_one (m.seen d0) old here.0 (record { bodies = h.bodies; records = h.had; stands = h.stood }) here.2
