@@ -1,10 +1,14 @@
 -- Opening the replica that a disk holds, and the records that a run leaves.
-use Rattle.std.specs.Prelude.{ℕ, List, [], ◌++◌}
+use Rattle.std.specs.Prelude.{◌≡◌, ℕ, List, [], ◌++◌}
 use Rattle.tw_world.specs.Disk.{DiskModel, Tells}
 use Rattle.tw_journal.specs.Form.{Records, has_areas}
 use Rattle.tw_replica.specs.State.{State, Stands}
-use Rattle.tw_replica.specs.Replica.{magic}
+use Rattle.tw_replica.specs.Replica.{magic, SameState}
 use Rattle.tw_replica.specs.Opening.{opened_bodies}
+use Rattle.tw_cli.specs.Cause.{end_of}
+use Rattle.tw_cli.specs.Cause.End.{Failed}
+use Rattle.tw_cli.specs.declared.cause.Cause.{Cause}
+use Rattle.tw_cli.specs.declared.cause.Cause.TheVariants.{DiskFault}
 
 -- a file's records stood for a state, and now these stand behind those that its opening leaves, and all stand for another
 pub record HasMore (before after : List ℕ) (more : List (List ℕ)) (old new : State) : Type 0 where
@@ -17,3 +21,7 @@ pub record HasMore (before after : List ℕ) (more : List (List ℕ)) (old new :
 -- the records are those that an opening leaves, and stand for this state
 abbrev pub Stays : {D : Type 0} → DiskModel D → (d0 d1 : D) → State → Type 0
 Stays m d0 d1 state = Tells m d0 → HasMore (m.seen d0) (m.seen d1) [] state state
+
+-- a run that was not carried out leaves the state, unless the disk failed
+abbrev pub KeepsState : {D : Type 0} → DiskModel D → (d0 d1 : D) → Cause → Type 0
+KeepsState m d0 d1 cause = end_of cause ≡ Failed → (cause ≡ DiskFault → ⊥) → Tells m d0 → SameState (m.seen d0) (m.seen d1)

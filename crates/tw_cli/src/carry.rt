@@ -28,7 +28,7 @@ pub(crate) enum CarryError {
     TooLong { bytes: u64 },
     /// The disk failed while the record was written, which may stand or not.
     Disk,
-    /// There was no memory.
+    /// There was no memory once the replica was open. The records stay.
     Memory,
 }
 

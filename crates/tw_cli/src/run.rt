@@ -1,11 +1,15 @@
 // One command line over a disk and streams.
-ghost use Rattle.std.specs.Prelude.{◌≡◌};
+ghost use Rattle.std.specs.Prelude.{◌≡◌, List};
 ghost use Rattle.tw_world.specs.Disk.{Kept, Tells};
 ghost use Rattle.tw_sync.specs.Answers.{IsLinkKept};
+ghost use Rattle.tw_cli.specs.Opening.{KeepsState};
 ghost use Rattle.tw_cli.specs.Fault.{Told, status_of};
 ghost use Rattle.tw_cli.specs.Asked.{asked_by};
 ghost use Rattle.tw_cli.specs.Whole.{went, RunGives, EndsWell, RunLeaves, IsHonestFor, ChainGrows, RunDraws, RunKeepsInput, IsRun};
+ghost use Rattle.tw_protocol.specs.Chain.{Version};
+ghost use Rattle.tw_replica.specs.State.{State};
 ghost use Rattle.tw_cli.specs.Agreement.{AgreementStays};
+ghost use Rattle.tw_cli.specs.Events.{StandsFor, IsChainFor, OpensReplica, RunsOn};
 
 use crate::asked::{Job, asked};
 use crate::carry::run_command;
@@ -66,9 +70,15 @@ pub fn task_run<D: Disk, L: Link, S: Source, O: Sink, E: Sink>(
     ensures any_moment { RunLeaves D.model S.model O.model L.model (asked_by words.now settings.now now zone.entry) ids.old
         (went disk.old disk.new input.old input.new out.old out.new link.old link.new) result.cause }
 
+    ensures stays { KeepsState D.model disk.old disk.new result.cause }
+
     // A replica that agrees with the server's chain agrees with it after each run.
     ensures agrees { Tells D.model disk.old → IsHonestFor L.model (asked_by words.now settings.now now zone.entry) link.old
         → AgreementStays D.model L.model (went disk.old disk.new input.old input.new out.old out.new link.old link.new) result.cause }
+    // So it is an event of each world in which the disk stands for some states, and so is what a crash leaves of it.
+    ensures world { (chain : List Version) (now_chain : List Version) (states : List State) → Tells D.model disk.old → IsHonestFor L.model (asked_by words.now settings.now now zone.entry) link.old
+        → StandsFor D.model disk.old states → IsChainFor L.model (asked_by words.now settings.now now zone.entry) link.old link.new chain now_chain
+        → RunsOn D.model disk.old disk.new (OpensReplica (asked_by words.now settings.now now zone.entry)) result.cause chain now_chain states }
     ensures grows { ChainGrows D.model S.model O.model L.model (asked_by words.now settings.now now zone.entry)
         (went disk.old disk.new input.old input.new out.old out.new link.old link.new) }
 

@@ -1,0 +1,93 @@
+-- A run that was not carried out leaves the state.
+use Rattle.std.proofs.Common.{◌≡◌, ◌∙◌, refl, sym, subst, List, ℕ, [], ◌++◌, Result, Ok, Err}
+use Rattle.tw_world.specs.Disk.{DiskModel, Tells}
+use Rattle.tw_world.specs.Sink.{SinkModel}
+use Rattle.tw_world.specs.Source.{SourceModel}
+use Rattle.tw_world.specs.declared.ids.IdWords.{IdWords}
+use Rattle.tw_http.specs.Link.{LinkModel}
+use Rattle.tw_journal.specs.Form.{has_areas}
+use Rattle.tw_journal.specs.declared.error.AppendError.TheVariants as journal
+use Rattle.tw_replica.specs.State.{State}
+use Rattle.tw_replica.specs.Replica.{OpensTo, SameState, OpeningRefused}
+use Rattle.tw_replica.specs.Opening.{opened_bodies}
+use Rattle.tw_replica.specs.declared.error.OpenError.{OpenError}
+use Rattle.tw_replica.specs.declared.error.OpenError.TheVariants as opening
+use Rattle.tw_replica.proofs.Replaying.{opens_as_before}
+use Rattle.tw_sync.specs.declared.error.SyncError.{SyncError}
+use Rattle.tw_sync.specs.declared.error.SyncError.TheVariants as syncs
+use Rattle.tw_words.specs.declared.server.ServerSettings.{ServerSettings}
+use Rattle.tw_commands.specs.declared.request.Request.{Request}
+use Rattle.tw_cli.specs.Opening.{Stays, KeepsState}
+use Rattle.tw_cli.specs.Cause.{open_cause, carry_cause, sync_cause, failure_cause}
+use Rattle.tw_cli.specs.Cause.End.{Failed}
+use Rattle.tw_cli.specs.Run.{NotCarried, GivesBy}
+use Rattle.tw_cli.specs.Syncing.{SyncEnds, NotSynced, SyncGivesBy}
+use Rattle.tw_cli.specs.Whole.{went, RunGives}
+use Rattle.tw_cli.specs.declared.asked.Job.{Job}
+use Rattle.tw_cli.specs.declared.asked.Job.TheVariants.{Here, Sync, Generate}
+use Rattle.tw_cli.specs.declared.asked.LineError.{LineError}
+use Rattle.tw_cli.specs.declared.carry.CarryError.{CarryError}
+use Rattle.tw_cli.specs.declared.carry.CarryError.TheVariants as carry
+use Rattle.tw_cli.specs.declared.syncing.SyncFailure.{SyncFailure}
+use Rattle.tw_cli.specs.declared.syncing.SyncFailure.TheVariants as failure
+use Rattle.tw_cli.specs.declared.cause.Cause.{Cause}
+use Rattle.tw_cli.specs.declared.cause.Cause.TheVariants.{DiskFault}
+use Rattle.tw_cli.proofs.Openings.{opens_one}
+
+same_by : (before after : List ℕ) (s : State) → OpensTo before s → OpensTo after s → SameState before after
+same_by before after s first second = λ state. (
+  λ opens. subst (OpensTo after) (opens_one before s state first opens) second,
+  λ opens. subst (OpensTo before) (opens_one after s state second opens) first,
+)
+
+module _ {D : Type 0} (m : DiskModel D) (d0 d1 : D) where
+  untouched_stays : d1 ≡ d0 → SameState (m.seen d0) (m.seen d1)
+  untouched_stays same = subst (λ (d : D). SameState (m.seen d0) (m.seen d)) (sym same) (λ state. (λ opens. opens, λ opens. opens))
+
+  records_stay : (s : State) → Stays m d0 d1 s → Tells m d0 → SameState (m.seen d0) (m.seen d1)
+  records_stay s stays tells =
+      let has = stays tells in
+      same_by (m.seen d0) (m.seen d1) s (record { bodies = has.bodies; records = has.had; stands = has.stood })
+      (record { bodies = opened_bodies (has_areas (m.seen d0)) s has.bodies ++ []; records = has.has; stands = has.stands })
+
+  opening_stays : (e : OpenError) → (open_cause e ≡ DiskFault → ⊥) → OpeningRefused m d0 d1 e → Tells m d0 → SameState (m.seen d0) (m.seen d1)
+  opening_stays opening.Disk spared why tells = absurd (spared refl)
+  opening_stays (opening.Damaged offset) spared why tells = (opens_as_before (m.seen d0) (m.seen d1) (why tells).1).state
+  opening_stays opening.Memory spared why tells = (why tells).state
+
+  module _ {S O L : Type 0} (sources : SourceModel S) (i0 i1 : S) (s : SinkModel O) (o0 o1 : O) (links : LinkModel L) (l0 l1 : L) where
+    carrying_stays : (request : Request) (ids : IdWords) (e : CarryError) → (carry_cause e ≡ DiskFault → ⊥) → NotCarried m sources request ids d0 d1 i0 i1 e → Tells m d0 → SameState (m.seen d0) (m.seen d1)
+    carrying_stays request ids (carry.Open e) spared why tells = opening_stays e spared why.0 tells
+    carrying_stays request ids (carry.Input e) spared why tells = records_stay why.state why.stays tells
+    carrying_stays request ids (carry.Refused refusal) spared why tells = records_stay why.2.state why.2.stays tells
+    carrying_stays request ids (carry.TooLong bytes) spared why tells = records_stay why.2.state why.2.stays tells
+    carrying_stays request ids carry.Disk spared why tells = absurd (spared refl)
+    carrying_stays request ids carry.Memory spared why tells = records_stay why.0 why.1 tells
+
+    refusal_stays : (server : ServerSettings) (e : SyncError) → (sync_cause e ≡ DiskFault → ⊥) → SyncEnds m links server d0 d1 l0 l1 e → Tells m d0 → SameState (m.seen d0) (m.seen d1)
+    refusal_stays server (syncs.Journal journal.Disk) spared why tells = absurd (spared refl)
+    refusal_stays server (syncs.Journal journal.Closed) spared why tells = absurd (spared refl)
+    refusal_stays server (syncs.Journal (journal.TooLong bytes)) spared why tells = records_stay why.1.state why.1.stays tells
+    refusal_stays server syncs.Link spared why tells = records_stay why.1.state why.1.stays tells
+    refusal_stays server (syncs.Reply kind) spared why tells = records_stay why.1.state why.1.stays tells
+    refusal_stays server (syncs.Gone base) spared why tells = records_stay why.1.state why.1.stays tells
+    refusal_stays server (syncs.Busy parent) spared why tells = records_stay why.1.state why.1.stays tells
+    refusal_stays server (syncs.OutOfSync base parent) spared why tells = records_stay why.1.state why.1.stays tells
+    refusal_stays server (syncs.Segment version) spared why tells = records_stay why.1.state why.1.stays tells
+    refusal_stays server (syncs.SegmentTooLong bytes) spared why tells = records_stay why.1.state why.1.stays tells
+    refusal_stays server (syncs.PullTooLong bytes) spared why tells = records_stay why.1.state why.1.stays tells
+    refusal_stays server syncs.Memory spared why tells = records_stay why.1.state why.1.stays tells
+
+    syncing_stays : (server : ServerSettings) (e : SyncFailure) → (failure_cause e ≡ DiskFault → ⊥) → NotSynced m links server d0 d1 l0 l1 e → Tells m d0 → SameState (m.seen d0) (m.seen d1)
+    syncing_stays server (failure.Open e) spared why tells = opening_stays e spared why.0 tells
+    syncing_stays server (failure.Sync e) spared why tells = refusal_stays server e spared why tells
+
+    pub state_stays : (asked : Result Job LineError) (ids : IdWords) (cause : Cause) → RunGives m sources s links asked ids (went d0 d1 i0 i1 o0 o1 l0 l1) cause → KeepsState m d0 d1 cause
+    state_stays (Ok (Here request)) ids cause gives = λ failed spared tells.
+        let why : GivesBy m sources request ids d0 d1 i0 i1 s o0 o1 cause Failed = subst (GivesBy m sources request ids d0 d1 i0 i1 s o0 o1 cause) failed gives.0 in
+        carrying_stays request ids why.0 (λ e. spared (why.1 ∙ e)) why.2 tells
+    state_stays (Ok (Sync server)) ids cause gives = λ failed spared tells.
+        let why : SyncGivesBy m s links server d0 d1 o0 o1 l0 l1 cause Failed = subst (SyncGivesBy m s links server d0 d1 o0 o1 l0 l1 cause) failed gives in
+        syncing_stays server why.0 (λ e. spared (why.1 ∙ e)) why.2 tells
+    state_stays (Ok (Generate request)) ids cause gives = λ failed spared tells. untouched_stays gives.1
+    state_stays (Err error) ids cause gives = λ failed spared tells. untouched_stays gives.1

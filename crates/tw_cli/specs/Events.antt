@@ -1,0 +1,46 @@
+-- A run as an event of a world.
+use Rattle.std.specs.Prelude.{◌≡◌, ◌⊎◌, ℕ, List, [], ◌∷◌, Result, Ok, Err}
+use Rattle.tw_world.specs.Disk.{DiskModel, LeavesOnly}
+use Rattle.tw_protocol.specs.Chain.{Version}
+use Rattle.tw_http.specs.Link.{LinkModel}
+use Rattle.tw_replica.specs.State.{State}
+use Rattle.tw_replica.specs.Replica.{OpensTo}
+use Rattle.tw_sync.specs.World.{IsAmong, Runs}
+use Rattle.tw_cli.specs.declared.asked.Job.{Job}
+use Rattle.tw_cli.specs.declared.asked.Job.TheVariants.{Here, Sync, Generate}
+use Rattle.tw_cli.specs.declared.asked.LineError.{LineError}
+use Rattle.tw_cli.specs.declared.cause.Cause.{Cause}
+use Rattle.tw_cli.specs.declared.cause.Cause.TheVariants.{Done, OutFault}
+
+-- a file opens to one of these states
+abbrev pub OpensAmong : List State → List ℕ → Type 0
+OpensAmong states file = (state : State) × IsAmong states state × OpensTo file state
+
+-- each image that a crash now may leave opens to one of the states
+abbrev pub StandsFor : {D : Type 0} → DiskModel D → D → List State → Type 0
+StandsFor m disk states = (file : List ℕ) → m.leaves disk file → OpensAmong states file
+
+-- the chains of the world before and after a run: those that the link of a sync tells, and else one
+abbrev pub IsChainFor : {L : Type 0} → LinkModel L → Result Job LineError → (l0 l1 : L) → (chain now : List Version) → Type 0
+IsChainFor links (Ok (Here request)) l0 l1 chain now = now ≡ chain
+IsChainFor links (Ok (Sync server)) l0 l1 chain now = (chain ≡ links.chain l0) × (now ≡ links.chain l1)
+IsChainFor links (Ok (Generate request)) l0 l1 chain now = now ≡ chain
+IsChainFor links (Err error) l0 l1 chain now = now ≡ chain
+
+-- what is asked for opens the replica
+abbrev pub OpensReplica : Result Job LineError → Type 0
+OpensReplica (Ok (Here request)) = Unit {0}
+OpensReplica (Ok (Sync server)) = Unit {0}
+OpensReplica (Ok (Generate request)) = ⊥
+OpensReplica (Err error) = ⊥
+
+-- A run, which may open the replica, is an event of the world, and so is one that a crash cuts off at any moment: it leaves what a run to no end leaves
+pub record RunsOn {D : Type 0} (m : DiskModel D) (d0 d1 : D) (opens : Type 0) (cause : Cause) (chain now : List Version) (states : List State) : Type 0 where
+  pub left : List State
+  pub runs : Runs chain now states left
+  pub stands : StandsFor m d1 left
+  -- what was carried out is all that each later crash leaves
+  pub done : opens → (cause ≡ Done) ⊎ (cause ≡ OutFault) → (one : State) × (left ≡ one ∷ [])
+  pub cut : List State
+  pub cut_off : Runs chain now states cut
+  pub any_moment : LeavesOnly m d0 d1 (OpensAmong cut)
