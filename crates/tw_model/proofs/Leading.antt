@@ -1,12 +1,11 @@
 -- The operations of changes fit and lead to what is changed.
-use Rattle.std.proofs.Common.{◌≡◌, ◌∙◌, ap, refl, sym, subst, ℕ, Bool, true, false, cond, ◌&&◌, append_assoc, List, [], ◌∷◌, ◌++◌, Option, Some, None, is_none}
+use Rattle.std.proofs.Common.{◌≡◌, ◌∙◌, ap, refl, sym, subst, ℕ, true, ◌&&◌, append_assoc, List, [], ◌∷◌, ◌++◌, Option, Some, None, is_none}
 use lib.Pointwise.{pointwise}
 use Rattle.std.specs.FinMap.{get, empty, entries}
 use Rattle.tw_world.specs.declared.Moment.{Moment}
 use Rattle.tw_model.specs.Maps.{same_bytes, set_at}
 use Rattle.tw_model.specs.Ops.{TaskValue, TasksValue, left_there}
-use Rattle.tw_model.specs.Edits.{edits_of}
-use Rattle.tw_model.specs.LocalOps.{same_property, is_task, same_task, synced, apply_some, fits_local, apply_local, apply_all_local, FitAllLocal}
+use Rattle.tw_model.specs.LocalOps.{same_property, is_task, same_task, fits_local, apply_local, apply_all_local, FitAllLocal}
 use Rattle.tw_model.specs.declared.operations.Op.{Op}
 use Rattle.tw_model.specs.declared.operations.Op.TheVariants.{Create, Delete}
 use Rattle.tw_model.specs.declared.operations.SyncOp.TheVariants as sync

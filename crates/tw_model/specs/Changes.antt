@@ -1,5 +1,5 @@
 -- Changes of tasks: what becomes of the tasks of uuids, one after another.
-use Rattle.std.specs.Prelude.{◌≡◌, ℕ, Bool, true, false, cond, List, [], ◌∷◌, ◌++◌, Option, Some, None}
+use Rattle.std.specs.Prelude.{◌≡◌, ℕ, List, [], ◌∷◌, ◌++◌, Option, Some, None}
 use Rattle.std.specs.FinMap.{get, empty}
 use Rattle.tw_world.specs.declared.Moment.{Moment}
 use Rattle.tw_model.specs.Maps.{set_at}
