@@ -34,7 +34,8 @@ OpensReplica (Ok (Sync server)) = Unit {0}
 OpensReplica (Ok (Generate request)) = ⊥
 OpensReplica (Err error) = ⊥
 
--- A run, which may open the replica, is an event of the world, and so is one that a crash cuts off at any moment: it leaves what a run to no end leaves
+-- A run, which may open the replica, is an event of the world, which leaves these states. So is one that a crash cuts off at any moment, which leaves
+-- those from before and perhaps the one that the run would have made
 pub record RunsOn {D : Type 0} (m : DiskModel D) (d0 d1 : D) (opens : Type 0) (cause : Cause) (chain now : List Version) (states : List State) : Type 0 where
   pub left : List State
   pub runs : Runs chain now states left

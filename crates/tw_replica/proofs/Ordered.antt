@@ -1,4 +1,5 @@
 -- The uuids that have a place are those of the open tasks: as it is tested with both in byte order.
+use lib.Pointwise.{pointwise, pointwise_decides}
 use Rattle.std.proofs.Common.{◌≡◌, ℕ, zero, suc, ◌+◌, ◌<◌, ◌≤◌, Bool, true, false, cond, ◌&&◌, ◌||◌, T, List, [], ◌∷◌, length, get_or, drop, Option, Some, None, refl, sym, ap, subst, ◌∙◌, ⊎_elim, arith}
 use Rattle.std.specs.Prelude.{nat_eq, ◌≢◌}
 use Rattle.std.specs.List.{AllByRecursion, IsDistinct, list_any}
@@ -22,11 +23,10 @@ use Rattle.tw_model.specs.Places.{Places}
 use Rattle.tw_model.proofs.Sorted.{first, second, less}
 use Rattle.tw_replica.specs.Assign.{is_open, is_placed}
 use Rattle.tw_replica.specs.Assigned.{IsOnce, IsAssignedIn, is_among, is_assigned}
-use Rattle.tw_replica.specs.Placed.{placed_uuids, open_uuids, begins_with, are_same}
-use Rattle.tw_replica.proofs.Spelled.{both_hold}
+use Rattle.tw_replica.specs.Placed.{placed_uuids, open_uuids, begins_with}
 use Rattle.tw_replica.proofs.Ranks.{same_uuid, same_key}
 use Rattle.tw_replica.proofs.Places.{same_itself}
-use Rattle.tw_replica.proofs.Restored.{both_true, assigned_if, assigned_is}
+use Rattle.tw_replica.proofs.Restored.{assigned_if, assigned_is}
 
 abbrev Uuids : Type 0
 Uuids = List (List ℕ)
@@ -39,17 +39,14 @@ same_key_as = eq_by_cmp bytes_cmp
 
 -- ---- lists of uuids that are the same
 
-same_lists : (us vs : Uuids) → are_same us vs ≡ true → us ≡ vs
-same_lists [] [] e = refl
-same_lists [] (v ∷ vs) e = absurd cc
-same_lists (u ∷ us) [] e = absurd cc
-same_lists (u ∷ us) (v ∷ vs) e =
-    let b = both_hold (same_bytes u v) (are_same us vs) e in
-    λ i. same_uuid u v b.0 i ∷ same_lists us vs b.1 i
+decides : (u v : List ℕ) → (same_bytes u v ≡ true → u ≡ v) × (u ≡ v → same_bytes u v ≡ true)
+decides u v = (same_uuid u v, λ e. subst (λ w. same_bytes u w ≡ true) e (same_itself u))
 
-lists_same : (us : Uuids) → are_same us us ≡ true
-lists_same [] = refl
-lists_same (u ∷ us) = both_true _ _ (same_itself u) (lists_same us)
+same_lists : (us vs : Uuids) → pointwise same_bytes us vs ≡ true → us ≡ vs
+same_lists us vs = (pointwise_decides decides us vs).0
+
+lists_same : (us : Uuids) → pointwise same_bytes us us ≡ true
+lists_same us = (pointwise_decides decides us us).1 refl
 
 -- ---- the uuids that have a place
 
@@ -152,7 +149,7 @@ flips u v = ap is_eq (nat_list_cmp_total.antisymm u v) ∙ by (bytes_cmp v u)
     by Greater = refl
 
 -- sorted, the uuids that have a place are those of the open tasks exactly where the places are assigned to the tasks
-pub sorted_tells : (places : Places) (tasks : TasksValue) (us : Uuids) → IsPermutation (placed_uuids places) us → IsSorted bytes_cmp us → are_same us (open_uuids (entries tasks)) ≡ is_assigned places tasks
+pub sorted_tells : (places : Places) (tasks : TasksValue) (us : Uuids) → IsPermutation (placed_uuids places) us → IsSorted bytes_cmp us → pointwise same_bytes us (open_uuids (entries tasks)) ≡ is_assigned places tasks
 sorted_tells places tasks us moved sorted = both_ways _ _ there back
   where
     opens : Uuids
@@ -164,7 +161,7 @@ sorted_tells places tasks us moved sorted = both_ways _ _ there back
     opened : (u : List ℕ) → is_among (open_uuids (entries tasks)) u ≡ is_open (get tasks u)
     opened u = open_among (entries tasks) u (entries_sorted tasks) ∙ ap is_open (sym (get-entries tasks u))
 
-    there : are_same us (open_uuids (entries tasks)) ≡ true → is_assigned places tasks ≡ true
+    there : pointwise same_bytes us (open_uuids (entries tasks)) ≡ true → is_assigned places tasks ≡ true
     there e =
         let is : us ≡ open_uuids (entries tasks) = same_lists us (open_uuids (entries tasks)) e in
         let apart : IsDistinct same_key_as us = subst (IsDistinct same_key_as) (sym is) (IsDistinct-from_sorted bytes_cmp (open_uuids (entries tasks)) (open_rise (entries tasks) (entries_sorted tasks))) in
@@ -173,35 +170,35 @@ sorted_tells places tasks us moved sorted = both_ways _ _ there back
           once = once_if places (IsDistinct-IsPermutation same_key_as flips us (placed_uuids places) (IsPermutation-sym (placed_uuids places) us moved) apart);
         })
 
-    back : is_assigned places tasks ≡ true → are_same us (open_uuids (entries tasks)) ≡ true
+    back : is_assigned places tasks ≡ true → pointwise same_bytes us (open_uuids (entries tasks)) ≡ true
     back e =
         let a : IsAssignedIn places tasks = assigned_if tasks places e in
         let apart : IsDistinct same_key_as us = IsDistinct-IsPermutation same_key_as flips (placed_uuids places) us moved (once_is places a.once) in
         let is : us ≡ open_uuids (entries tasks) = same_rising us (open_uuids (entries tasks)) (rise us sorted apart) (open_rise (entries tasks) (entries_sorted tasks)) (λ u. sym (among u) ∙ a.same u ∙ sym (opened u)) in
-        subst (λ (l : Uuids). are_same us l ≡ true) is (lists_same us)
+        subst (λ (l : Uuids). pointwise same_bytes us l ≡ true) is (lists_same us)
 
 -- ---- one task after the other
 
-pub passed_over : (us : Uuids) (e : List ℕ × TaskValue) (es : Entries) → is_open (Some e.1) ≡ false → are_same us (open_uuids (e ∷ es)) ≡ are_same us (open_uuids es)
-passed_over us e es closed = ap (λ b. are_same us (cond b (e.0 ∷ open_uuids es) (open_uuids es))) closed
+pub passed_over : (us : Uuids) (e : List ℕ × TaskValue) (es : Entries) → is_open (Some e.1) ≡ false → pointwise same_bytes us (open_uuids (e ∷ es)) ≡ pointwise same_bytes us (open_uuids es)
+passed_over us e es closed = ap (λ b. pointwise same_bytes us (cond b (e.0 ∷ open_uuids es) (open_uuids es))) closed
 
-next_is : (front : Uuids) (e : List ℕ × TaskValue) (es : Entries) → is_open (Some e.1) ≡ true → are_same front (open_uuids (e ∷ es)) ≡ are_same front (e.0 ∷ open_uuids es)
-next_is front e es opens = ap (λ b. are_same front (cond b (e.0 ∷ open_uuids es) (open_uuids es))) opens
+next_is : (front : Uuids) (e : List ℕ × TaskValue) (es : Entries) → is_open (Some e.1) ≡ true → pointwise same_bytes front (open_uuids (e ∷ es)) ≡ pointwise same_bytes front (e.0 ∷ open_uuids es)
+next_is front e es opens = ap (λ b. pointwise same_bytes front (cond b (e.0 ∷ open_uuids es) (open_uuids es))) opens
 
-no_other : (front : Uuids) (u : List ℕ) (vs : Uuids) → begins_with u front ≡ false → are_same front (u ∷ vs) ≡ false
+no_other : (front : Uuids) (u : List ℕ) (vs : Uuids) → begins_with u front ≡ false → pointwise same_bytes front (u ∷ vs) ≡ false
 no_other [] u vs e = refl
-no_other (v ∷ front) u vs e = ap (λ b. b && are_same front vs) e
+no_other (v ∷ front) u vs e = ap (λ b. b && pointwise same_bytes front vs) e
 
-pub differs : (front : Uuids) (e : List ℕ × TaskValue) (es : Entries) → is_open (Some e.1) ≡ true → begins_with e.0 front ≡ false → are_same front (open_uuids (e ∷ es)) ≡ false
+pub differs : (front : Uuids) (e : List ℕ × TaskValue) (es : Entries) → is_open (Some e.1) ≡ true → begins_with e.0 front ≡ false → pointwise same_bytes front (open_uuids (e ∷ es)) ≡ false
 differs front e es opens other = next_is front e es opens ∙ no_other front e.0 (open_uuids es) other
 
-one_less : (us : Uuids) (at : ℕ) (u : List ℕ) (vs : Uuids) → begins_with u (drop at us) ≡ true → are_same (drop at us) (u ∷ vs) ≡ are_same (drop (at + 1) us) vs
+one_less : (us : Uuids) (at : ℕ) (u : List ℕ) (vs : Uuids) → begins_with u (drop at us) ≡ true → pointwise same_bytes (drop at us) (u ∷ vs) ≡ pointwise same_bytes (drop (at + 1) us) vs
 one_less [] zero u vs e = absurd cc
 one_less [] (suc at) u vs e = absurd cc
-one_less (v ∷ us) zero u vs e = ap (λ b. b && are_same us vs) e
-one_less (v ∷ us) (suc at) u vs e = one_less us at u vs e ∙ ap (λ k. are_same (drop k (v ∷ us)) vs) {x = suc (at + 1)} {y = suc at + 1} (omega arith)
+one_less (v ∷ us) zero u vs e = ap (λ b. b && pointwise same_bytes us vs) e
+one_less (v ∷ us) (suc at) u vs e = one_less us at u vs e ∙ ap (λ k. pointwise same_bytes (drop k (v ∷ us)) vs) {x = suc (at + 1)} {y = suc at + 1} (omega arith)
 
-pub matches : (us : Uuids) (at : ℕ) (e : List ℕ × TaskValue) (es : Entries) → is_open (Some e.1) ≡ true → begins_with e.0 (drop at us) ≡ true → are_same (drop at us) (open_uuids (e ∷ es)) ≡ are_same (drop (at + 1) us) (open_uuids es)
+pub matches : (us : Uuids) (at : ℕ) (e : List ℕ × TaskValue) (es : Entries) → is_open (Some e.1) ≡ true → begins_with e.0 (drop at us) ≡ true → pointwise same_bytes (drop at us) (open_uuids (e ∷ es)) ≡ pointwise same_bytes (drop (at + 1) us) (open_uuids es)
 matches us at e es opens same = next_is (drop at us) e es opens ∙ one_less us at e.0 (open_uuids es) same
 
 pub is_inside : (us : Uuids) (at : ℕ) (u : List ℕ) → begins_with u (drop at us) ≡ true → at < length us
@@ -210,11 +207,11 @@ is_inside [] (suc at) u e = absurd cc
 is_inside (v ∷ us) zero u e = omega arith
 is_inside (v ∷ us) (suc at) u e = let lt = is_inside us at u e in omega (arith, lt)
 
-pub all_told : (us : Uuids) (at : ℕ) → at ≤ length us → are_same (drop at us) [] ≡ nat_eq at (length us)
+pub all_told : (us : Uuids) (at : ℕ) → at ≤ length us → pointwise same_bytes (drop at us) [] ≡ nat_eq at (length us)
 all_told us at le = ⊎_elim ended more (eqb_tells at (length us))
   where
-    ended : (nat_eq at (length us) ≡ true) × (at ≡ length us) → are_same (drop at us) [] ≡ nat_eq at (length us)
-    ended is = ap (λ (l : Uuids). are_same l []) (drop_all at us (omega (arith, is.1))) ∙ sym is.0
+    ended : (nat_eq at (length us) ≡ true) × (at ≡ length us) → pointwise same_bytes (drop at us) [] ≡ nat_eq at (length us)
+    ended is = ap (λ (l : Uuids). pointwise same_bytes l []) (drop_all at us (omega (arith, is.1))) ∙ sym is.0
 
-    more : (nat_eq at (length us) ≡ false) × (at ≢ length us) → are_same (drop at us) [] ≡ nat_eq at (length us)
-    more is = ap (λ (l : Uuids). are_same l []) (drop_more us at [] (omega (arith, le, is.1))) ∙ sym is.0
+    more : (nat_eq at (length us) ≡ false) × (at ≢ length us) → pointwise same_bytes (drop at us) [] ≡ nat_eq at (length us)
+    more is = ap (λ (l : Uuids). pointwise same_bytes l []) (drop_more us at [] (omega (arith, le, is.1))) ∙ sym is.0

@@ -1,5 +1,5 @@
 -- The uuids that have a place, and those of open tasks.
-use Rattle.std.specs.Prelude.{ℕ, Bool, true, false, cond, ◌&&◌, List, [], ◌∷◌, Option, Some, None}
+use Rattle.std.specs.Prelude.{ℕ, Bool, false, cond, List, [], ◌∷◌, Option, Some, None}
 use Rattle.std.specs.List.{flat_map}
 use Rattle.tw_model.specs.Maps.{same_bytes}
 use Rattle.tw_model.specs.Ops.{TaskValue}
@@ -24,10 +24,3 @@ open_uuids (entry ∷ more) = cond (is_open (Some entry.1)) (entry.0 ∷ open_uu
 abbrev pub begins_with : List ℕ → List (List ℕ) → Bool
 begins_with u [] = false
 begins_with u (v ∷ us) = same_bytes v u
-
--- whether uuids are the same, one by one
-abbrev pub are_same : List (List ℕ) → List (List ℕ) → Bool
-are_same [] [] = true
-are_same [] (v ∷ vs) = false
-are_same (u ∷ us) [] = false
-are_same (u ∷ us) (v ∷ vs) = same_bytes u v && are_same us vs

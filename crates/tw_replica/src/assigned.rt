@@ -1,8 +1,10 @@
 // Whether places are assigned to tasks, as a whole state has to have them.
 ghost use Rattle.std.specs.Prelude.{◌≡◌, ◌++◌, drop, IfOk, OnOk};
+ghost use lib.Pointwise.{pointwise};
 ghost use Rattle.std.specs.FinMap.{entries};
+ghost use Rattle.tw_model.specs.Maps.{same_bytes};
 ghost use Rattle.tw_replica.specs.Assigned.{is_assigned};
-ghost use Rattle.tw_replica.specs.Placed.{uuid_of_place, placed_uuids, open_uuids, begins_with, are_same};
+ghost use Rattle.tw_replica.specs.Placed.{uuid_of_place, placed_uuids, open_uuids, begins_with};
 
 use crate::numbers::is_open;
 use std::alloc::Global;
@@ -42,7 +44,7 @@ fn is_at(uuids: &Vec<Uuid>, at: usize, uuid: Uuid) -> bool
 
 // Whether these are the uuids of the open tasks, in their order.
 fn are_those_open(uuids: &Vec<Uuid>, tasks: &Tasks) -> bool
-    ensures { result ≡ are_same uuids.now.items (open_uuids (entries tasks.now)) }
+    ensures { result ≡ pointwise same_bytes uuids.now.items (open_uuids (entries tasks.now)) }
 {
     let mut at = 0;
     for (uuid, task) in tasks.iter() {

@@ -9,11 +9,14 @@ ghost use Rattle.tw_replica.specs.Restoring.{begins_a_command, ReadsCommand, Tak
 use crate::fields::ReadError;
 use crate::held::apply_ops;
 use crate::pending::{BODY_LIMIT, Pending};
-use crate::reading::read_op;
+use crate::reading::{read_op, room_for};
 use crate::writing::commit_body;
 use std::alloc::Global;
 use tw_model::{Op, Tasks};
 use tw_world::Memory;
+
+// For how many operations of a command room is made at first.
+const AT_FIRST: u32 = 8;
 
 // Whether bytes begin with those of an undo point.
 fn begins_a_command(bytes: &[u8]) -> bool
@@ -32,7 +35,7 @@ fn read_command(alloc: Global, count: u32, bytes: &[u8]) -> Result<(Vec<Op>, u32
     ensures refused { IfErr result (λ e. Fails e (many_at op_at count bytes.now)) }
 {
     let (first, after) = read_op(alloc, bytes)?;
-    let mut ops = Vec::new(alloc);
+    let mut ops = Vec::with_capacity(alloc, room_for(count.min(AT_FIRST), bytes))?;
     ops.push(first)?;
     let mut left = count - 1;
     let mut rest = after;

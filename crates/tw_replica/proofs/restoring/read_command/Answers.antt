@@ -16,7 +16,7 @@ returns-in_err-first-clause-refused c =
 pub loop-left-init : goal.loop-left-init
 loop-left-init c =
     let first = c.in_ok-first.first in
-    let start : c.push.new.self.items ≡ first ∷ [] = c.in_ok-push.ensures.items ∙ ap (λ (l : List Op). l ++ first ∷ []) c.new-ops.ensures.items in
+    let start : c.push.new.self.items ≡ first ∷ [] = c.in_ok-push.ensures.items ∙ ap (λ (l : List Op). l ++ first ∷ []) c.in_ok-ops.ensures.items in
     let total = many_at op_at c.args.count c.args.bytes.now in
     record {
       read = rw start (one_read [] c.args.count c.args.bytes.now first c.in_ok-first.after.now total c.requires c.in_ok-first.ensures (front_none total));
