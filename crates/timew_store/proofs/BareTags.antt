@@ -1,13 +1,13 @@
 -- Tags without quotes, one after another, as they are written.
 use Rattle.std.specs.Prelude.{nat_lt, not}
-use Rattle.std.proofs.Common.{◌≡◌, ℕ, ◌+◌, ◌<◌, Bool, true, false, cond, ◌&&◌, ◌||◌, ◌==◌, List, [], ◌∷◌, ◌++◌, length, take, drop, get_or, refl, sym, ap, subst, ◌∙◌, arith, append_assoc, length-append}
-use Rattle.std.specs.List.{list_any, list_all, flat_map, AllByRecursion}
+use Rattle.std.proofs.Common.{◌≡◌, ℕ, ◌+◌, ◌<◌, Bool, true, false, cond, Option, Some, None, ◌&&◌, ◌||◌, ◌==◌, List, [], ◌∷◌, ◌++◌, length, get_or, refl, sym, ap, subst, ◌∙◌, arith, append_assoc, length-append}
+use Rattle.std.specs.List.{list_any, list_all, AllByRecursion}
 use Rattle.std.specs.Ordering.{is_lt}
 use Rattle.std.specs.Str.{is_utf8}
-use Rattle.std.proofs.lemmas.List.{append-nil, take-append-drop}
+use Rattle.std.proofs.lemmas.List.{append-nil}
 use Rattle.std.proofs.lemmas.List.Concat.{flat_map-append}
 use Rattle.tw_world.specs.Folder.{bytes_cmp}
-use Rattle.timew_store.specs.Exact.{AreWritten}
+use Rattle.timew_store.specs.Exact.{AreWritten, AreTaken, IsFirstTag, spaced}
 use Rattle.timew_store.specs.Interval.{is_printable, is_tag, tags_rise, tags_rise_from}
 use Rattle.timew_store.specs.Tail.{is_special, is_bare, quoted, tag_text, tags_text}
 use Rattle.timew_store.specs.Writable.{IsGoodTag}
@@ -49,10 +49,6 @@ tag_of_some (b ∷ t) some is = is
 
 -- ---- the text of tags
 
--- each tag with a space behind it
-abbrev pub spaced : List (List ℕ) → List ℕ
-spaced tags = flat_map (λ t. tag_text t ++ 32 ∷ []) tags
-
 then_text : (t : List ℕ) (tags : List (List ℕ)) → 0 < length tags → tags_text (t ∷ tags) ≡ tag_text t ++ 32 ∷ tags_text tags
 then_text t [] some = absurd (omega arith)
 then_text t (u ∷ tags) some = refl
@@ -87,12 +83,6 @@ rise_alone [] t none = refl
 rise_alone (u ∷ tags) t none = absurd (omega (arith, none))
 
 -- ---- one tag after another
-
--- these tags were taken from the front of the bytes, and this is left
-pub record AreTaken (tags : List (List ℕ)) (rest bytes : List ℕ) : Type 0 where
-  pub text : bytes ≡ spaced tags ++ rest
-  pub good : AllByRecursion IsGoodTag tags
-  pub rise : tags_rise tags ≡ true
 
 -- a tag that is taken next
 pub record IsNext (tags : List (List ℕ)) (tag : List ℕ) : Type 0 where
@@ -133,22 +123,33 @@ module _ (tags : List (List ℕ)) (rest bytes tag : List ℕ) (taken : AreTaken 
     some = omega (arith, length-append tags (tag ∷ []));
   }
 
--- ---- cutting
+nothing_taken : (bytes : List ℕ) → AreTaken [] bytes bytes
+nothing_taken bytes = record { text = refl; good = tt; rise = refl }
 
-head_and_rest : (more next : List ℕ) → 0 < length more → get_or more 0 0 ≡ 32 → next ≡ drop 1 more → more ≡ 32 ∷ next
-head_and_rest [] next some space after = absurd (omega arith)
-head_and_rest (b ∷ l) next some space after = λ i. space i ∷ sym after i
+next_of : (tags : List (List ℕ)) (tag rest : List ℕ) (behind : Option (List ℕ)) → IsFirstTag tag behind rest → tags_rise (tags ++ tag ∷ []) ≡ true → IsNext tags tag
+next_of tags tag rest behind first rise = record { some = first.some; bare = first.bare; utf8 = first.utf8; rise = rise }
 
--- a text that was cut behind a tag, at a space
-pub cut_at_space : (rest tag more next : List ℕ) (n : ℕ) → tag ≡ take n rest → more ≡ drop n rest → 0 < length more → get_or more 0 0 ≡ 32 → next ≡ drop 1 more → rest ≡ tag ++ 32 ∷ next
-cut_at_space rest tag more next n front back some space after =
-    sym (take-append-drop n rest) ∙ (λ i. sym front i ++ sym back i) ∙ ap (λ (l : List ℕ). tag ++ l) (head_and_rest more next some space after)
+pub taken_more : (tags : List (List ℕ)) (rest bytes tag more : List ℕ) → AreTaken tags rest bytes → IsFirstTag tag (Some more) rest → tags_rise (tags ++ tag ∷ []) ≡ true → AreTaken (tags ++ tag ∷ []) more bytes
+taken_more tags rest bytes tag more taken first rise = one_more tags rest bytes tag taken (next_of tags tag rest (Some more) first rise) more first.text
 
-none_left : (more : List ℕ) → length more ≡ 0 → more ≡ []
-none_left [] none = refl
-none_left (b ∷ more) none = absurd (omega arith)
+pub taken_last : (tags : List (List ℕ)) (rest bytes tag : List ℕ) → AreTaken tags rest bytes → IsFirstTag tag None rest → tags_rise (tags ++ tag ∷ []) ≡ true → AreWritten (tags ++ tag ∷ []) bytes
+taken_last tags rest bytes tag taken first rise = the_last tags rest bytes tag taken (next_of tags tag rest None first rise) (first.text ∙ append-nil tag)
 
--- a text that was cut at its end
-pub cut_at_end : (rest tag more : List ℕ) (n : ℕ) → tag ≡ take n rest → more ≡ drop n rest → length more ≡ 0 → rest ≡ tag
-cut_at_end rest tag more n front back none =
-    sym (take-append-drop n rest) ∙ (λ i. sym front i ++ sym back i) ∙ ap (λ (l : List ℕ). tag ++ l) (none_left more none) ∙ append-nil tag
+taken_first : (bytes tag more : List ℕ) → IsFirstTag tag (Some more) bytes → AreTaken (tag ∷ []) more bytes
+taken_first bytes tag more first = taken_more [] bytes bytes tag more (nothing_taken bytes) first refl
+
+-- a tag alone, two tags, and two with more behind them
+pub only_tag : (bytes tag : List ℕ) → IsFirstTag tag None bytes → AreWritten (tag ∷ []) bytes
+only_tag bytes tag first = taken_last [] bytes bytes tag (nothing_taken bytes) first refl
+
+rise_two : (a b : List ℕ) → is_lt (bytes_cmp a b) ≡ true → tags_rise (a ∷ b ∷ []) ≡ true
+rise_two a b less = joined (is_lt (bytes_cmp a b)) true less refl
+
+pub two_written : (bytes tag rest next : List ℕ) → IsFirstTag tag (Some rest) bytes → IsFirstTag next None rest → is_lt (bytes_cmp tag next) ≡ true → AreWritten (tag ∷ next ∷ []) bytes
+two_written bytes tag rest next first second less = taken_last (tag ∷ []) rest bytes next (taken_first bytes tag rest first) second (rise_two tag next less)
+
+pub two_taken : (bytes tag rest next more : List ℕ) → IsFirstTag tag (Some rest) bytes → IsFirstTag next (Some more) rest → is_lt (bytes_cmp tag next) ≡ true → AreTaken (tag ∷ next ∷ []) more bytes
+two_taken bytes tag rest next more first second less = taken_more (tag ∷ []) rest bytes next more (taken_first bytes tag rest first) second (rise_two tag next less)
+
+pub shorter : (rest tag more : List ℕ) → IsFirstTag tag (Some more) rest → length more < length rest
+shorter rest tag more first = omega (arith, ap length first.text, length-append tag (32 ∷ more))

@@ -13,7 +13,7 @@ use Rattle.timew_store.specs.declared.interval.Interval.{Interval}
 use Rattle.timew_store.specs.Body.{FileChange, is_month_name}
 use Rattle.timew_store.specs.Gathered.{NamedBytes, months_in}
 use Rattle.timew_store.specs.Held.{bytes_of}
-use Rattle.timew_store.specs.Kept.{bytes_in, text_in, names_in, with_names, with_months, one_change}
+use Rattle.timew_store.specs.Kept.{bytes_in, text_in, names_in, with_names, one_change}
 use Rattle.timew_store.specs.Line.{after}
 use Rattle.timew_store.specs.Months.{month_text, month_change, changes_to}
 use Rattle.timew_store.specs.Rows.{month_names}

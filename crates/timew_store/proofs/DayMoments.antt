@@ -1,5 +1,5 @@
 -- A moment of a day is the day's first second and the second that its clock shows.
-use Rattle.std.proofs.Common.{◌≡◌, ℕ, ◌+◌, ◌-◌, ◌*◌, ◌/◌, ◌%◌, ◌<◌, ℤ, pos, ◌+ℤ◌, ◌*ℤ◌, ◌≤ℤ◌, Bool, true, false, not, List, ◌++◌, take, drop, length, Option, Some, None, option_and_then, codes, refl, sym, ap, ◌∙◌, arith}
+use Rattle.std.proofs.Common.{◌≡◌, ℕ, ◌+◌, ◌-◌, ◌*◌, ◌/◌, ◌%◌, ◌<◌, pos, ◌+ℤ◌, ◌*ℤ◌, ◌≤ℤ◌, Bool, true, false, not, List, ◌++◌, take, drop, length, Option, Some, None, option_and_then, codes, refl, sym, ap, ◌∙◌, arith}
 use Rattle.jiff_core.proofs.SignedLemmas.{signed_arith}
 use Rattle.jiff.specs.Types.{Date, Time, DateTime, UTC}
 use Rattle.jiff.specs.Words.{epoch_day}

@@ -1,5 +1,5 @@
 -- A store that puts its month files back, and one that has those after an edit.
-use Rattle.std.proofs.Common.{◌≡◌, true, List, Ok, sym, ap, subst, ◌∙◌, Vec, Global}
+use Rattle.std.proofs.Common.{◌≡◌, true, List, Ok, sym, ap, subst, ◌∙◌}
 use Rattle.std.proofs.Props.{props}
 use Rattle.tw_world.specs.Folder.{Files}
 use Rattle.timew_store.specs.declared.edit.Edit.{Edit}

@@ -1,9 +1,9 @@
 -- What a refused load leaves opens to what it did.
-use Rattle.std.proofs.Common.{◌≡◌, ℕ, ◌≤◌, List, ◌∷◌, Some, refl, sym, subst, ◌∙◌}
+use Rattle.std.proofs.Common.{◌≡◌, ℕ, List, Some, refl, sym, subst, ◌∙◌}
 use Rattle.tw_world.specs.Disk.{DiskModel}
 use Rattle.tw_world.specs.Disk as disk
 use Rattle.tw_world.specs.Crash.{Tells, Settled, Reads, LeavesOnly, Kept}
-use Rattle.tw_world.specs.Folder.{Files, FolderModel}
+use Rattle.tw_world.specs.Folder.{FolderModel}
 use Rattle.tw_world.proofs.Crashes.{CountsNow}
 use Rattle.tw_journal.specs.Errors.{open_in_all}
 use Rattle.tw_journal.specs.Journal.{IsOpenOn, IsOpened}
@@ -12,7 +12,7 @@ use Rattle.tw_journal.specs.declared.error.OpenError.{OpenError}
 use Rattle.tw_journal.specs.declared.error.OpenError.TheVariants as opening
 use Rattle.tw_journal.proofs.Places.{still_open}
 use Rattle.timew_store.specs.Body.{FileChange}
-use Rattle.timew_store.specs.Held.{magic, Held, OpensTo, AreApart}
+use Rattle.timew_store.specs.Held.{magic, OpensTo, AreApart}
 use Rattle.timew_store.specs.Loading.{IsLoaded, IsFinishedTo, StoreSparesDisk, StillOpen, last_of}
 use Rattle.timew_store.specs.Store.{not_loaded, LoadSparesDisk}
 use Rattle.timew_store.specs.declared.error.StoreError.{StoreError}

@@ -1,14 +1,36 @@
 -- Lines that stand as they are written.
-use Rattle.std.specs.Prelude.{◌≡◌, ℕ, ◌<◌, true, List, [], ◌∷◌, ◌++◌, length}
-use Rattle.std.specs.List.{AllByRecursion}
+use Rattle.std.specs.Prelude.{◌≡◌, ℕ, ◌<◌, true, List, [], ◌∷◌, ◌++◌, length, Option, Some, None}
+use Rattle.std.specs.List.{list_all, flat_map, AllByRecursion}
 use Rattle.std.specs.Str.{is_utf8}
 use Rattle.timew_store.specs.declared.interval.Interval.{Interval}
 use Rattle.timew_store.specs.declared.exact.Tail.{Tail}
 use Rattle.timew_store.specs.Interval.{tags_rise}
-use Rattle.timew_store.specs.Tail.{tags_text, tail_text}
+use Rattle.timew_store.specs.Tail.{is_bare, tag_text, tags_text, tail_text}
 use Rattle.timew_store.specs.Line.{line_text}
 use Rattle.timew_store.specs.Month.{lines_text}
 use Rattle.timew_store.specs.Writable.{IsGoodTag, IsWritable}
+
+-- what stands behind a tag: a space and the next one, or nothing
+abbrev pub behind_tag : Option (List ℕ) → List ℕ
+behind_tag None = []
+behind_tag (Some rest) = 32 ∷ rest
+
+-- the first tag of some, without quotes and in UTF-8, and what stands behind its space
+pub record IsFirstTag (tag : List ℕ) (rest : Option (List ℕ)) (bytes : List ℕ) : Type 0 where
+  pub some : 0 < length tag
+  pub bare : list_all is_bare tag ≡ true
+  pub utf8 : is_utf8 tag ≡ true
+  pub text : bytes ≡ tag ++ behind_tag rest
+
+-- each tag with a space behind it
+abbrev pub spaced : List (List ℕ) → List ℕ
+spaced tags = flat_map (λ t. tag_text t ++ 32 ∷ []) tags
+
+-- these tags were taken from the front of the bytes, and this is left
+pub record AreTaken (tags : List (List ℕ)) (rest bytes : List ℕ) : Type 0 where
+  pub text : bytes ≡ spaced tags ++ rest
+  pub good : AllByRecursion IsGoodTag tags
+  pub rise : tags_rise tags ≡ true
 
 -- tags as they are written, in UTF-8
 pub record AreWritten (tags : List (List ℕ)) (bytes : List ℕ) : Type 0 where

@@ -42,8 +42,9 @@ impl Day {
         ensures value { IfSome result (λ at. basic_moment text.now ≡ Some at) }
         ensures in_range { IfSome result (λ at. at < 253_370_764_800) }
     {
-        let (date, clock) = text.split_at(9);
-        if date != &self.text[..9] {
+        let (date, clock) = text.split_first_chunk::<9>()?;
+        let (day, _) = self.text.split_first_chunk::<9>()?;
+        if date != day {
             return None;
         }
         let second = clock_second(clock)?;

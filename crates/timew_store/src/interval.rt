@@ -45,6 +45,24 @@ impl Texts {
         }
     }
 
+    pub(crate) fn one(alloc: Global, text: Text) -> Texts
+        ensures { result ≡ text ∷ [] }
+    {
+        Texts {
+            alloc,
+            few: Few::One(text),
+        }
+    }
+
+    pub(crate) fn two(alloc: Global, first: Text, second: Text) -> Texts
+        ensures { result ≡ first ∷ second ∷ [] }
+    {
+        Texts {
+            alloc,
+            few: Few::Two(first, second),
+        }
+    }
+
     pub(crate) fn of(alloc: Global, items: Vec<Text>) -> Texts
         ensures { result ≡ items.items }
     {

@@ -1,42 +1,38 @@
-use Rattle.std.proofs.Common.{◌≡◌, ◌<◌, ◌-◌, ◌++◌, ◌∷◌, true, ℕ, List, [], length, take, drop, sym, ap, subst, ◌∙◌, arith, length-drop}
-use Rattle.std.proofs.lemmas.List.{take_all}
-use Rattle.std.specs.List.{list_all}
-use Rattle.timew_store.specs.Exact.{AreWritten}
-use Rattle.timew_store.specs.Interval.{tags_rise}
-use Rattle.timew_store.specs.Tail.{is_bare}
-use Rattle.timew_store.proofs.BareTags.{AreTaken, IsNext, one_more, the_last, cut_at_space, cut_at_end}
+use Rattle.std.proofs.Common.{◌≡◌, ◌∷◌, [], List, ℕ, Option, Some, None, option_map, sym, ap, subst, ◌∙◌}
+use Rattle.timew_store.specs.Exact.{AreTaken, AreWritten, IsFirstTag}
+use Rattle.timew_store.proofs.BareTags.{only_tag, two_written, two_taken}
 use Rattle.timew_store.proofs.bare.bare_tags.Goals as goal
 
-pub loop-tag-preserved : goal.loop-tag-preserved
-loop-tag-preserved c =
-    let rest = c.loop-tag.rest.now in
-    let tag = c.split_at.result.0.now in
-    let more = c.split_at.result.1.now in
-    let tags = c.loop-tag.tags in
-    let after : List ℕ = take (length more - 1) (drop 1 more) in
-    let cut : after ≡ drop 1 more = take_all (length more - 1) (drop 1 more) (omega (arith, length-drop 1 more)) in
-    let some : 0 < length tag = omega (arith, c.if-tag-eq0.false) in
-    let left : 0 < length more = omega (arith, c.if-more-eq0.false) in
-    let parts = cut_at_space rest tag more after c.tag_length.result c.split_at.ensures.front c.split_at.ensures.back left c.if-more-ne32.false cut in
-    let bare : list_all is_bare tag ≡ true = subst (λ (l : List ℕ). list_all is_bare l ≡ true) (sym c.split_at.ensures.front) c.tag_length.ensures.bare in
-    let text = c.in-Some.ensures.text.1 in
-    let rise : tags_rise (tags ++ tag ∷ []) ≡ true = subst (λ (t : List ℕ). tags_rise (tags ++ t ∷ []) ≡ true) text (c.is_behind.ensures c.loop-tag.invariant.rise c.if-not-is_behind.false) in
-    let next : IsNext tags tag = record { some = some; bare = bare; utf8 = c.in-Some.ensures.text.0; rise = rise } in
-    let pushed : tags ++ tag ∷ [] ≡ c.push.new.self = ap (λ (t : List ℕ). tags ++ t ∷ []) (sym (c.in_ok-from_str.ensures ∙ text)) ∙ sym c.in_ok-push.ensures.ok in
-    subst (λ (ts : List (List ℕ)). AreTaken ts after c.args.bytes.now) pushed (one_more tags rest c.args.bytes.now tag c.loop-tag.invariant next after parts)
+pub returns-in_default-rest : goal.returns-in_default-rest
+returns-in_default-rest c =
+    let bytes = c.args.bytes.now in
+    let tag = c.in-Some.first.now in
+    let first : IsFirstTag tag None bytes = subst (λ (o : Option (List ℕ)). IsFirstTag tag o bytes) (ap (option_map (λ b. b.now)) c.in_default-rest.is) c.in-Some.ensures in
+    let made : tag ∷ [] ≡ c.one.result = ap (λ (t : List ℕ). t ∷ []) (sym c.in_ok-first_text.ensures) ∙ sym c.one.ensures in
+    subst (λ (ts : List (List ℕ)). AreWritten ts bytes) made (only_tag bytes tag first)
 
-pub returns-then-more-eq0 : goal.returns-then-more-eq0
-returns-then-more-eq0 c =
-    let rest = c.loop-tag.rest.now in
-    let tag = c.split_at.result.0.now in
-    let more = c.split_at.result.1.now in
-    let tags = c.loop-tag.tags in
-    let some : 0 < length tag = omega (arith, c.if-tag-eq0.false) in
-    let none : length more ≡ 0 = omega (arith, c.if-more-eq0.true) in
-    let all = cut_at_end rest tag more c.tag_length.result c.split_at.ensures.front c.split_at.ensures.back none in
-    let bare : list_all is_bare tag ≡ true = subst (λ (l : List ℕ). list_all is_bare l ≡ true) (sym c.split_at.ensures.front) c.tag_length.ensures.bare in
-    let text = c.in-Some.ensures.text.1 in
-    let rise : tags_rise (tags ++ tag ∷ []) ≡ true = subst (λ (t : List ℕ). tags_rise (tags ++ t ∷ []) ≡ true) text (c.is_behind.ensures c.loop-tag.invariant.rise c.if-not-is_behind.false) in
-    let next : IsNext tags tag = record { some = some; bare = bare; utf8 = c.in-Some.ensures.text.0; rise = rise } in
-    let pushed : tags ++ tag ∷ [] ≡ c.push.new.self = ap (λ (t : List ℕ). tags ++ t ∷ []) (sym (c.in_ok-from_str.ensures ∙ text)) ∙ sym c.in_ok-push.ensures.ok in
-    subst (λ (ts : List (List ℕ)). AreWritten ts c.args.bytes.now) pushed (the_last tags rest c.args.bytes.now tag c.loop-tag.invariant next all)
+pub returns-in-None : goal.returns-in-None
+returns-in-None c =
+    let bytes = c.args.bytes.now in
+    let tag = c.in-Some.first.now in
+    let rest = c.in-Some-rest.rest.now in
+    let next = c.in-Some-first_tag.second.now in
+    let first : IsFirstTag tag (Some rest) bytes = subst (λ (o : Option (List ℕ)). IsFirstTag tag o bytes) (ap (option_map (λ b. b.now)) c.in-Some-rest.is) c.in-Some.ensures in
+    let second : IsFirstTag next None rest = subst (λ (o : Option (List ℕ)). IsFirstTag next o rest) (ap (option_map (λ b. b.now)) c.in-None.is) c.in-Some-first_tag.ensures in
+    let held = sym c.in_ok-first_text.ensures ∙ sym c.first_text.view_is in
+    let made : tag ∷ next ∷ [] ≡ c.two-tags.result = (λ i. held i ∷ sym c.in_ok-from_str.ensures i ∷ []) ∙ sym c.two-tags.ensures in
+    subst (λ (ts : List (List ℕ)). AreWritten ts bytes) made (two_written bytes tag rest next first second (sym c.is_before.ensures ∙ c.if-not-is_before.false))
+
+pub returns-in-Some-rest-2 : goal.returns-in-Some-rest-2
+returns-in-Some-rest-2 c =
+    let bytes = c.args.bytes.now in
+    let tag = c.in-Some.first.now in
+    let rest = c.in-Some-rest.rest.now in
+    let next = c.in-Some-first_tag.second.now in
+    let more = c.in-Some-rest-2.rest.now in
+    let first : IsFirstTag tag (Some rest) bytes = subst (λ (o : Option (List ℕ)). IsFirstTag tag o bytes) (ap (option_map (λ b. b.now)) c.in-Some-rest.is) c.in-Some.ensures in
+    let second : IsFirstTag next (Some more) rest = subst (λ (o : Option (List ℕ)). IsFirstTag next o rest) (ap (option_map (λ b. b.now)) c.in-Some-rest-2.is) c.in-Some-first_tag.ensures in
+    let held = sym c.in_ok-first_text.ensures ∙ sym c.first_text.view_is in
+    let made : tag ∷ next ∷ [] ≡ c.two-tags.result = (λ i. held i ∷ sym c.in_ok-from_str.ensures i ∷ []) ∙ sym c.two-tags.ensures in
+    c.more_tags.ensures bytes
+    (subst (λ (ts : List (List ℕ)). AreTaken ts more bytes) made (two_taken bytes tag rest next more first second (sym c.is_before.ensures ∙ c.if-not-is_before.false)))

@@ -1,4 +1,4 @@
-use Rattle.std.proofs.Common.{List, ℕ, Some, sym, ap, ◌∙◌}
+use Rattle.std.proofs.Common.{List, ℕ, sym, ap, ◌∙◌}
 use Rattle.timew_store.specs.Line.{after}
 use Rattle.timew_store.proofs.Changing.{both_behind}
 use Rattle.timew_store.proofs.changes.behind.Goals as goal
