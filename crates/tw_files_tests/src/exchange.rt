@@ -84,6 +84,15 @@ const ROWS: [(u16, usize, usize, Result<usize, AskError>); 3] = [
     (8080, LONGEST + 1, LONGEST, Ok(LONGEST)),
 ];
 
+fn is_all_x(bytes: &[u8]) -> bool {
+    for byte in bytes {
+        if *byte != b'x' {
+            return false;
+        }
+    }
+    true
+}
+
 #[test]
 fn a_reply_is_read_to_its_end_or_to_the_longest(rt: HostRuntime) -> Result<(), Fail> {
     let alloc = rt.alloc();
@@ -94,10 +103,9 @@ fn a_reply_is_read_to_its_end_or_to_the_longest(rt: HostRuntime) -> Result<(), F
             bytes,
             piece,
         };
-        let asked = ask(&host, &rt, "host", port, b"request", &mut reply);
-        assert_eq!(rt; asked.map(|()| reply.len()), want);
-        if want.is_ok() {
-            assert!(rt; reply.iter().all(|byte| *byte == b'x'));
+        match ask(&host, &rt, "host", port, b"request", &mut reply) {
+            Ok(()) => assert!(rt; want == Ok(reply.len()) && is_all_x(&reply)),
+            Err(error) => assert!(rt; want == Err(error)),
         }
     }
     Ok(())
