@@ -1,16 +1,20 @@
 use std::alloc::Global;
 use std::test::Fail;
 use timew_store::{Intervals, LoadError, MonthError, Store, read_month, write_month};
-use tw_world::{MemoryDisk, MemoryFolder};
+use tw_world::{Memory, MemoryDisk, MemoryFolder};
 
 mod store;
+
+fn file_of(alloc: Global, name: &str, text: &str) -> Result<(String, Vec<u8>), Memory> {
+    let name = String::from_str(alloc, name)?;
+    Ok((name, text.as_bytes().to_vec(alloc)?))
+}
 
 // A folder with these files, whose calls with these numbers fail.
 fn folder_of(alloc: Global, files: &[(&str, &str)], fails: &[u64]) -> Result<MemoryFolder, Fail> {
     let mut content = Vec::new(alloc);
     for (name, text) in files {
-        let name = String::from_str(alloc, name)?;
-        content.push((name, text.as_bytes().to_vec(alloc)?))?;
+        content.push(file_of(alloc, name, text)?)?;
     }
     Ok(MemoryFolder::new(alloc, content, fails.to_vec(alloc)?)?)
 }
