@@ -18,13 +18,8 @@ const TWO: &str =
     "inc 20260105T080000Z - 20260105T083000Z # a # \"note\"\ninc 20260105T090000Z # b\n";
 
 fn read(alloc: Global, lines: &str) -> Result<Intervals, Fail> {
-    let Ok(rows) = read_month(alloc, lines.as_bytes()) else {
-        return Err(Fail::from("a bad line"));
-    };
-    match Intervals::in_order(rows) {
-        Some(rows) => Ok(rows),
-        None => Err(Fail::from("out of order")),
-    }
+    let rows = read_month(alloc, lines.as_bytes()).or(Err("a bad line"))?;
+    Ok(Intervals::in_order(rows).ok_or("out of order")?)
 }
 
 // The words of a text, which spaces part, and in which `_` stands for one.
@@ -48,9 +43,7 @@ fn words_of(alloc: Global, text: &str) -> Result<Vec<String>, Fail> {
 
 fn judged(alloc: Global, words: &str) -> Result<Result<Command, WordsError>, Fail> {
     let words = words_of(alloc, words)?;
-    let Some(now) = Moment::new(NOW, 0) else {
-        return Err(Fail::from("no moment"));
-    };
+    let now = Moment::new(NOW, 0).ok_or("no moment")?;
     Ok(read_words(alloc, &words, now, &Zone::utc()))
 }
 
@@ -61,18 +54,14 @@ fn planned(
     before: &str,
 ) -> Result<Result<Intervals, TimewError>, Fail> {
     let words = words_of(alloc, words)?;
-    let Some(now) = Moment::new(NOW, 0) else {
-        return Err(Fail::from("no moment"));
+    let now = Moment::new(NOW, 0).ok_or("no moment")?;
+    let rows = read(alloc, before)?;
+    let Ok(command) = read_words(alloc, &words, now, &Zone::utc()) else {
+        return Err(Fail::from("bad words"));
     };
-    match read_words(alloc, &words, now, &Zone::utc()) {
-        Ok(command) => {
-            let rows = read(alloc, before)?;
-            match plan(alloc, &command, &rows, NOW) {
-                Ok(edit) => Ok(Ok(rows.edited(edit)?)),
-                Err(error) => Ok(Err(error)),
-            }
-        }
-        Err(_) => Err(Fail::from("bad words")),
+    match plan(alloc, &command, &rows, NOW) {
+        Ok(edit) => Ok(Ok(rows.edited(edit)?)),
+        Err(error) => Ok(Err(error)),
     }
 }
 

@@ -1,20 +1,22 @@
 use std::alloc::Global;
 use std::test::Fail;
 use timew_store::{Intervals, LoadError, MonthError, Store, read_month, write_month};
-use tw_world::{MemoryDisk, MemoryFolder};
+use tw_world::{Memory, MemoryDisk, MemoryFolder};
 
 mod store;
 
-// A folder with these files.
-fn folder_of(alloc: Global, files: &[(&str, &str)]) -> Result<MemoryFolder, Fail> {
+fn file_of(alloc: Global, name: &str, text: &str) -> Result<(String, Vec<u8>), Memory> {
+    let name = String::from_str(alloc, name)?;
+    Ok((name, text.as_bytes().to_vec(alloc)?))
+}
+
+// A folder with these files, whose calls with these numbers fail.
+fn folder_of(alloc: Global, files: &[(&str, &str)], fails: &[u64]) -> Result<MemoryFolder, Fail> {
     let mut content = Vec::new(alloc);
     for (name, text) in files {
-        content.push((
-            String::from_str(alloc, name)?,
-            text.as_bytes().to_vec(alloc)?,
-        ))?;
+        content.push(file_of(alloc, name, text)?)?;
     }
-    Ok(MemoryFolder::new(alloc, content, Vec::new(alloc))?)
+    Ok(MemoryFolder::new(alloc, content, fails.to_vec(alloc)?)?)
 }
 
 // Lines, with each liberty that a reader has, and the one text of what they say.
@@ -93,10 +95,8 @@ fn a_bad_line_is_named_by_its_number(rt: HostRuntime) -> Result<(), Fail> {
 
 // What loading two files gives: the starts of their intervals in order, or the file and the line of the first bad line.
 fn told(alloc: Global, january: &str, february: &str) -> Result<String, Fail> {
-    let mut folder = folder_of(
-        alloc,
-        &[("2026-01.data", january), ("2026-02.data", february)],
-    )?;
+    let files = [("2026-01.data", january), ("2026-02.data", february)];
+    let mut folder = folder_of(alloc, &files, &[])?;
     let mut disk = MemoryDisk::new(alloc, Vec::new(alloc), Vec::new(alloc))?;
     let mut told = String::new(alloc);
     match Store::load(alloc, &mut folder, &mut disk) {

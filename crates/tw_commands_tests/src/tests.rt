@@ -79,19 +79,34 @@ fn words_of(alloc: Global, line: &str) -> Result<Vec<String>, Fail> {
     Ok(words)
 }
 
-// Carries a line of words out at a second, over the replica of a disk, and gives what it prints, or why it does nothing.
-fn decided(
+// A line of words that is judged at a second, with an input.
+fn asked<'a>(
     alloc: Global,
     line: &str,
+    input: &str,
     second: u64,
-    ids: &mut IdWords,
-    disk: &mut MemoryDisk,
-) -> Result<Result<Vec<u8>, Refusal>, Fail> {
-    decided_with(alloc, line, "", second, ids, disk)
+    zone: &'a Zone,
+) -> Result<Request<'a>, Fail> {
+    let words = words_of(alloc, line)?;
+    let at = moment(second)?;
+    let line = cut_words(alloc, &words)?;
+    let filter = judge_line(alloc, &line, at, zone).or(Err("a wrong word"))?;
+    let settings = read_settings(alloc, &Vec::new(alloc), &line.overrides).or(Err(
+        "a wrong setting",
+    ))?;
+    let input = Input::new(input.as_bytes().to_vec(alloc)?);
+    Ok(Request {
+        line,
+        filter,
+        settings,
+        at,
+        zone,
+        input,
+    })
 }
 
-// The same with an input.
-fn decided_with(
+// Carries a line of words out at a second, over the replica of a disk, and gives what it prints, or why it does nothing.
+fn decided(
     alloc: Global,
     line: &str,
     input: &str,
@@ -99,26 +114,10 @@ fn decided_with(
     ids: &mut IdWords,
     disk: &mut MemoryDisk,
 ) -> Result<Result<Vec<u8>, Refusal>, Fail> {
-    let words = words_of(alloc, line)?;
     let zone = Zone::utc();
-    let at = moment(second)?;
-    let line = cut_words(alloc, &words)?;
-    let Ok(filter) = judge_line(alloc, &line, at, &zone) else {
-        return Err(Fail::new("a wrong word"));
-    };
-    let Ok(settings) = read_settings(alloc, &Vec::new(alloc), &line.overrides) else {
-        return Err(Fail::new("a wrong setting"));
-    };
+    let request = asked(alloc, line, input, second, &zone)?;
     let Ok(replica) = Replica::open(alloc, disk) else {
         return Err(Fail::new("no replica"));
-    };
-    let request = Request {
-        line,
-        filter,
-        settings,
-        at,
-        zone: &zone,
-        input: Input::new(input.as_bytes().to_vec(alloc)?),
     };
     match decide(alloc, &request, ids, replica)? {
         Ok(Ready { prepared, text }) => match prepared.write(disk) {
@@ -129,7 +128,43 @@ fn decided_with(
     }
 }
 
-// Carries a line of words out, and gives what it prints, or the name of its refusal.
+// Why a line does nothing, or none.
+fn refusal(
+    alloc: Global,
+    line: &str,
+    input: &str,
+    ids: &mut IdWords,
+    disk: &mut MemoryDisk,
+) -> Result<Option<Refusal>, Fail> {
+    Ok(decided(alloc, line, input, NOW, ids, disk)?.err())
+}
+
+fn told(alloc: Global, refusal: Refusal) -> Result<String, Fail> {
+    match refusal {
+        Refusal::NoMatch => Ok(String::from_str(alloc, "NoMatch")?),
+        Refusal::BadInput { index, name } => {
+            Ok(format!(in alloc; "element {}: {}", index, name.as_str())?)
+        }
+        _ => Ok(String::from_str(alloc, "another refusal")?),
+    }
+}
+
+// Carries a line of words with an input out, and gives what it prints, or tells why it does nothing.
+fn carried_with(
+    alloc: Global,
+    line: &str,
+    input: &str,
+    second: u64,
+    ids: &mut IdWords,
+    disk: &mut MemoryDisk,
+) -> Result<String, Fail> {
+    match decided(alloc, line, input, second, ids, disk)? {
+        Ok(text) => Ok(String::from_utf8(text).ok().ok_or("no text")?),
+        Err(refusal) => told(alloc, refusal),
+    }
+}
+
+// The same without an input.
 fn carried(
     alloc: Global,
     line: &str,
@@ -137,27 +172,7 @@ fn carried(
     ids: &mut IdWords,
     disk: &mut MemoryDisk,
 ) -> Result<String, Fail> {
-    match decided(alloc, line, second, ids, disk)? {
-        Ok(text) => Ok(String::from_utf8(text).ok().ok_or("no text")?),
-        Err(refusal) => Ok(format!(in alloc; "{:?}", refusal)?),
-    }
-}
-
-// Carries each line out, and compares what it prints.
-fn compare_all(
-    alloc: Global,
-    ids: &mut IdWords,
-    disk: &mut MemoryDisk,
-    rows: &[(&str, &str)],
-) -> Result<(), Fail> {
-    for (line, wanted) in rows {
-        let printed = carried(alloc, line, NOW, ids, disk)?;
-        if printed.as_str() != *wanted {
-            let told = format!(in alloc; "{}: {}", line, printed)?;
-            return Err(Fail::new(told.as_str()));
-        }
-    }
-    Ok(())
+    carried_with(alloc, line, "", second, ids, disk)
 }
 
 const BOUGHT: &str =
@@ -195,32 +210,42 @@ fn each_command_has_its_text(rt: HostRuntime) -> Result<(), Fail> {
     let alloc = rt.alloc();
     let mut disk = empty_disk(alloc)?;
     let mut ids = ids_from(1);
-    compare_all(alloc, &mut ids, &mut disk, &DAY)?;
+    for (line, wanted) in DAY {
+        let printed = carried(alloc, line, NOW, &mut ids, &mut disk)?;
+        assert_eq!(rt; printed.as_str(), wanted, "{line}");
+    }
     // one for each task that was made
     assert_eq!(rt; ids.start, 6);
     Ok(())
 }
 
+// Adds tasks, that of number N with the identifier N, from 1.
+fn with_adds(alloc: Global, lines: &[&str]) -> Result<MemoryDisk, Fail> {
+    let mut disk = empty_disk(alloc)?;
+    let mut ids = ids_from(1);
+    for line in lines {
+        let _ = carried(alloc, line, NOW, &mut ids, &mut disk)?;
+    }
+    Ok(disk)
+}
+
+// Lines, the start and the step of the identifiers, the number that is taken, and the start that is left.
+const TAKEN: [(&str, u128, u128, u128, u128); 4] = [
+    ("log c", 2, 1, 2, 3),
+    ("1 2 duplicate", 1, 1, 1, 2),
+    ("1 2 duplicate", 0, 1, 1, 2),
+    ("1 2 duplicate", 9, 0, 9, 9),
+];
+
 #[test]
 fn a_uuid_that_is_taken_is_told(rt: HostRuntime) -> Result<(), Fail> {
     let alloc = rt.alloc();
-    let mut disk = empty_disk(alloc)?;
-    let _ = carried(alloc, "add a", NOW, &mut ids_from(1), &mut disk)?;
-    let _ = carried(alloc, "add b", NOW, &mut ids_from(2), &mut disk)?;
-    // the start and the step of the identifiers, the number that is taken, and the start that is left
-    let rows = [
-        ("log c", (2, 1), 2, 3),
-        ("1 2 duplicate", (1, 1), 1, 2),
-        ("1 2 duplicate", (0, 1), 1, 2),
-        ("1 2 duplicate", (9, 0), 9, 9),
-    ];
-    for (line, (start, step), taken, left) in rows {
+    let mut disk = with_adds(alloc, &["add a", "add b"])?;
+    for (line, start, step, taken, left) in TAKEN {
         let mut ids = IdWords { start, step };
         let uuid = uuid_of(taken);
-        match decided(alloc, line, NOW, &mut ids, &mut disk)? {
-            Err(refusal) => assert_eq!(rt; refusal, Refusal::IdTaken { uuid }),
-            Ok(_) => return Err(Fail::new(line)),
-        }
+        let refusal = refusal(alloc, line, "", &mut ids, &mut disk)?;
+        assert!(rt; refusal == Some(Refusal::IdTaken { uuid }), "{line}");
         assert_eq!(rt; ids.start, left);
     }
     Ok(())
@@ -229,29 +254,28 @@ fn a_uuid_that_is_taken_is_told(rt: HostRuntime) -> Result<(), Fail> {
 #[test]
 fn what_changes_nothing_writes_no_record(rt: HostRuntime) -> Result<(), Fail> {
     let alloc = rt.alloc();
-    let mut disk = empty_disk(alloc)?;
-    let mut ids = ids_from(1);
-    let _ = carried(alloc, "add a project:Home", NOW, &mut ids, &mut disk)?;
+    let mut disk = with_adds(alloc, &["add a project:Home"])?;
     let before = disk.bytes().len();
-    let lines = ["1 modify project:Home", "1 modify -flat", "count", "ids"];
-    for line in lines {
-        let _ = carried(alloc, line, NOW + 1, &mut ids, &mut disk)?;
+    for line in ["1 modify project:Home", "1 modify -flat", "count", "ids"] {
+        let _ = carried(alloc, line, NOW + 1, &mut ids_from(2), &mut disk)?;
         assert_eq!(rt; disk.bytes().len(), before);
     }
     Ok(())
 }
 
+// How long the description of the first task is.
+fn description_len(alloc: Global, disk: &mut MemoryDisk) -> Result<usize, Fail> {
+    let replica = opened(alloc, disk)?;
+    let task = replica.tasks().get(uuid_of(1)).ok_or("no task")?;
+    Ok(task.get("description").ok_or("no description")?.len())
+}
+
 #[test]
 fn a_line_of_a_hundred_words_is_one_description(rt: HostRuntime) -> Result<(), Fail> {
     let alloc = rt.alloc();
-    let mut disk = empty_disk(alloc)?;
-    let mut ids = ids_from(1);
     let words = "w ".repeat(alloc, 98)?;
     let line = format!(in alloc; "add {}w", words)?;
-    let _ = carried(alloc, line.as_str(), NOW, &mut ids, &mut disk)?;
-    let replica = opened(alloc, &mut disk)?;
-    let task = replica.tasks().get(uuid_of(1)).ok_or("no task")?;
-    let description = task.get("description").ok_or("no description")?;
-    assert_eq!(rt; description.len(), 2 * 98 + 1);
+    let mut disk = with_adds(alloc, &[line.as_str()])?;
+    assert_eq!(rt; description_len(alloc, &mut disk)?, 2 * 98 + 1);
     Ok(())
 }

@@ -45,36 +45,3 @@ pub fn open_disk<S: Folders>(
     }
     Ok(disk)
 }
-
-#[cfg(test)]
-mod tests {
-    use super::*;
-    use std::fs;
-    use std::test::Fail;
-    use tw_world::Disk;
-
-    #[test]
-    fn a_file_is_made_with_its_folders_and_used_by_one_at_a_time(
-        rt: HostRuntime,
-    ) -> Result<(), Fail> {
-        let mut system = &rt;
-        for path in ["a.journal", "two/deep/a.journal"] {
-            let _ = fs::remove_file(&rt, path);
-            let mut disk = open_disk(&mut system, path, Busy::Wait)?;
-            assert_eq!(rt; disk.size(), Ok(0));
-            assert_eq!(rt; disk.set_len(3), Ok(()));
-            assert_eq!(rt; disk.write_at(0, b"abc"), Ok(()));
-            match open_disk(&mut system, path, Busy::Fail) {
-                Ok(_) => assert!(rt; false),
-                Err(error) => assert_eq!(rt; error.kind(), io::ErrorKind::WouldBlock),
-            }
-            drop(disk);
-            let mut again = open_disk(&mut system, path, Busy::Fail)?;
-            assert_eq!(rt; again.size(), Ok(3));
-            fs::remove_file(&rt, path)?;
-        }
-        fs::remove_dir(&rt, "two/deep")?;
-        fs::remove_dir(&rt, "two")?;
-        Ok(())
-    }
-}

@@ -4,7 +4,8 @@ mod modifiers;
 use std::alloc::Global;
 use std::test::Fail;
 use tw_filter::{
-    Filter, FilterError, Looks, View, chosen_of, number_in, read_filter, select, uuid_of_36,
+    BadWord, Filter, FilterError, Looks, View, WordKind, chosen_of, number_in, read_filter, select,
+    uuid_of_36,
 };
 use tw_model::{TaskMap, Tasks};
 use tw_time::Zone;
@@ -148,13 +149,13 @@ fn are_names(words: &Vec<String>, plain: u64) -> bool {
     !words.is_empty() && words.len() as u64 <= plain
 }
 
-// The last digits of the tasks that are selected, each of which is held alone too. Words that only name tasks look at no others.
-fn digits_of(
+// The tasks that are selected. Words that only name tasks look at no others.
+fn selected(
     alloc: Global,
     filter: &Filter,
     names_alone: bool,
     view: &View<'_>,
-) -> Result<String, Fail> {
+) -> Result<Vec<Uuid>, Fail> {
     let mut looks = Looks::new();
     let uuids = select(alloc, filter, view, &mut looks)?;
     let looked = if names_alone {
@@ -165,6 +166,17 @@ fn digits_of(
     if looks.taken() != looked {
         return Err("another count of looks")?;
     }
+    Ok(uuids)
+}
+
+// The last digits of the tasks that are selected, each of which is held alone too.
+fn digits_of(
+    alloc: Global,
+    filter: &Filter,
+    names_alone: bool,
+    view: &View<'_>,
+) -> Result<String, Fail> {
+    let uuids = selected(alloc, filter, names_alone, view)?;
     let chosen = chosen_of(alloc, &uuids)?;
     let mut digits = String::new(alloc);
     for (number, _) in TASKS {
@@ -177,6 +189,19 @@ fn digits_of(
         }
     }
     Ok(digits)
+}
+
+fn fault_of(alloc: Global, bad: BadWord) -> Result<String, Fail> {
+    let kind = match bad.kind {
+        WordKind::Value => "Value",
+        WordKind::Date => "Date",
+        WordKind::Modifier => "Modifier",
+        WordKind::Attribute => "Attribute",
+        WordKind::Bracket => "Bracket",
+        WordKind::End => "End",
+        _ => "another kind",
+    };
+    Ok(format!(in alloc; "{kind} {}", bad.word)?)
 }
 
 // What words select, or the kind and the number of the first bad one.
@@ -196,7 +221,7 @@ fn answer_to(
         view.zone,
     ) {
         Ok(filter) => digits_of(alloc, &filter, are_names(words, plain), view),
-        Err(FilterError::Bad(bad)) => Ok(format!(in alloc; "{:?} {}", bad.kind, bad.word)?),
+        Err(FilterError::Bad(bad)) => fault_of(alloc, bad),
         Err(FilterError::Memory) => Err("no memory")?,
     }
 }
@@ -249,9 +274,21 @@ fn nested(alloc: Global, depth: u64) -> Result<Vec<String>, Memory> {
     Ok(words)
 }
 
-#[test]
-fn ten_thousand_words_and_a_hundred_brackets_are_read(rt: HostRuntime) -> Result<(), Fail> {
-    let alloc = rt.alloc();
+// Words of five thousand tasks that are not blocked, and these behind them.
+fn many(alloc: Global, behind: &[&str]) -> Result<Vec<String>, Memory> {
+    let mut words = Vec::new(alloc);
+    for _ in 0..5_000 {
+        for word in ["!", "+BLOCKED"] {
+            words.push(String::from_str(alloc, word)?)?;
+        }
+    }
+    for word in behind {
+        words.push(String::from_str(alloc, word)?)?;
+    }
+    Ok(words)
+}
+
+fn answer_in_utc(alloc: Global, words: &Vec<String>) -> Result<String, Fail> {
     let tasks = made_tasks(alloc)?;
     let numbers = made_places(alloc)?;
     let view = View {
@@ -260,27 +297,19 @@ fn ten_thousand_words_and_a_hundred_brackets_are_read(rt: HostRuntime) -> Result
         now: now(),
         zone: &Zone::utc(),
     };
-    let mut words = Vec::new(alloc);
-    for _ in 0..5_000 {
-        words.push(String::from_str(alloc, "!")?)?;
-        words.push(String::from_str(alloc, "+BLOCKED")?)?;
+    answer_to(alloc, words, words.len() as u64, &view)
+}
+
+#[test]
+fn ten_thousand_words_and_a_hundred_brackets_are_read(rt: HostRuntime) -> Result<(), Fail> {
+    let alloc = rt.alloc();
+    for (behind, want) in [([].as_slice(), "1234579"), (&["or"], "End 10001")] {
+        let words = many(alloc, behind)?;
+        assert_eq!(rt; answer_in_utc(alloc, &words)?.as_str(), want);
     }
-    assert_eq!(rt;
-        answer_to(alloc, &words, 10_000, &view)?.as_str(),
-        "1234579"
-    );
-    words.push(String::from_str(alloc, "or")?)?;
-    assert_eq!(rt;
-        answer_to(alloc, &words, 10_001, &view)?.as_str(),
-        "End 10001"
-    );
     for (depth, want) in [(1, "3"), (100, "3"), (101, "Bracket 100")] {
         let words = nested(alloc, depth)?;
-        assert_eq!(rt;
-            answer_to(alloc, &words, 1_000, &view)?.as_str(),
-            want,
-            "at {depth}"
-        );
+        assert_eq!(rt; answer_in_utc(alloc, &words)?.as_str(), want, "at {depth}");
     }
     Ok(())
 }

@@ -1,50 +1,31 @@
 // Command lines one after another over one store.
 
-use crate::machine::{Given, drawn, held, link, machine, run_given};
+use crate::machine::{Given, has_property, machine, run_alone};
 use std::alloc::Global;
 use std::process::Abort;
 use std::test::Fail;
 use tw_time::Zone;
-use tw_world::MemoryDisk;
 
 const SECOND: u64 = 1_700_000_000;
 
-// Runs a line with identifiers from `first` on, and compares its status, and what it prints or, where it fails, tells.
-fn check(
-    rt: &impl Abort,
-    alloc: Global,
-    first: u128,
-    row: (&str, u8, &str),
-    disk: &mut MemoryDisk,
-) -> Result<(), Fail> {
-    let (line, status, text) = row;
-    let mut none = link(alloc, Vec::new(alloc))?;
-    let given = Given::new(first, SECOND);
-    let ended = run_given(alloc, &given, line, disk, &mut none, &[])?;
-    let wanted = format!(in alloc; "{}\n", text)?;
-    assert_eq!(rt; ended.outcome.status, status, "{line}");
-    if status == 0 {
-        assert_eq!(rt; ended.out.bytes(), wanted.as_bytes(), "{line}");
-        assert_eq!(rt; ended.err.bytes(), b"".as_slice(), "{line}");
-    } else {
-        assert_eq!(rt; ended.out.bytes(), b"".as_slice(), "{line}");
-        assert_eq!(rt; ended.err.bytes(), wanted.as_bytes(), "{line}");
-    }
-    Ok(())
-}
+// A line, its status, and what it prints or, where it fails, tells.
+type Row = (&'static str, u8, &'static str);
 
 // Runs lines over one store, that of number N with identifiers from N on, from 1.
-fn follow(rt: &impl Abort, alloc: Global, rows: &[(&str, u8, &str)]) -> Result<(), Fail> {
+fn follow(rt: &impl Abort, alloc: Global, rows: &[Row]) -> Result<(), Fail> {
     let mut disk = machine(alloc)?;
     let mut first: u128 = 1;
-    for row in rows {
-        check(rt, alloc, first, *row, &mut disk)?;
+    for (line, status, text) in rows {
+        let ended = run_alone(alloc, &Given::new(first, SECOND), line, &mut disk)?;
+        let wanted = format!(in alloc; "{text}\n")?;
+        assert_eq!(rt; ended.outcome.status, *status, "{line}");
+        assert!(rt; ended.said() == Some(wanted.as_bytes()), "{line}");
         first = u128::saturating_add(first, 1);
     }
     Ok(())
 }
 
-const ANNOTATED: [(&str, u8, &str); 12] = [
+const ANNOTATED: [Row; 12] = [
     ("add|Buy|milk", 0, "Created task 1."),
     ("1|annotate|one", 0, "Annotated 1 task."),
     ("1|annotate|two", 0, "Annotated 1 task."),
@@ -68,7 +49,7 @@ const ANNOTATED: [(&str, u8, &str); 12] = [
 ];
 
 // At the end the line number 15 draws 15 and 16, and the next one 16 once more.
-const FILTERED: [(&str, u8, &str); 17] = [
+const FILTERED: [Row; 17] = [
     ("add|a|project:a.b", 0, "Created task 1."),
     ("project:a|count", 0, "1"),
     ("project.is:a|count", 0, "0"),
@@ -97,7 +78,7 @@ const FILTERED: [(&str, u8, &str); 17] = [
 ];
 
 // After an undo the tasks that are open again stand behind all numbers that were given.
-const LIVED: [(&str, u8, &str); 21] = [
+const LIVED: [Row; 21] = [
     ("add|Buy|milk|+shop|project:Home", 0, "Created task 1."),
     ("log|Sleep", 0, "Logged task."),
     ("1|append|and|bread", 0, "Modified 1 task."),
@@ -122,7 +103,7 @@ const LIVED: [(&str, u8, &str); 21] = [
 ];
 
 // The second task has a tag of the words alone, the fifth an urgency of 15 + 6 + 1 + 0.8, and the sixth waits.
-const EXPORTED: [(&str, u8, &str); 9] = [
+const EXPORTED: [Row; 9] = [
     ("add|Buy|due:eom", 0, "Created task 1."),
     ("add|+shop|Buy", 0, "Created task 2."),
     ("add|Buy|-shop", 0, "Created task 3."),
@@ -147,7 +128,7 @@ const EXPORTED: [(&str, u8, &str); 9] = [
 ];
 
 // A dependency that closes a circle is refused, and nothing is changed.
-const CIRCLED: [(&str, u8, &str); 9] = [
+const CIRCLED: [Row; 9] = [
     ("add|a", 0, "Created task 1."),
     ("add|b", 0, "Created task 2."),
     ("2|modify|depends:1", 0, "Modified 1 task."),
@@ -164,7 +145,7 @@ const CIRCLED: [(&str, u8, &str); 9] = [
 ];
 
 // A report packs the numbers, and names tasks in its words by those from before.
-const REPORTED: [(&str, u8, &str); 10] = [
+const REPORTED: [Row; 10] = [
     ("list", 1, "task: no matches"),
     ("add|Buy|milk", 0, "Created task 1."),
     (
@@ -189,35 +170,37 @@ const REPORTED: [(&str, u8, &str); 10] = [
     ("2|list", 1, "task: no matches"),
 ];
 
+// A task is counted and exported until it is undone, and its number is not given once more.
+const COUNTED: [Row; 7] = [
+    ("add|Buy|milk", 0, "Created task 1."),
+    ("count", 0, "1"),
+    (
+        "export",
+        0,
+        "[\n{\"description\":\"Buy milk\",\"entry\":\"20231114T221320Z\",\"modified\":\"20231114T221320Z\",\"status\":\"pending\",\"urgency\":0.000,\"uuid\":\"00000000-0000-4000-8000-000000000001\"}\n]",
+    ),
+    ("undo", 0, "Undone 5 operations."),
+    ("count", 0, "0"),
+    ("export", 0, "[\n]"),
+    ("add|Buy|tea", 0, "Created task 2."),
+];
+
 #[test]
 fn commands_follow_each_other(rt: HostRuntime) -> Result<(), Fail> {
     let alloc = rt.alloc();
-    follow(&rt, alloc, &ANNOTATED)?;
-    follow(&rt, alloc, &FILTERED)?;
-    follow(&rt, alloc, &LIVED)?;
-    follow(&rt, alloc, &EXPORTED)?;
-    follow(&rt, alloc, &CIRCLED)?;
-    follow(&rt, alloc, &REPORTED)
-}
-
-// Runs a line that is carried out.
-fn done(
-    rt: &impl Abort,
-    alloc: Global,
-    given: &Given<'_>,
-    line: &str,
-    disk: &mut MemoryDisk,
-) -> Result<(), Fail> {
-    let mut none = link(alloc, Vec::new(alloc))?;
-    let ended = run_given(alloc, given, line, disk, &mut none, &[])?;
-    assert_eq!(rt; ended.outcome.status, 0, "{line}");
+    let tables = [
+        ANNOTATED.as_slice(),
+        &FILTERED,
+        &LIVED,
+        &EXPORTED,
+        &CIRCLED,
+        &REPORTED,
+        &COUNTED,
+    ];
+    for rows in tables {
+        follow(&rt, alloc, rows)?;
+    }
     Ok(())
-}
-
-// A property of the first task of a store, or `none`.
-fn stored(alloc: Global, disk: &mut MemoryDisk, property: &str) -> Result<String, Fail> {
-    let task = held(alloc, disk, drawn(1))?.ok_or("no task")?;
-    Ok(String::from_str(alloc, task.get(property).unwrap_or("none"))?)
 }
 
 // A zone, and words for moments at 2026-03-04T10:00:00Z, a Wednesday, and the moment that a task has then.
@@ -235,19 +218,19 @@ const MOMENTS: [(&str, &str, &str); 11] = [
     ("EST5EDT,M3.2.0,M11.1.0", "add|x|due:tomorrow", "1772686800"),
 ];
 
+// Whether a line that is carried out in a zone gives its task this due moment.
+fn is_due(alloc: Global, rule: &str, line: &str, value: &str) -> Result<bool, Fail> {
+    let mut given = Given::new(1, 1_772_618_400);
+    given.zone = Zone::read(rule).or(Err("no zone"))?;
+    let mut disk = machine(alloc)?;
+    let ended = run_alone(alloc, &given, line, &mut disk)?;
+    Ok(ended.outcome.status == 0 && has_property(alloc, &mut disk, "due", value)?)
+}
+
 #[test]
 fn a_moment_is_stored(rt: HostRuntime) -> Result<(), Fail> {
-    let alloc = rt.alloc();
     for (rule, line, value) in MOMENTS {
-        let Ok(zone) = Zone::read(rule) else {
-            return Err(Fail::new("no zone"));
-        };
-        let mut given = Given::new(1, 1_772_618_400);
-        given.zone = zone;
-        let mut disk = machine(alloc)?;
-        done(&rt, alloc, &given, line, &mut disk)?;
-        let due = stored(alloc, &mut disk, "due")?;
-        assert_eq!(rt; due.as_str(), value, "{line}");
+        assert!(rt; is_due(rt.alloc(), rule, line, value)?, "{line}");
     }
     Ok(())
 }

@@ -1,23 +1,15 @@
 // Runs of command lines over damaged stores.
 
-use crate::machine::{link, run_from};
+use crate::machine::{Given, disk_of, run_alone};
 use std::alloc::Global;
 use std::test::Fail;
 use tw_cli::Cause;
-use tw_world::MemoryDisk;
 
 const SECOND: u64 = 1_700_000_000;
 
 // Where the form and the two records of a store of two added tasks begin, by the format of the journal: the form has 29 bytes,
 // and the commit of a task `Buy milk` 250.
 const RECORDS: [u64; 3] = [0, 29, 279];
-
-fn disk_of(alloc: Global, bytes: Vec<u8>) -> Result<MemoryDisk, Fail> {
-    if bytes.len() >= 1 << 20 {
-        return Err(Fail::new("a store of two tasks is small"));
-    }
-    Ok(MemoryDisk::new(alloc, bytes, Vec::new(alloc))?)
-}
 
 // The damage of a store whose byte at this place is 255: at the record that has the byte. Where it is the last byte of the slot that
 // counts, the records begin at 255: there the value of a property of the first commit reads as a record, `pending`, which is no step.
@@ -37,33 +29,38 @@ fn damage_at(place: u64) -> u64 {
     }
 }
 
+// A store of two added tasks.
+fn two_tasks(alloc: Global) -> Result<Vec<u8>, Fail> {
+    let mut disk = disk_of(alloc, &[], &[])?;
+    for first in [1, 2] {
+        let _ = run_alone(alloc, &Given::new(first, SECOND), "add|Buy|milk", &mut disk)?;
+    }
+    Ok(disk.bytes().to_vec(alloc)?)
+}
+
+// Counts the tasks of a store whose byte at this place is 255: where its damage is, or none where it holds both.
+fn damage_of(alloc: Global, whole: &[u8], place: usize) -> Result<Option<u64>, Fail> {
+    let mut bytes = whole.to_vec(alloc)?;
+    *bytes.get_mut(place).ok_or("no byte")? = 255;
+    let mut disk = disk_of(alloc, &bytes, &[])?;
+    let ended = run_alone(alloc, &Given::new(3, SECOND), "count", &mut disk)?;
+    match ended.outcome.cause {
+        Cause::Done if ended.out.bytes() == b"2\n".as_slice() => Ok(None),
+        Cause::Damaged { offset } => Ok(Some(offset)),
+        _ => Err(Fail::new("another cause")),
+    }
+}
+
 #[test]
 fn a_byte_of_255_is_damage_at_its_record_or_changes_no_task(rt: HostRuntime) -> Result<(), Fail> {
     let alloc = rt.alloc();
-    let mut line = link(alloc, Vec::new(alloc))?;
-    let mut whole = disk_of(alloc, Vec::new(alloc))?;
-    let _ = run_from(alloc, 1, "add|Buy|milk", SECOND, &mut whole, &mut line)?;
-    let _ = run_from(alloc, 2, "add|Buy|milk", SECOND, &mut whole, &mut line)?;
-    assert_eq!(rt; whole.bytes().len(), 529);
+    let whole = two_tasks(alloc)?;
+    assert_eq!(rt; whole.len(), 529);
     let mut taken: u64 = 0;
-    for place in 0..whole.bytes().len() {
-        let mut bytes = whole.bytes().to_vec(alloc)?;
-        if place < bytes.len() {
-            bytes[place] = 255;
-        }
-        let mut disk = disk_of(alloc, bytes)?;
-        let (outcome, out) = run_from(alloc, 3, "count", SECOND, &mut disk, &mut line)?;
-        match outcome.cause {
-            Cause::Done => {
-                assert_eq!(rt; out.bytes(), b"2\n".as_slice(), "byte {place}");
-                taken = u64::saturating_add(taken, 1);
-            }
-            Cause::Damaged { offset } => assert_eq!(rt;
-                offset,
-                damage_at(place as u64),
-                "byte {place}"
-            ),
-            _ => return Err(Fail::new("another cause")),
+    for place in 0..whole.len() {
+        match damage_of(alloc, &whole, place)? {
+            None => taken = u64::saturating_add(taken, 1),
+            Some(offset) => assert_eq!(rt; offset, damage_at(place as u64), "byte {place}"),
         }
     }
     // Of each of the eight moments seven bytes may be 255 and leave it in range: the last four of the seconds, and the last three

@@ -1,6 +1,6 @@
 // Imports over a store and an input in memory.
 
-use crate::machine::{Given, link, machine, run_given};
+use crate::machine::{Given, machine, run_alone};
 use std::test::Fail;
 
 const SECOND: u64 = 1_700_000_000;
@@ -44,19 +44,12 @@ fn an_input_is_imported_and_taken_back(rt: HostRuntime) -> Result<(), Fail> {
     let alloc = rt.alloc();
     let mut disk = machine(alloc)?;
     for (line, input, input_fails, status, text) in ROWS {
-        let mut none = link(alloc, Vec::new(alloc))?;
         let mut given = Given::new(1, SECOND);
         given.input = input;
         given.input_fails = input_fails;
-        let ended = run_given(alloc, &given, line, &mut disk, &mut none, &[])?;
+        let ended = run_alone(alloc, &given, line, &mut disk)?;
         assert_eq!(rt; ended.outcome.status, status, "{line}");
-        let (told, other) = if status == 0 {
-            (ended.out.bytes(), ended.err.bytes())
-        } else {
-            (ended.err.bytes(), ended.out.bytes())
-        };
-        assert_eq!(rt; told, text.as_bytes(), "{line}");
-        assert_eq!(rt; other, b"".as_slice(), "{line}");
+        assert!(rt; ended.said() == Some(text.as_bytes()), "{line}");
     }
     Ok(())
 }

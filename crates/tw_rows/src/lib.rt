@@ -19,3 +19,5 @@ mod merges;
 mod runs;
 #[cfg(test)]
 mod syncs;
+#[cfg(test)]
+mod world;

@@ -2,28 +2,32 @@
 
 use std::alloc::Global;
 use std::test::Fail;
-use tw_cli::{Outcome, task_run};
-use tw_model::TaskMap;
+use tw_cli::{Cause, Outcome, task_run};
 use tw_replica::Replica;
 use tw_server::{Fate, LinkStep, MemoryLink};
 use tw_time::Zone;
 use tw_world::{IdWords, MemoryDisk, MemorySink, MemorySource, Moment};
 use uuid::Uuid;
 
-const SETTINGS: &str = "sync.server.url=http://localhost:8080\n\
-    sync.server.client_id=1a2b3c4d-0001-4002-8003-00000000000f\n";
-
 const CLIENT: [u8; 16] = [
     0x1a, 0x2b, 0x3c, 0x4d, 0x00, 0x01, 0x40, 0x02, 0x80, 0x03, 0x00, 0x00, 0x00, 0x00, 0x00, 0x0f,
 ];
 
-/// A machine with an empty disk.
-pub fn machine(alloc: Global) -> Result<MemoryDisk, Fail> {
-    Ok(MemoryDisk::new(alloc, Vec::new(alloc), Vec::new(alloc))?)
+/// A disk with these bytes, whose calls with these numbers fail.
+pub fn disk_of(alloc: Global, bytes: &[u8], fails: &[u64]) -> Result<MemoryDisk, Fail> {
+    if bytes.len() >= 1 << 20 {
+        return Err(Fail::new("a long store"));
+    }
+    Ok(MemoryDisk::new(alloc, bytes.to_vec(alloc)?, fails.to_vec(alloc)?)?)
 }
 
-/// A link of the user's client, over which this happens.
-pub fn link(alloc: Global, script: Vec<LinkStep>) -> Result<MemoryLink, Fail> {
+/// A machine with an empty disk.
+pub fn machine(alloc: Global) -> Result<MemoryDisk, Fail> {
+    disk_of(alloc, &[], &[])
+}
+
+// A link of the user's client, over which this happens.
+fn link(alloc: Global, script: Vec<LinkStep>) -> Result<MemoryLink, Fail> {
     if !MemoryLink::takes(&script) {
         return Err(Fail::new("a segment of others is too long"));
     }
@@ -31,8 +35,9 @@ pub fn link(alloc: Global, script: Vec<LinkStep>) -> Result<MemoryLink, Fail> {
     Ok(MemoryLink::new(alloc, Uuid::from_bytes(CLIENT), ids, script)?)
 }
 
-/// An exchange before which others add these segments, and that ends so.
-pub fn step(alloc: Global, others: &[&str], fate: Fate) -> Result<LinkStep, Fail> {
+// An exchange before which others add these segments, and that ends so.
+fn step(alloc: Global, exchange: &Exchange) -> Result<LinkStep, Fail> {
+    let (others, fate) = *exchange;
     let mut segments = Vec::new(alloc);
     for segment in others {
         segments.push(segment.as_bytes().to_vec(alloc)?)?;
@@ -43,8 +48,20 @@ pub fn step(alloc: Global, others: &[&str], fate: Fate) -> Result<LinkStep, Fail
     })
 }
 
-/// A moment of so many seconds.
-pub fn moment(seconds: u64) -> Result<Moment, Fail> {
+/// What others add before an exchange, and what becomes of it.
+pub type Exchange = (&'static [&'static str], Fate);
+
+/// A link over which these exchanges happen, and then others that arrive.
+pub fn link_over(alloc: Global, exchanges: &[Exchange]) -> Result<MemoryLink, Fail> {
+    let mut script = Vec::new(alloc);
+    for exchange in exchanges {
+        script.push(step(alloc, exchange)?)?;
+    }
+    link(alloc, script)
+}
+
+// A moment of so many seconds.
+fn moment(seconds: u64) -> Result<Moment, Fail> {
     match Moment::new(seconds, 0) {
         Some(moment) => Ok(moment),
         None => Err(Fail::new("no moment")),
@@ -86,6 +103,40 @@ pub struct Ended {
     pub err: MemorySink,
 }
 
+impl Ended {
+    /// Whether it ended with this status, by this cause.
+    pub fn is(&self, status: u8, cause: &Cause) -> bool {
+        self.outcome.status == status && self.outcome.cause == *cause
+    }
+
+    /// What it printed, or where it did not end well what it told, if the other stream got nothing.
+    pub fn said(&self) -> Option<&[u8]> {
+        let (said, other) = if self.outcome.status == 0 {
+            (self.out.bytes(), self.err.bytes())
+        } else {
+            (self.err.bytes(), self.out.bytes())
+        };
+        if other.is_empty() { Some(said) } else { None }
+    }
+}
+
+fn words_of(alloc: Global, line: &str) -> Result<Vec<String>, Fail> {
+    let mut words = Vec::new(alloc);
+    for word in line.split('|') {
+        words.push(String::from_str(alloc, word)?)?;
+    }
+    Ok(words)
+}
+
+fn source_of(alloc: Global, given: &Given<'_>) -> Result<MemorySource, Fail> {
+    let content = given.input.as_bytes().to_vec(alloc)?;
+    Ok(MemorySource::new(alloc, content, given.input_fails.to_vec(alloc)?)?)
+}
+
+fn sink_of(alloc: Global, fails: &[u64]) -> Result<MemorySink, Fail> {
+    Ok(MemorySink::new(alloc, Vec::new(alloc), fails.to_vec(alloc)?)?)
+}
+
 /// Runs a line of words that are parted by bars, over an output whose calls with these numbers fail.
 pub fn run_given(
     alloc: Global,
@@ -95,20 +146,16 @@ pub fn run_given(
     link: &mut MemoryLink,
     out_fails: &[u64],
 ) -> Result<Ended, Fail> {
-    let mut words = Vec::new(alloc);
-    for word in line.split('|') {
-        words.push(String::from_str(alloc, word)?)?;
-    }
+    let now = moment(given.second)?;
+    let words = words_of(alloc, line)?;
     let settings = given.settings.as_bytes().to_vec(alloc)?;
+    let mut input = source_of(alloc, given)?;
+    let mut out = sink_of(alloc, out_fails)?;
+    let mut err = sink_of(alloc, &[])?;
     let mut ids = IdWords {
         start: given.first,
         step: 1,
     };
-    let content = given.input.as_bytes().to_vec(alloc)?;
-    let mut input = MemorySource::new(alloc, content, given.input_fails.to_vec(alloc)?)?;
-    let mut out = MemorySink::new(alloc, Vec::new(alloc), out_fails.to_vec(alloc)?)?;
-    let mut err = MemorySink::new(alloc, Vec::new(alloc), Vec::new(alloc))?;
-    let now = moment(given.second)?;
     let outcome = task_run(
         alloc,
         &words,
@@ -125,45 +172,36 @@ pub fn run_given(
     Ok(Ended { outcome, out, err })
 }
 
-/// Runs a line as `run_from` does, with identifiers from 1 on.
-pub fn run(
+/// The same over a link and an output that do not fail.
+pub fn run_alone(
     alloc: Global,
+    given: &Given<'_>,
     line: &str,
-    second: u64,
     disk: &mut MemoryDisk,
-    link: &mut MemoryLink,
-) -> Result<(Outcome, MemorySink), Fail> {
-    run_from(alloc, 1, line, second, disk, link)
+) -> Result<Ended, Fail> {
+    let mut none = link_over(alloc, &[])?;
+    run_given(alloc, given, line, disk, &mut none, &[])
 }
 
-/// Runs a line of words that are parted by bars at this second, with identifiers from `first` on and a server set, and answers how
-/// it ended and what it printed.
-pub fn run_from(
+/// Whether the first task is on a machine.
+pub fn is_held(alloc: Global, disk: &mut MemoryDisk) -> Result<bool, Fail> {
+    let replica = Replica::open(alloc, disk).or(Err("not opened"))?;
+    Ok(replica.tasks().get(first_task()).is_some())
+}
+
+/// Whether the first task of a machine has this property.
+pub fn has_property(
     alloc: Global,
-    first: u128,
-    line: &str,
-    second: u64,
     disk: &mut MemoryDisk,
-    link: &mut MemoryLink,
-) -> Result<(Outcome, MemorySink), Fail> {
-    let mut given = Given::new(first, second);
-    given.settings = SETTINGS;
-    let ended = run_given(alloc, &given, line, disk, link, &[])?;
-    Ok((ended.outcome, ended.out))
+    property: &str,
+    want: &str,
+) -> Result<bool, Fail> {
+    let replica = Replica::open(alloc, disk).or(Err("not opened"))?;
+    let task = replica.tasks().get(first_task()).ok_or("no task")?;
+    Ok(task.get(property) == Some(want))
 }
 
-/// The task of a uuid on a machine.
-pub fn held(alloc: Global, disk: &mut MemoryDisk, uuid: Uuid) -> Result<Option<TaskMap>, Fail> {
-    let Ok(replica) = Replica::open(alloc, disk) else {
-        return Err(Fail::new("not opened"));
-    };
-    match replica.tasks().get(uuid) {
-        Some(task) => Ok(Some(task.copy(alloc)?)),
-        None => Ok(None),
-    }
-}
-
-/// The uuid that an identifier draws.
-pub fn drawn(number: u8) -> Uuid {
-    Uuid::from_bytes([0, 0, 0, 0, 0, 0, 0x40, 0, 0x80, 0, 0, 0, 0, 0, 0, number])
+// The uuid that the identifier 1 draws.
+fn first_task() -> Uuid {
+    Uuid::from_bytes([0, 0, 0, 0, 0, 0, 0x40, 0, 0x80, 0, 0, 0, 0, 0, 0, 1])
 }

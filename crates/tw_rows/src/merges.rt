@@ -1,192 +1,158 @@
 // Changes of one task on two machines.
 
-use crate::machine::{drawn, held, link, machine, run, step};
-use std::alloc::Global;
-use std::process::Abort;
+use crate::machine::is_held;
+use crate::world::{On, Row, Then, World};
 use std::test::Fail;
-use tw_server::{Fate, MemoryLink};
-use tw_world::MemoryDisk;
+use tw_server::Fate;
 
 const CREATE: &str =
     "{\"operations\":[{\"Create\":{\"uuid\":\"00000000-0000-4000-8000-000000000001\"}}]}";
 
-// Runs a line on a machine at this second, which prints this.
-fn runs(
-    rt: &impl Abort,
-    alloc: Global,
-    line: &str,
-    second: u64,
-    disk: &mut MemoryDisk,
-    link: &mut MemoryLink,
-    printed: &str,
-) -> Result<(), Fail> {
-    let (_, out) = run(alloc, line, second, disk, link)?;
-    assert_eq!(rt; out.bytes(), printed.as_bytes(), "{line}");
-    Ok(())
-}
+const PURGE: &str = "00000000-0000-4000-8000-000000000001|purge";
 
-// Syncs a machine, which prints so many versions pulled, and operations dropped and pushed.
-fn syncs(
-    rt: &impl Abort,
-    alloc: Global,
-    disk: &mut MemoryDisk,
-    link: &mut MemoryLink,
-    numbers: (u64, u64, u64),
-) -> Result<(), Fail> {
-    let (pulled, dropped, pushed) = numbers;
-    let printed = format!(in alloc;
-        "Synced: {pulled} pulled, {dropped} dropped, {pushed} pushed.\n"
-    )?;
-    runs(rt, alloc, "sync", 1_000, disk, link, printed.as_str())
-}
+const MODIFY: &str = "00000000-0000-4000-8000-000000000001|modify|project:X";
+
+const ADDED: Then = Then::Prints("Created task 1.\n");
+
+const MODIFIED: Then = Then::Prints("Modified 1 task.\n");
+
+const DELETED: Then = Then::Prints("Deleted 1 task.\n");
+
+const PURGED: Then = Then::Prints("Purged 1 task.\n");
+
+// What a sync prints that pulls one version and pushes nothing.
+const PULLED: Then = Then::Prints("Synced: 1 pulled, 0 dropped, 0 pushed.\n");
+
+const NOTHING: Then = Then::Prints("Synced: 0 pulled, 0 dropped, 0 pushed.\n");
+
+const TWO_PUSHED: Then = Then::Prints("Synced: 0 pulled, 0 dropped, 2 pushed.\n");
+
+const TWO_DROPPED: Then = Then::Prints("Synced: 1 pulled, 2 dropped, 0 pushed.\n");
 
 // Two machines that hold the first task, of second 10.
-fn pair(
-    rt: &impl Abort,
-    alloc: Global,
-    line: &mut MemoryLink,
-) -> Result<(MemoryDisk, MemoryDisk), Fail> {
-    let mut desk = machine(alloc)?;
-    let mut lap = machine(alloc)?;
-    let _ = run(alloc, "add|Buy|milk", 10, &mut desk, line)?;
-    syncs(rt, alloc, &mut desk, line, (0, 0, 5))?;
-    syncs(rt, alloc, &mut lap, line, (1, 0, 0))?;
-    Ok((desk, lap))
+const PAIR: [Row; 3] = [
+    (On::Desk, 10, "add|Buy|milk", ADDED),
+    (
+        On::Desk,
+        1_000,
+        "sync",
+        Then::Prints("Synced: 0 pulled, 0 dropped, 5 pushed.\n"),
+    ),
+    (On::Lap, 1_000, "sync", PULLED),
+];
+
+// The desk sets a project at second 100 and syncs first.
+fn both_modify(lap_second: u64, lap_syncs: Then, desk_syncs: Then) -> [Row; 5] {
+    [
+        (On::Desk, 100, "1|modify|project:Home", MODIFIED),
+        (On::Lap, lap_second, "1|modify|project:Work", MODIFIED),
+        (On::Desk, 1_000, "sync", TWO_PUSHED),
+        (On::Lap, 1_000, "sync", lap_syncs),
+        (On::Desk, 1_000, "sync", desk_syncs),
+    ]
 }
 
-// The desk sets a project at second 100 and syncs first. Each row is the lap's second, what its sync prints, and the project
-// that both hold.
+// Each row is the lap's second, what its sync prints and then that of the desk, and the project that both hold.
 #[test]
 fn the_later_change_of_a_property_stays(rt: HostRuntime) -> Result<(), Fail> {
-    let alloc = rt.alloc();
+    let pushed = Then::Prints("Synced: 1 pulled, 0 dropped, 2 pushed.\n");
     let table = [
-        (200, (1, 0, 2), "Work"),
-        (50, (1, 2, 0), "Home"),
-        (100, (1, 2, 0), "Home"),
+        (200, pushed, PULLED, "Work"),
+        (50, TWO_DROPPED, NOTHING, "Home"),
+        (100, TWO_DROPPED, NOTHING, "Home"),
     ];
-    for (second, numbers, project) in table {
-        let mut line = link(alloc, Vec::new(alloc))?;
-        let (mut desk, mut lap) = pair(&rt, alloc, &mut line)?;
-        let changed = "Modified 1 task.\n";
-        runs(
-            &rt,
-            alloc,
-            "1|modify|project:Home",
-            100,
-            &mut desk,
-            &mut line,
-            changed,
-        )?;
-        runs(
-            &rt,
-            alloc,
-            "1|modify|project:Work",
-            second,
-            &mut lap,
-            &mut line,
-            changed,
-        )?;
-        syncs(&rt, alloc, &mut desk, &mut line, (0, 0, 2))?;
-        syncs(&rt, alloc, &mut lap, &mut line, numbers)?;
-        let (outcome, _) = run(alloc, "sync", 1_000, &mut desk, &mut line)?;
-        assert_eq!(rt; outcome.status, 0);
-        let (_, at_desk) = run(alloc, "export", 1_000, &mut desk, &mut line)?;
-        let (_, at_lap) = run(alloc, "export", 1_000, &mut lap, &mut line)?;
-        assert_eq!(rt; at_desk.bytes(), at_lap.bytes());
-        let task = held(alloc, &mut lap, drawn(1))?.ok_or("no task")?;
-        assert_eq!(rt; task.get("project"), Some(project));
+    for (second, lap_syncs, desk_syncs, project) in table {
+        let mut world = World::new(rt.alloc(), &[])?;
+        world.follow(&rt, &PAIR)?;
+        world.follow(&rt, &both_modify(second, lap_syncs, desk_syncs))?;
+        assert!(rt; world.agrees(1_000)?, "{second}");
+        assert!(rt; world.has_at_lap("project", project)?, "{second}");
     }
     Ok(())
 }
 
 // One machine removes a task for good that is marked as deleted, and the other gives it a project.
+const REMOVED: [Row; 5] = [
+    (On::Desk, 10, "1|delete", DELETED),
+    (On::Desk, 1_000, "sync", TWO_PUSHED),
+    (On::Lap, 1_000, "sync", PULLED),
+    (On::Desk, 20, PURGE, PURGED),
+    (On::Lap, 20, MODIFY, MODIFIED),
+];
+
+const DESK_FIRST: [Row; 2] = [
+    (
+        On::Desk,
+        1_000,
+        "sync",
+        Then::Prints("Synced: 0 pulled, 0 dropped, 1 pushed.\n"),
+    ),
+    (On::Lap, 1_000, "sync", TWO_DROPPED),
+];
+
+const LAP_FIRST: [Row; 3] = [
+    (On::Lap, 1_000, "sync", TWO_PUSHED),
+    (
+        On::Desk,
+        1_000,
+        "sync",
+        Then::Prints("Synced: 1 pulled, 0 dropped, 1 pushed.\n"),
+    ),
+    (On::Lap, 1_000, "sync", PULLED),
+];
+
 #[test]
 fn a_removal_stays_whoever_syncs_first(rt: HostRuntime) -> Result<(), Fail> {
     let alloc = rt.alloc();
-    let purge = "00000000-0000-4000-8000-000000000001|purge";
-    let modify = "00000000-0000-4000-8000-000000000001|modify|project:X";
-    for desk_first in [true, false] {
-        let mut line = link(alloc, Vec::new(alloc))?;
-        let (mut desk, mut lap) = pair(&rt, alloc, &mut line)?;
-        runs(
-            &rt,
-            alloc,
-            "1|delete",
-            10,
-            &mut desk,
-            &mut line,
-            "Deleted 1 task.\n",
-        )?;
-        syncs(&rt, alloc, &mut desk, &mut line, (0, 0, 2))?;
-        syncs(&rt, alloc, &mut lap, &mut line, (1, 0, 0))?;
-        runs(
-            &rt,
-            alloc,
-            purge,
-            20,
-            &mut desk,
-            &mut line,
-            "Purged 1 task.\n",
-        )?;
-        runs(
-            &rt,
-            alloc,
-            modify,
-            20,
-            &mut lap,
-            &mut line,
-            "Modified 1 task.\n",
-        )?;
-        if desk_first {
-            syncs(&rt, alloc, &mut desk, &mut line, (0, 0, 1))?;
-            syncs(&rt, alloc, &mut lap, &mut line, (1, 2, 0))?;
-        } else {
-            syncs(&rt, alloc, &mut lap, &mut line, (0, 0, 2))?;
-            syncs(&rt, alloc, &mut desk, &mut line, (1, 0, 1))?;
-            syncs(&rt, alloc, &mut lap, &mut line, (1, 0, 0))?;
+    for syncs in [DESK_FIRST.as_slice(), LAP_FIRST.as_slice()] {
+        let mut world = World::new(alloc, &[])?;
+        for rows in [PAIR.as_slice(), REMOVED.as_slice(), syncs] {
+            world.follow(&rt, rows)?;
         }
-        assert!(rt; held(alloc, &mut desk, drawn(1))?.is_none());
-        assert!(rt; held(alloc, &mut lap, drawn(1))?.is_none());
+        assert!(rt; !is_held(alloc, &mut world.desk)?);
+        assert!(rt; !is_held(alloc, &mut world.lap)?);
     }
     Ok(())
 }
 
-// Another machine creates a task once more that is there, which does not fit and so meets nothing.
+// Another machine creates a task once more that is there, which does not fit and so meets nothing. The first sync makes two
+// exchanges and the others one.
+const UNFIT: [Row; 9] = [
+    (On::Desk, 10, "add|Buy|milk", ADDED),
+    (On::Desk, 10, "1|delete", DELETED),
+    (
+        On::Desk,
+        1_000,
+        "sync",
+        Then::Prints("Synced: 0 pulled, 0 dropped, 7 pushed.\n"),
+    ),
+    (On::Desk, 1_000, "sync", NOTHING),
+    (On::Desk, 1_000, "sync", NOTHING),
+    (On::Desk, 1_000, "sync", NOTHING),
+    (On::Desk, 1_000, "sync", NOTHING),
+    (On::Desk, 20, PURGE, PURGED),
+    (
+        On::Desk,
+        1_000,
+        "sync",
+        Then::Prints("Synced: 1 pulled, 0 dropped, 1 pushed.\n"),
+    ),
+];
+
 #[test]
 fn a_version_that_does_not_fit_meets_no_local_change(rt: HostRuntime) -> Result<(), Fail> {
     let alloc = rt.alloc();
-    let purge = "00000000-0000-4000-8000-000000000001|purge";
-    let mut script = Vec::new(alloc);
-    for _ in 0..6 {
-        script.push(step(alloc, &[], Fate::Deliver)?)?;
-    }
-    script.push(step(alloc, &[CREATE], Fate::Deliver)?)?;
-    let mut line = link(alloc, script)?;
-    let mut desk = machine(alloc)?;
-    let _ = run(alloc, "add|Buy|milk", 10, &mut desk, &mut line)?;
-    runs(
-        &rt,
-        alloc,
-        "1|delete",
-        10,
-        &mut desk,
-        &mut line,
-        "Deleted 1 task.\n",
-    )?;
-    syncs(&rt, alloc, &mut desk, &mut line, (0, 0, 7))?;
-    for _ in 0..4 {
-        syncs(&rt, alloc, &mut desk, &mut line, (0, 0, 0))?;
-    }
-    runs(
-        &rt,
-        alloc,
-        purge,
-        20,
-        &mut desk,
-        &mut line,
-        "Purged 1 task.\n",
-    )?;
-    syncs(&rt, alloc, &mut desk, &mut line, (1, 0, 1))?;
-    assert!(rt; held(alloc, &mut desk, drawn(1))?.is_none());
+    let exchanges = [
+        ([].as_slice(), Fate::Deliver),
+        (&[], Fate::Deliver),
+        (&[], Fate::Deliver),
+        (&[], Fate::Deliver),
+        (&[], Fate::Deliver),
+        (&[], Fate::Deliver),
+        (&[CREATE], Fate::Deliver),
+    ];
+    let mut world = World::new(alloc, &exchanges)?;
+    world.follow(&rt, &UNFIT)?;
+    assert!(rt; !is_held(alloc, &mut world.desk)?);
     Ok(())
 }

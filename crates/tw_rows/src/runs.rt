@@ -1,9 +1,9 @@
 // Runs over a disk and streams in memory.
 
-use crate::machine::{Ended, Given, link, run_given};
+use crate::machine::{Ended, Given, disk_of, link_over, machine, run_alone, run_given};
 use std::alloc::Global;
 use std::test::Fail;
-use tw_cli::{Cause, Outcome, WordKind};
+use tw_cli::{Cause, WordKind};
 use tw_world::MemoryDisk;
 
 // The journal after a task was added to an empty store: its magic, two slots of which the first tells 29, and one commit of six
@@ -23,199 +23,129 @@ const ADDED: [u8; 279] = [
 ];
 
 // Runs a line at the moment 2023-11-14T22:13:20Z, with identifiers from `first` on.
-fn run_from(
-    alloc: Global,
-    first: u128,
-    line: &str,
-    disk: &mut MemoryDisk,
-    out_fails: &[u64],
-) -> Result<Ended, Fail> {
-    let mut line_to_none = link(alloc, Vec::new(alloc))?;
-    run_given(
-        alloc,
-        &Given::new(first, 1_700_000_000),
-        line,
-        disk,
-        &mut line_to_none,
-        out_fails,
-    )
+fn run_from(alloc: Global, first: u128, line: &str, disk: &mut MemoryDisk) -> Result<Ended, Fail> {
+    run_alone(alloc, &Given::new(first, 1_700_000_000), line, disk)
 }
 
-// Runs a line with identifiers from 1 on, over an output that does not fail.
+// Runs a line with identifiers from 1 on.
 fn run(alloc: Global, line: &str, disk: &mut MemoryDisk) -> Result<Ended, Fail> {
-    run_from(alloc, 1, line, disk, &[])
+    run_from(alloc, 1, line, disk)
 }
 
-fn empty_disk(alloc: Global, fails: &[u64]) -> Result<MemoryDisk, Fail> {
-    Ok(MemoryDisk::new(alloc, Vec::new(alloc), fails.to_vec(alloc)?)?)
+// Whether a task is added where these calls of the output fail, and the run ends so.
+fn adds(
+    alloc: Global,
+    out_fails: &[u64],
+    status: u8,
+    cause: &Cause,
+    said: &str,
+) -> Result<bool, Fail> {
+    let mut disk = machine(alloc)?;
+    let mut none = link_over(alloc, &[])?;
+    let given = Given::new(1, 1_700_000_000);
+    let ended = run_given(
+        alloc,
+        &given,
+        "add|Buy|milk",
+        &mut disk,
+        &mut none,
+        out_fails,
+    )?;
+    let is_told = ended.is(status, cause) && ended.said() == Some(said.as_bytes());
+    Ok(is_told && disk.bytes() == ADDED.as_slice())
 }
 
 #[test]
-fn a_task_is_added(rt: HostRuntime) -> Result<(), Fail> {
+fn a_task_is_added_whether_its_text_is_printed_or_not(rt: HostRuntime) -> Result<(), Fail> {
     let alloc = rt.alloc();
-    let mut disk = empty_disk(alloc, &[])?;
-    let ended = run(alloc, "add|Buy|milk", &mut disk)?;
-    assert_eq!(rt;
-        ended.outcome,
-        Outcome {
-            status: 0,
-            cause: Cause::Done
-        }
-    );
-    assert_eq!(rt; ended.out.bytes(), b"Created task 1.\n".as_slice());
-    assert_eq!(rt; ended.err.bytes(), b"".as_slice());
-    assert_eq!(rt; disk.bytes(), ADDED.as_slice());
+    assert!(rt; adds(alloc, &[], 0, &Cause::Done, "Created task 1.\n")?);
+    assert!(rt; adds(alloc, &[0], 6, &Cause::OutFault, "task: output failed\n")?);
     Ok(())
+}
+
+const REFUSED: [(&str, u64, WordKind); 13] = [
+    ("_generate|0|0", 1, WordKind::Value),
+    ("add", 0, WordKind::Missing),
+    ("add|", 1, WordKind::Value),
+    ("done", 0, WordKind::NoFilter),
+    ("1|modify|due:never2", 2, WordKind::Date),
+    ("add|x|due:2026-02-30", 2, WordKind::Date),
+    ("add|x|due:999999999999", 2, WordKind::Date),
+    ("1|modify|depends:9", 2, WordKind::Id),
+    ("add|x|recur:weekly", 0, WordKind::Missing),
+    ("log|x|recur:weekly", 2, WordKind::Attribute),
+    ("(|1|list", 2, WordKind::End),
+    ("(|1|count", 2, WordKind::End),
+    ("undo|2", 1, WordKind::Extra),
+];
+
+// Whether a line is refused for this word. Whether a word names a task is seen once the store is open.
+fn is_refused(alloc: Global, line: &str, word: u64, kind: WordKind) -> Result<bool, Fail> {
+    let mut disk = machine(alloc)?;
+    let ended = run(alloc, line, &mut disk)?;
+    let told = format!(in alloc; "task: bad word {word}\n")?;
+    let is_told = ended.is(2, &Cause::BadWords { word, kind })
+        && ended.said() == Some(told.as_bytes());
+    Ok(is_told && (disk.calls() == 0) == (kind != WordKind::Id))
 }
 
 #[test]
 fn words_outside_the_grammar_are_told(rt: HostRuntime) -> Result<(), Fail> {
-    let alloc = rt.alloc();
-    let rows = [
-        ("_generate|0|0", 1, WordKind::Value),
-        ("add", 0, WordKind::Missing),
-        ("add|", 1, WordKind::Value),
-        ("done", 0, WordKind::NoFilter),
-        ("1|modify|due:never2", 2, WordKind::Date),
-        ("add|x|due:2026-02-30", 2, WordKind::Date),
-        ("add|x|due:999999999999", 2, WordKind::Date),
-        ("1|modify|depends:9", 2, WordKind::Id),
-        ("add|x|recur:weekly", 0, WordKind::Missing),
-        ("log|x|recur:weekly", 2, WordKind::Attribute),
-        ("(|1|list", 2, WordKind::End),
-        ("(|1|count", 2, WordKind::End),
-        ("undo|2", 1, WordKind::Extra),
-    ];
-    for (line, word, kind) in rows {
-        let mut disk = empty_disk(alloc, &[])?;
-        let ended = run(alloc, line, &mut disk)?;
-        let cause = Cause::BadWords { word, kind };
-        assert_eq!(rt; ended.outcome, Outcome { status: 2, cause }, "{line}");
-        assert_eq!(rt; ended.out.bytes(), b"".as_slice());
-        let told = format!(in alloc; "task: bad word {}\n", word)?;
-        assert_eq!(rt; ended.err.bytes(), told.as_bytes());
-        // whether a word names a task is seen once the store is open
-        assert_eq!(rt; disk.calls() == 0, kind != WordKind::Id, "{line}");
+    for (line, word, kind) in REFUSED {
+        assert!(rt; is_refused(rt.alloc(), line, word, kind)?, "{line}");
     }
     Ok(())
 }
 
-#[test]
-fn a_task_stands_whose_text_is_not_printed(rt: HostRuntime) -> Result<(), Fail> {
-    let alloc = rt.alloc();
-    let mut disk = empty_disk(alloc, &[])?;
-    let ended = run_from(alloc, 1, "add|Buy|milk", &mut disk, &[0])?;
-    assert_eq!(rt;
-        ended.outcome,
-        Outcome {
-            status: 6,
-            cause: Cause::OutFault
-        }
-    );
-    assert_eq!(rt; ended.err.bytes(), b"task: output failed\n".as_slice());
-    assert_eq!(rt; disk.bytes(), ADDED.as_slice());
-    Ok(())
+// Whether a line is carried out and prints this.
+fn prints(alloc: Global, disk: &mut MemoryDisk, line: &str, text: &str) -> Result<bool, Fail> {
+    let ended = run(alloc, line, disk)?;
+    Ok(ended.outcome.status == 0 && ended.out.bytes() == text.as_bytes())
 }
 
-#[test]
-fn a_task_is_counted_and_undone(rt: HostRuntime) -> Result<(), Fail> {
-    let alloc = rt.alloc();
-    let mut disk = empty_disk(alloc, &[])?;
-    let _ = run(alloc, "add|Buy|milk", &mut disk)?;
-    assert_eq!(rt;
-        run(alloc, "count", &mut disk)?.out.bytes(),
-        b"1\n".as_slice()
-    );
-    assert_eq!(rt;
-        run(alloc, "undo", &mut disk)?.out.bytes(),
-        b"Undone 5 operations.\n".as_slice()
-    );
-    assert_eq!(rt;
-        run(alloc, "count", &mut disk)?.out.bytes(),
-        b"0\n".as_slice()
-    );
-    assert_eq!(rt;
-        run_from(alloc, 2, "add|Buy|tea", &mut disk, &[])?
-            .out
-            .bytes(),
-        b"Created task 2.\n".as_slice()
-    );
-    Ok(())
-}
-
-#[test]
-fn a_task_is_exported_until_it_is_undone(rt: HostRuntime) -> Result<(), Fail> {
-    let alloc = rt.alloc();
-    let mut disk = empty_disk(alloc, &[])?;
-    let _ = run(alloc, "add|Buy|milk", &mut disk)?;
-    let exported =
-        b"[\n{\"description\":\"Buy milk\",\"entry\":\"20231114T221320Z\",\"modified\":\"20231114T221320Z\",\"status\":\"pending\",\"urgency\":0.000,\"uuid\":\"00000000-0000-4000-8000-000000000001\"}\n]\n";
-    assert_eq!(rt;
-        run(alloc, "export", &mut disk)?.out.bytes(),
-        exported.as_slice()
-    );
-    let _ = run(alloc, "undo", &mut disk)?;
-    assert_eq!(rt;
-        run(alloc, "export", &mut disk)?.out.bytes(),
-        b"[\n]\n".as_slice()
-    );
-    Ok(())
+// A store to which so many tasks were added.
+fn with_adds(alloc: Global, adds: u64) -> Result<MemoryDisk, Fail> {
+    let mut disk = machine(alloc)?;
+    for first in 0..adds {
+        let _ = run_from(alloc, u128::from(first), "add|Buy|milk", &mut disk)?;
+    }
+    Ok(disk)
 }
 
 #[test]
 fn each_undo_takes_one_add_back(rt: HostRuntime) -> Result<(), Fail> {
     let alloc = rt.alloc();
-    for adds in 0..4u64 {
-        let mut disk = empty_disk(alloc, &[])?;
-        for first in 0..adds {
-            let _ = run_from(alloc, first as u128, "add|Buy|milk", &mut disk, &[])?;
-        }
+    for adds in 0..4 {
+        let mut disk = with_adds(alloc, adds)?;
         for left in (0..adds).rev() {
-            assert_eq!(rt; run(alloc, "undo", &mut disk)?.outcome.status, 0);
-            let counted = format!(in alloc; "{}\n", left)?;
-            assert_eq!(rt;
-                run(alloc, "count", &mut disk)?.out.bytes(),
-                counted.as_bytes()
-            );
+            let counted = format!(in alloc; "{left}\n")?;
+            assert!(rt; prints(alloc, &mut disk, "undo", "Undone 5 operations.\n")?);
+            assert!(rt; prints(alloc, &mut disk, "count", counted.as_str())?);
         }
-        assert_eq!(rt;
-            run(alloc, "undo", &mut disk)?.outcome.cause,
-            Cause::NothingToUndo
-        );
+        let ended = run(alloc, "undo", &mut disk)?;
+        assert!(rt; ended.outcome.cause == Cause::NothingToUndo);
     }
     Ok(())
 }
 
+// Whether an add is refused over a disk whose call with this number fails, and so many tasks are counted then.
+fn fails_at(alloc: Global, failing: u64, counted: &str) -> Result<bool, Fail> {
+    let mut disk = disk_of(alloc, &[], &[failing])?;
+    let ended = run(alloc, "add|Buy|milk", &mut disk)?;
+    let is_told = ended.is(3, &Cause::DiskFault)
+        && ended.said() == Some(b"task: the journal failed\n".as_slice());
+    let mut again = disk_of(alloc, disk.bytes(), &[])?;
+    Ok(is_told && prints(alloc, &mut again, "count", counted)?)
+}
+
+// Only where the last sync fails does the record stand.
 #[test]
 fn a_disk_that_fails_is_told_and_keeps_its_records(rt: HostRuntime) -> Result<(), Fail> {
     let alloc = rt.alloc();
-    let mut whole = empty_disk(alloc, &[])?;
-    let _ = run(alloc, "add|Buy|milk", &mut whole)?;
-    for failing in 0..whole.calls() {
-        let mut disk = empty_disk(alloc, &[failing])?;
-        let ended = run(alloc, "add|Buy|milk", &mut disk)?;
-        assert_eq!(rt;
-            ended.outcome,
-            Outcome {
-                status: 3,
-                cause: Cause::DiskFault
-            },
-            "call {failing}"
-        );
-        assert_eq!(rt; ended.out.bytes(), b"".as_slice());
-        assert_eq!(rt; ended.err.bytes(), b"task: the journal failed\n".as_slice());
-        // Only where the last sync fails does the record stand.
-        let counted = if failing + 1 == whole.calls() {
-            b"1\n"
-        } else {
-            b"0\n"
-        };
-        let mut again = MemoryDisk::new(alloc, disk.bytes().to_vec(alloc)?, Vec::new(alloc))?;
-        assert_eq!(rt;
-            run(alloc, "count", &mut again)?.out.bytes(),
-            counted.as_slice(),
-            "call {failing}"
-        );
+    let calls = with_adds(alloc, 1)?.calls();
+    for failing in 0..calls {
+        let counted = if failing + 1 == calls { "1\n" } else { "0\n" };
+        assert!(rt; fails_at(alloc, failing, counted)?, "call {failing}");
     }
     Ok(())
 }
@@ -240,19 +170,21 @@ fn added(alloc: Global, count: u16) -> Result<Vec<u8>, Fail> {
     Ok(bytes)
 }
 
+// A line that adds a task of so many words.
+fn line_of(alloc: Global, words: u8) -> Result<String, Fail> {
+    let mut line = String::from_str(alloc, "add")?;
+    for _ in 0..words {
+        line.push_str("|word")?;
+    }
+    Ok(line)
+}
+
 // The first command writes the state in place of the 2,000 records.
 #[test]
 fn a_line_of_200_words_adds_to_2000_tasks(rt: HostRuntime) -> Result<(), Fail> {
     let alloc = rt.alloc();
-    let journal = added(alloc, 2000)?;
-    if journal.len() > 1 << 20 {
-        return Err(Fail::new("a long journal"));
-    }
-    let mut disk = MemoryDisk::new(alloc, journal, Vec::new(alloc))?;
-    let mut line = String::from_str(alloc, "add")?;
-    for _ in 0..200 {
-        line.push_str("|word")?;
-    }
+    let mut disk = disk_of(alloc, &added(alloc, 2000)?, &[])?;
+    let line = line_of(alloc, 200)?;
     for (line, printed) in [
         ("count", "2000\n"),
         (line.as_str(), "Created task 2001.\n"),
@@ -260,9 +192,9 @@ fn a_line_of_200_words_adds_to_2000_tasks(rt: HostRuntime) -> Result<(), Fail> {
         ("undo", "Undone 5 operations.\n"),
         ("count", "2000\n"),
     ] {
-        let ended = run_from(alloc, 2001, line, &mut disk, &[])?;
-        assert_eq!(rt; ended.out.bytes(), printed.as_bytes());
-        assert_eq!(rt; disk.bytes().first(), Some(&3));
+        let ended = run_from(alloc, 2001, line, &mut disk)?;
+        assert!(rt; ended.out.bytes() == printed.as_bytes());
+        assert!(rt; disk.bytes().first() == Some(&3));
     }
     Ok(())
 }

@@ -19,6 +19,15 @@ const COLUMNS: [Column; 3] = [
     },
 ];
 
+// A row may be shorter than the others, or have no cells.
+const ROWS: [&[&str]; 5] = [
+    &["1", "\u{65e5}\u{672c}", "x"],
+    &["10", "e\u{301}", ""],
+    &["", "abcde", "longer than its heading"],
+    &["123", "short row"],
+    &[],
+];
+
 fn row_of(alloc: Global, cells: &[&str]) -> Result<Vec<String>, Memory> {
     let mut row = Vec::new(alloc);
     for cell in cells {
@@ -32,11 +41,9 @@ fn row_of(alloc: Global, cells: &[&str]) -> Result<Vec<String>, Memory> {
 fn a_column_is_as_wide_as_its_widest_cell(rt: HostRuntime) -> Result<(), Fail> {
     let alloc = rt.alloc();
     let mut rows = Vec::new(alloc);
-    rows.push(row_of(alloc, &["1", "\u{65e5}\u{672c}", "x"])?)?;
-    rows.push(row_of(alloc, &["10", "e\u{301}", ""])?)?;
-    rows.push(row_of(alloc, &["", "abcde", "longer than its heading"])?)?;
-    rows.push(row_of(alloc, &["123", "short row"])?)?;
-    rows.push(Vec::new(alloc))?;
+    for cells in ROWS {
+        rows.push(row_of(alloc, cells)?)?;
+    }
     let want =
         " ID Name      Note\n  1 \u{65e5}\u{672c}      x\n 10 e\u{301}         \n    abcde     longer than its heading\n123 short row\n\n";
     let text = table_text(alloc, &COLUMNS, &rows)?;

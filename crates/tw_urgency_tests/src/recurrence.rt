@@ -1,6 +1,6 @@
 use std::alloc::Global;
 use std::test::Fail;
-use tw_model::{Change, Op, TaskMap, Tasks, make};
+use tw_model::{TaskMap, Tasks, make};
 use tw_recur::{due_changes, due_instances};
 use tw_time::Zone;
 use tw_world::{Memory, Moment};
@@ -25,17 +25,21 @@ fn template(alloc: Global, pairs: &[(&str, &str)]) -> Result<Tasks, Memory> {
     Ok(tasks)
 }
 
-fn make_all(
+// Makes what is due at a second, and tells how many changes and operations that is.
+fn make_due(
     alloc: Global,
     tasks: &mut Tasks,
-    changes: Vec<Change>,
-    at: Moment,
-) -> Result<Vec<Op>, Memory> {
+    second: u64,
+    zone: &Zone,
+    limit: u32,
+) -> Result<(usize, usize), Memory> {
+    let changes = due_changes(alloc, tasks, second, zone, limit)?;
+    let count = changes.len();
     let mut ops = Vec::new(alloc);
     for change in changes {
-        make(alloc, tasks, &mut ops, change, at)?;
+        make(alloc, tasks, &mut ops, change, MAY)?;
     }
-    Ok(ops)
+    Ok((count, ops.len()))
 }
 
 fn value_of<'a>(tasks: &'a Tasks, uuid: Uuid, property: &str) -> Option<&'a str> {
@@ -51,30 +55,54 @@ const RENT: [(u128, &str, &str); 5] = [
     (0xec828c2b_30cf_583d_8660_1d587530a97e, "2", "1774915200"),
 ];
 
-#[test]
-fn months_keep_their_ends(rt: HostRuntime) -> Result<(), Fail> {
-    let alloc = rt.alloc();
-    let pairs = [
-        ("description", "Rent"),
-        ("due", "1769817600"),
-        ("entry", "1777593500"),
-        ("recur", "monthly"),
-    ];
-    let mut tasks = template(alloc, &pairs)?;
-    let zone = Zone::utc();
-    let ops = due_instances(alloc, &tasks, MAY, &zone, 1)?;
-    let changes = due_changes(alloc, &tasks, MAY.seconds, &zone, 1)?;
-    assert_eq!(rt; changes.len(), 6);
-    for (change, want) in changes.iter().zip(RENT.iter()) {
-        assert_eq!(rt; change.uuid, Uuid::from_u128(want.0));
+const MONTHLY: [(&str, &str); 4] = [
+    ("description", "Rent"),
+    ("due", "1769817600"),
+    ("entry", "1777593500"),
+    ("recur", "monthly"),
+];
+
+// What is due in May, by its uuids.
+fn due_in_may(alloc: Global, tasks: &Tasks) -> Result<Vec<Uuid>, Memory> {
+    let mut uuids = Vec::new(alloc);
+    for change in due_changes(alloc, tasks, MAY.seconds, &Zone::utc(), 1)? {
+        uuids.push(change.uuid)?;
     }
+    Ok(uuids)
+}
+
+fn are_rents(uuids: &Vec<Uuid>) -> bool {
+    for (uuid, (rent, _, _)) in uuids.iter().zip(RENT) {
+        if *uuid != Uuid::from_u128(rent) {
+            return false;
+        }
+    }
+    uuids.len() == RENT.len() + 1
+}
+
+// The tasks to which the operations of what is due in May are applied, where each fits, and how many these are.
+fn applied(alloc: Global, tasks: &Tasks) -> Result<Option<(Tasks, usize)>, Memory> {
+    let ops = due_instances(alloc, tasks, MAY, &Zone::utc(), 1)?;
     let mut applied = tasks.copy(alloc)?;
     for op in &ops {
-        assert!(rt; applied.apply(alloc, op)?);
+        if !applied.apply(alloc, op)? {
+            return Ok(None);
+        }
     }
-    assert_eq!(rt; make_all(alloc, &mut tasks, changes, MAY)?.len(), ops.len());
+    Ok(Some((applied, ops.len())))
+}
+
+fn has_all(tasks: &Tasks, uuid: u128, properties: &[(&str, Option<&str>)]) -> bool {
+    for (property, value) in properties {
+        if value_of(tasks, Uuid::from_u128(uuid), property) != *value {
+            return false;
+        }
+    }
+    true
+}
+
+fn has_rents(tasks: &Tasks) -> bool {
     for (uuid, number, due) in RENT {
-        let uuid = Uuid::from_u128(uuid);
         let properties = [
             ("description", Some("Rent")),
             ("due", Some(due)),
@@ -86,20 +114,25 @@ fn months_keep_their_ends(rt: HostRuntime) -> Result<(), Fail> {
             ("recur", Some("monthly")),
             ("status", Some("pending")),
         ];
-        for (property, want) in properties {
-            assert_eq!(rt; value_of(&tasks, uuid, property), want);
-            assert_eq!(rt; value_of(&applied, uuid, property), want);
+        if !has_all(tasks, uuid, &properties) {
+            return false;
         }
     }
-    assert_eq!(rt;
-        value_of(&tasks, Uuid::from_u128(PARENT), "mask"),
-        Some("-----")
-    );
-    assert_eq!(rt;
-        value_of(&tasks, Uuid::from_u128(PARENT), "modified"),
-        Some("1777593600")
-    );
-    assert!(rt; due_changes(alloc, &tasks, MAY.seconds, &zone, 1)?.is_empty());
+    true
+}
+
+#[test]
+fn months_keep_their_ends(rt: HostRuntime) -> Result<(), Fail> {
+    let alloc = rt.alloc();
+    let mut tasks = template(alloc, &MONTHLY)?;
+    assert!(rt; are_rents(&due_in_may(alloc, &tasks)?));
+    let (applied, count) = applied(alloc, &tasks)?.ok_or("one does not fit")?;
+    let (changes, ops) = make_due(alloc, &mut tasks, MAY.seconds, &Zone::utc(), 1)?;
+    assert!(rt; changes == 6 && ops == count);
+    assert!(rt; has_rents(&tasks) && has_rents(&applied));
+    let marked = [("mask", Some("-----")), ("modified", Some("1777593600"))];
+    assert!(rt; has_all(&tasks, PARENT, &marked));
+    assert!(rt; due_in_may(alloc, &tasks)?.is_empty());
     Ok(())
 }
 
@@ -109,9 +142,8 @@ fn a_thousand_are_made_at_once(rt: HostRuntime) -> Result<(), Fail> {
     let alloc = rt.alloc();
     let mut tasks = template(alloc, &[("due", "1604793600"), ("recur", "1d")])?;
     for want in [1001, 1001, 3, 0] {
-        let changes = due_changes(alloc, &tasks, MAY.seconds, &Zone::utc(), 1)?;
-        assert_eq!(rt; changes.len(), want);
-        let _ = make_all(alloc, &mut tasks, changes, MAY)?;
+        let (changes, _) = make_due(alloc, &mut tasks, MAY.seconds, &Zone::utc(), 1)?;
+        assert_eq!(rt; changes, want);
     }
     Ok(())
 }
@@ -259,22 +291,20 @@ fn count_dues(dues: &[u64]) -> usize {
     count
 }
 
+// The tasks of a case once what is due is made.
+fn made(alloc: Global, case: &Case) -> Result<Tasks, Fail> {
+    let mut tasks = template(alloc, &case.pairs)?;
+    let zone = Zone::read(case.zone).or(Err("no zone"))?;
+    let _ = make_due(alloc, &mut tasks, case.now, &zone, case.limit)?;
+    Ok(tasks)
+}
+
 #[test]
 fn instances_end_where_the_template_says(rt: HostRuntime) -> Result<(), Fail> {
-    let alloc = rt.alloc();
     for case in &CASES {
-        let mut tasks = template(alloc, &case.pairs)?;
-        let zone = Zone::read(case.zone).or(Err("no zone"))?;
-        let changes = due_changes(alloc, &tasks, case.now, &zone, case.limit)?;
-        let _ = make_all(alloc, &mut tasks, changes, MAY)?;
-        assert_eq!(rt;
-            value_of(&tasks, Uuid::from_u128(PARENT), "mask"),
-            case.mask
-        );
-        assert_eq!(rt;
-            tasks.len() as usize,
-            count_dues(&case.dues).saturating_add(1)
-        );
+        let tasks = made(rt.alloc(), case)?;
+        assert!(rt; has_all(&tasks, PARENT, &[("mask", case.mask)]));
+        assert!(rt; tasks.len() as usize == count_dues(&case.dues).saturating_add(1));
         for due in case.dues {
             assert!(rt; due == 0 || is_due(&tasks, due));
         }

@@ -3,9 +3,7 @@ ghost use Rattle.tw_urgency.specs.Urgency.{AreWeights};
 use std::alloc::Global;
 use std::test::Fail;
 use tw_model::{TaskMap, Tasks};
-use tw_urgency::{
-    Coefficients, all_blocking, blocked, blocking, is_blocked, reached, urgency_of, would_cycle,
-};
+use tw_urgency::{Coefficients, all_blocking, blocked, blocking, reached, urgency_of, would_cycle};
 use tw_world::Memory;
 use uuid::Uuid;
 
@@ -134,23 +132,23 @@ const URGENCIES: [(&str, i64, i64); 40] = [
     ),
 ];
 
+// The urgency of a task that is alone, by the default and by the odd coefficients.
+fn urgencies(alloc: Global, text: &str) -> Result<(i64, i64), Memory> {
+    let task = task_of(alloc, text)?;
+    let mut tasks = Tasks::new(alloc);
+    let _ = tasks.insert(numbered(1), task)?;
+    Ok((
+        urgency_of(&tasks, numbered(1), NOW, &defaults()),
+        urgency_of(&tasks, numbered(1), NOW, &odd()),
+    ))
+}
+
 #[test]
 fn urgency_is_the_sum_of_its_terms_cut_toward_zero(rt: HostRuntime) -> Result<(), Fail> {
-    let alloc = rt.alloc();
     for (text, by_default, by_odd) in URGENCIES {
-        let task = task_of(alloc, text)?;
-        let mut tasks = Tasks::new(alloc);
-        let _ = tasks.insert(numbered(1), task)?;
-        assert_eq!(rt;
-            urgency_of(&tasks, numbered(1), NOW, &defaults()),
-            by_default,
-            "at {text}"
-        );
-        assert_eq!(rt;
-            urgency_of(&tasks, numbered(1), NOW, &odd()),
-            by_odd,
-            "at {text}"
-        );
+        let (default, odd) = urgencies(rt.alloc(), text)?;
+        assert_eq!(rt; default, by_default, "at {text}");
+        assert_eq!(rt; odd, by_odd, "at {text}");
     }
     Ok(())
 }
@@ -217,48 +215,74 @@ const DEPENDENCIES: [(u128, &str, &[u128], bool, bool); 9] = [
     ),
 ];
 
+fn dependent(alloc: Global) -> Result<Tasks, Memory> {
+    let mut tasks = Tasks::new(alloc);
+    for (number, text, _, _, _) in DEPENDENCIES {
+        let _ = tasks.insert(numbered(number), task_of(alloc, text)?)?;
+    }
+    Ok(tasks)
+}
+
+// Whether a task is blocked, and whether it is blocking, by both ways to ask for that.
+fn blocks(alloc: Global, tasks: &Tasks, number: u128) -> Result<(bool, bool, bool), Memory> {
+    let uuid = numbered(number);
+    let all = all_blocking(alloc, tasks)?;
+    Ok((
+        blocked(tasks, uuid),
+        blocking(tasks, uuid),
+        all.contains(&uuid),
+    ))
+}
+
+// Whether a dependency of the one task on the other would close a circle.
+fn closes(alloc: Global, tasks: &Tasks, number: u128, other: u128) -> Result<bool, Memory> {
+    would_cycle(alloc, tasks, numbered(number), numbered(other))
+}
+
+const OTHERS: [u128; 10] = [1, 2, 3, 4, 5, 6, 7, 8, 9, 0x88];
+
+// Whether dependencies lead from a task to these others alone, by both ways to ask for that.
+fn leads_to(alloc: Global, tasks: &Tasks, from: u128, leads: &[u128]) -> Result<bool, Memory> {
+    let met = reached(alloc, tasks, numbered(from))?;
+    for other in OTHERS {
+        let is_led = leads.contains(&other);
+        if met.contains(&numbered(other)) != is_led {
+            return Ok(false);
+        }
+        if closes(alloc, tasks, other, from)? != is_led {
+            return Ok(false);
+        }
+    }
+    Ok(true)
+}
+
 #[test]
 fn dependencies_lead_along_a_chain_and_round_a_circle(rt: HostRuntime) -> Result<(), Fail> {
     let alloc = rt.alloc();
-    let mut tasks = Tasks::new(alloc);
-    for (number, text, _, _, _) in DEPENDENCIES {
-        let task = task_of(alloc, text)?;
-        let _ = tasks.insert(numbered(number), task)?;
-    }
-    let all = all_blocking(alloc, &tasks)?;
+    let tasks = dependent(alloc)?;
     for (number, _, leads, is_blocked, is_blocking) in DEPENDENCIES {
-        let uuid = numbered(number);
-        assert_eq!(rt; blocked(&tasks, uuid), is_blocked, "at {number}");
-        assert_eq!(rt; blocking(&tasks, uuid), is_blocking, "at {number}");
-        assert_eq!(rt; all.contains(&uuid), is_blocking, "at {number}");
-        let met = reached(alloc, &tasks, uuid)?;
-        for other in [1, 2, 3, 4, 5, 6, 7, 8, 9, 0x88] {
-            assert_eq!(rt;
-                met.contains(&numbered(other)),
-                leads.contains(&other),
-                "from {number} to {other}"
-            );
-            assert_eq!(rt;
-                would_cycle(alloc, &tasks, numbered(other), uuid)?,
-                leads.contains(&other),
-                "from {number} to {other}"
-            );
-        }
+        let wanted = (is_blocked, is_blocking, is_blocking);
+        assert!(rt; blocks(alloc, &tasks, number)? == wanted, "at {number}");
+        assert!(rt; leads_to(alloc, &tasks, number, leads)?, "from {number}");
     }
-    assert!(rt; !would_cycle(alloc, &tasks, numbered(1), numbered(0x88))?);
-    assert!(rt; would_cycle(alloc, &tasks, numbered(0x99), numbered(0x99))?);
+    assert!(rt; !closes(alloc, &tasks, 1, 0x88)?);
+    assert!(rt; closes(alloc, &tasks, 0x99, 0x99)?);
     Ok(())
 }
 
+fn depending(alloc: Global, before: u128) -> Result<TaskMap, Memory> {
+    let mut task = TaskMap::new(alloc);
+    let name = format!(in alloc; "dep_{}", numbered(before))?;
+    task.set(alloc, name.as_str(), Some(""))?;
+    Ok(task)
+}
+
 // Tasks in a chain, each of which depends on the one before it.
-fn chained(alloc: Global, length: u64) -> Result<Tasks, Fail> {
+fn chained(alloc: Global, length: u64) -> Result<Tasks, Memory> {
     let mut tasks = Tasks::new(alloc);
     for before in 0..length {
         let before = u128::from(before);
-        let mut task = TaskMap::new(alloc);
-        let name = format!(in alloc; "dep_{}", numbered(before))?;
-        task.set(alloc, name.as_str(), Some(""))?;
-        let _ = tasks.insert(numbered(before + 1), task)?;
+        let _ = tasks.insert(numbered(before + 1), depending(alloc, before)?)?;
     }
     Ok(tasks)
 }
@@ -267,7 +291,7 @@ fn chained(alloc: Global, length: u64) -> Result<Tasks, Fail> {
 fn a_chain_of_fifty_thousand_tasks_is_followed_to_its_end(rt: HostRuntime) -> Result<(), Fail> {
     let alloc = rt.alloc();
     let tasks = chained(alloc, 50_000)?;
-    assert!(rt; would_cycle(alloc, &tasks, numbered(1), numbered(50_000))?);
-    assert!(rt; !would_cycle(alloc, &tasks, numbered(50_000), numbered(1))?);
+    assert!(rt; closes(alloc, &tasks, 1, 50_000)?);
+    assert!(rt; !closes(alloc, &tasks, 50_000, 1)?);
     Ok(())
 }

@@ -4,7 +4,8 @@ mod settings;
 
 use std::alloc::Global;
 use std::test::Fail;
-use tw_words::{Line, cut_words};
+use tw_filter::{BadWord, WordKind};
+use tw_words::{Line, WordError, cut_words};
 use tw_world::{Memory, Moment};
 
 // 2026-03-04T10:00:00Z, a Wednesday.
@@ -30,4 +31,38 @@ fn line_of(alloc: Global, line: &str) -> Result<Line, Memory> {
 // What stands round the sign of a row.
 fn halves(row: &str) -> Result<(&str, &str), Fail> {
     Ok(row.split_once(" > ").ok_or("no row")?)
+}
+
+fn name_of(kind: WordKind) -> &'static str {
+    match kind {
+        WordKind::Value => "Value",
+        WordKind::Date => "Date",
+        WordKind::Modifier => "Modifier",
+        WordKind::Attribute => "Attribute",
+        WordKind::Bracket => "Bracket",
+        WordKind::End => "End",
+        WordKind::Missing => "Missing",
+        WordKind::Extra => "Extra",
+        WordKind::NoFilter => "NoFilter",
+        WordKind::Id => "Id",
+        WordKind::Unbuilt => "Unbuilt",
+    }
+}
+
+// The first word that is wrong, by its number and its kind, or the number of the first line that is no setting.
+fn fault_of(alloc: Global, error: WordError) -> Result<String, Memory> {
+    match error {
+        WordError::Bad(BadWord { word, kind }) => {
+            Ok(format!(in alloc; "{word} {}", name_of(kind))?)
+        }
+        WordError::Setting { line } => Ok(format!(in alloc; "{line}")?),
+        WordError::Memory => Err(Memory),
+    }
+}
+
+fn verdict<T: Drop>(alloc: Global, judged: Result<T, WordError>) -> Result<String, Memory> {
+    match judged {
+        Ok(_) => Ok(String::from_str(alloc, "right")?),
+        Err(error) => fault_of(alloc, error),
+    }
 }

@@ -85,27 +85,28 @@ fn how_many_there_are_is_told(rt: HostRuntime) -> Result<(), Fail> {
     Ok(())
 }
 
+const MIDNIGHT: u64 = NOW - 36_000;
+
 // Monday the 5th of January 2026, 10:00 in UTC; in the other zone it is 5:00.
 #[test]
 fn a_day_and_a_week_begin_at_midnight(rt: HostRuntime) -> Result<(), Fail> {
-    let Ok(west) = Zone::read("EST5") else {
-        return Err(Fail::from("no zone"));
-    };
+    let west = Zone::read("EST5").or(Err("no zone"))?;
     let utc = Zone::utc();
-    let midnight = NOW - 36_000;
-    assert_eq!(rt; Range::Day.bounds(NOW, &utc), (midnight, midnight + 86_400));
-    assert_eq!(rt;
-        Range::Week.bounds(NOW, &utc),
-        (midnight, midnight + 604_800)
-    );
-    assert_eq!(rt;
-        Range::Week.bounds(NOW + 86_400, &utc),
-        (midnight, midnight + 604_800)
-    );
-    assert_eq!(rt;
-        Range::Day.bounds(NOW, &west),
-        (midnight + 18_000, midnight + 104_400)
-    );
+    let week = (MIDNIGHT, MIDNIGHT + 604_800);
+    let rows = [
+        (Range::Day, NOW, &utc, (MIDNIGHT, MIDNIGHT + 86_400)),
+        (Range::Week, NOW, &utc, week),
+        (Range::Week, NOW + 86_400, &utc, week),
+        (
+            Range::Day,
+            NOW,
+            &west,
+            (MIDNIGHT + 18_000, MIDNIGHT + 104_400),
+        ),
+    ];
+    for (range, at, zone, bounds) in rows {
+        assert!(rt; range.bounds(at, zone) == bounds, "{at}");
+    }
     assert_eq!(rt; Range::Day.bounds(0, &west).0, 0);
     Ok(())
 }

@@ -7,51 +7,78 @@ use std::test::Fail;
 use timew_store::{Edit, Intervals, LoadError, Store, StoreError, UndoError, read_month};
 use tw_world::{Folder, MemoryDisk, MemoryFolder};
 
-// How many intervals are loaded, or the first bad line.
-fn loaded(alloc: Global, folder: &mut MemoryFolder, disk: &mut MemoryDisk) -> Result<String, Fail> {
-    Ok(match Store::load(alloc, folder, disk) {
-        Ok(store) => format!(in alloc; "{}", store.intervals().len())?,
-        Err(LoadError::BadLine { file, line }) => format!(in alloc; "{} {line}", file.as_str())?,
-        Err(_) => String::new(alloc),
+// A folder of month files, and the journal of their changes.
+#[derive(Drop)]
+struct Kept {
+    alloc: Global,
+    folder: MemoryFolder,
+    disk: MemoryDisk,
+}
+
+// These files, over an empty journal. The calls of the folder with these numbers fail.
+fn keeping(alloc: Global, files: &[(&str, &str)], fails: &[u64]) -> Result<Kept, Fail> {
+    let folder = folder_of(alloc, files, fails)?;
+    let disk = MemoryDisk::new(alloc, Vec::new(alloc), Vec::new(alloc))?;
+    Ok(Kept {
+        alloc,
+        folder,
+        disk,
     })
 }
 
-// Loads a store and lets the intervals of lines stand in it.
-fn changed(
-    alloc: Global,
-    folder: &mut MemoryFolder,
-    disk: &mut MemoryDisk,
-    lines: &str,
-) -> Result<Result<(), StoreError>, Fail> {
-    let rows = read_month(alloc, lines.as_bytes())
-        .ok()
-        .ok_or("a bad line")?;
-    let next = Intervals::in_order(rows).ok_or("out of order")?.into_rows();
-    let mut store = Store::load(alloc, folder, disk).ok().ok_or("no store")?;
-    let edit = Edit::between(store.intervals().as_slice(), next)?;
-    Ok(store.change(alloc, folder, disk, edit))
+impl Kept {
+    // How many intervals are loaded, or the first bad line.
+    fn loaded(&mut self) -> Result<String, Fail> {
+        let alloc = self.alloc;
+        Ok(match Store::load(alloc, &mut self.folder, &mut self.disk) {
+            Ok(store) => format!(in alloc; "{}", store.intervals().len())?,
+            Err(LoadError::BadLine { file, line }) => format!(in alloc;
+                "{} {line}",
+                file.as_str()
+            )?,
+            Err(_) => String::new(alloc),
+        })
+    }
+
+    // Loads a store and lets the intervals of lines stand in it.
+    fn changed(&mut self, lines: &str) -> Result<Result<(), StoreError>, Fail> {
+        let alloc = self.alloc;
+        let rows = read_month(alloc, lines.as_bytes()).or(Err("a bad line"))?;
+        let next = Intervals::in_order(rows).ok_or("out of order")?.into_rows();
+        let store = Store::load(alloc, &mut self.folder, &mut self.disk);
+        let mut store = store.or(Err("no store"))?;
+        let edit = Edit::between(store.intervals().as_slice(), next)?;
+        Ok(store.change(alloc, &mut self.folder, &mut self.disk, edit))
+    }
+
+    // Loads a store and takes its last change back.
+    fn undone(&mut self) -> Result<String, Fail> {
+        let alloc = self.alloc;
+        let store = Store::load(alloc, &mut self.folder, &mut self.disk);
+        let mut store = store.or(Err("no store"))?;
+        told(alloc, store.undo(alloc, &mut self.folder, &mut self.disk))
+    }
+
+    // Whether a file holds this, or is not there.
+    fn holds(&mut self, name: &str, want: &str) -> Result<bool, Fail>
+        requires { is_file_name name.now ≡ true }
+    {
+        let file = self.folder.read(self.alloc, name);
+        Ok(match file.or(Err("no folder"))? {
+            Some(bytes) => bytes.as_slice() == want.as_bytes(),
+            None => want.is_empty(),
+        })
+    }
 }
 
-// Loads a store and takes its last change back.
-fn undone(alloc: Global, folder: &mut MemoryFolder, disk: &mut MemoryDisk) -> Result<String, Fail> {
-    let mut store = Store::load(alloc, folder, disk).ok().ok_or("no store")?;
-    Ok(match store.undo(alloc, folder, disk) {
+fn told(alloc: Global, undone: Result<(), UndoError>) -> Result<String, Fail> {
+    Ok(match undone {
         Ok(()) => String::from_str(alloc, "undone")?,
         Err(UndoError::Edited { file }) => format!(in alloc; "{} was edited", file.as_str())?,
         Err(UndoError::BadLine { file, line }) => format!(in alloc; "{} {line}", file.as_str())?,
         Err(UndoError::NothingToUndo) => String::from_str(alloc, "nothing")?,
         Err(_) => String::new(alloc),
     })
-}
-
-// The text of a file of a folder, or none.
-fn file_text(alloc: Global, folder: &mut MemoryFolder, name: &str) -> Result<String, Fail>
-    requires { is_file_name name.now ≡ true }
-{
-    match folder.read(alloc, name).ok().ok_or("no folder")? {
-        Some(bytes) => Ok(String::from_utf8(bytes).ok().ok_or("no text")?),
-        None => Ok(String::new(alloc)),
-    }
 }
 
 #[test]
@@ -77,36 +104,27 @@ fn a_store_holds_the_month_files(rt: HostRuntime) -> Result<(), Fail> {
             ("2026-01.data", january),
             ("notes", "inc z"),
         ];
-        let mut folder = folder_of(alloc, &files)?;
-        let mut disk = MemoryDisk::new(alloc, Vec::new(alloc), Vec::new(alloc))?;
-        let told = loaded(alloc, &mut folder, &mut disk)?;
-        assert_eq!(rt; told.as_str(), want);
+        assert_eq!(rt; keeping(alloc, &files, &[])?.loaded()?.as_str(), want);
     }
     Ok(())
 }
 
+const FIRST: &str = "inc 20260105T090000Z - 20260105T090005Z # code\n";
+
+const SECOND: &str = "inc 20260105T090000Z\n";
+
 #[test]
 fn changes_are_taken_back_one_after_another(rt: HostRuntime) -> Result<(), Fail> {
-    let alloc = rt.alloc();
-    let mut folder = folder_of(alloc, &[])?;
-    let mut disk = MemoryDisk::new(alloc, Vec::new(alloc), Vec::new(alloc))?;
-    let first = "inc 20260105T090000Z - 20260105T090005Z # code\n";
-    let second = "inc 20260105T090000Z\n";
-    for lines in [first, second, ""] {
-        assert!(rt; changed(alloc, &mut folder, &mut disk, lines)?.is_ok());
-        assert_eq!(rt;
-            file_text(alloc, &mut folder, "2026-01.data")?.as_str(),
-            lines
-        );
+    let mut kept = keeping(rt.alloc(), &[], &[])?;
+    for lines in [FIRST, SECOND, ""] {
+        assert!(rt; kept.changed(lines)?.is_ok());
+        assert!(rt; kept.holds("2026-01.data", lines)?);
     }
-    for lines in [second, first, ""] {
-        assert_eq!(rt; undone(alloc, &mut folder, &mut disk)?.as_str(), "undone");
-        assert_eq!(rt;
-            file_text(alloc, &mut folder, "2026-01.data")?.as_str(),
-            lines
-        );
+    for lines in [SECOND, FIRST, ""] {
+        assert_eq!(rt; kept.undone()?.as_str(), "undone");
+        assert!(rt; kept.holds("2026-01.data", lines)?);
     }
-    assert_eq!(rt; undone(alloc, &mut folder, &mut disk)?.as_str(), "nothing");
+    assert_eq!(rt; kept.undone()?.as_str(), "nothing");
     Ok(())
 }
 
@@ -130,13 +148,11 @@ fn an_undo_looks_at_the_files(rt: HostRuntime) -> Result<(), Fail> {
         ),
     ];
     for (january, february, want) in table {
-        let mut folder = folder_of(alloc, &[("2026-01.data", old)])?;
-        let mut disk = MemoryDisk::new(alloc, Vec::new(alloc), Vec::new(alloc))?;
-        assert!(rt; changed(alloc, &mut folder, &mut disk, new)?.is_ok());
+        let mut kept = keeping(alloc, &[("2026-01.data", old)], &[])?;
+        assert!(rt; kept.changed(new)?.is_ok());
         let files = [("2026-01.data", january), ("2026-02.data", february)];
-        let mut folder = folder_of(alloc, &files)?;
-        let told = undone(alloc, &mut folder, &mut disk)?;
-        assert_eq!(rt; told.as_str(), want);
+        kept.folder = folder_of(alloc, &files, &[])?;
+        assert_eq!(rt; kept.undone()?.as_str(), want);
     }
     Ok(())
 }
@@ -144,18 +160,12 @@ fn an_undo_looks_at_the_files(rt: HostRuntime) -> Result<(), Fail> {
 // The folder fails at the second of two files: the next load replaces it.
 #[test]
 fn a_change_of_two_files_is_finished(rt: HostRuntime) -> Result<(), Fail> {
-    let alloc = rt.alloc();
-    let mut folder = MemoryFolder::new(alloc, Vec::new(alloc), [2].to_vec(alloc)?)?;
-    let mut disk = MemoryDisk::new(alloc, Vec::new(alloc), Vec::new(alloc))?;
+    let mut kept = keeping(rt.alloc(), &[], &[2])?;
     let lines = "inc 20260105T090000Z - 20260105T090005Z\ninc 20260201T000000Z\n";
-    let told = changed(alloc, &mut folder, &mut disk, lines)?;
-    assert_eq!(rt; told, Err(StoreError::Folder));
-    assert_eq!(rt; file_text(alloc, &mut folder, "2026-02.data")?.as_str(), "");
-    assert_eq!(rt; loaded(alloc, &mut folder, &mut disk)?.as_str(), "2");
-    assert_eq!(rt;
-        file_text(alloc, &mut folder, "2026-02.data")?.as_str(),
-        "inc 20260201T000000Z\n"
-    );
+    assert!(rt; kept.changed(lines)? == Err(StoreError::Folder));
+    assert!(rt; kept.holds("2026-02.data", "")?);
+    assert_eq!(rt; kept.loaded()?.as_str(), "2");
+    assert!(rt; kept.holds("2026-02.data", "inc 20260201T000000Z\n")?);
     Ok(())
 }
 
@@ -165,11 +175,8 @@ const CHANGE: &[u8] =
 
 #[test]
 fn a_body_is_its_fields(rt: HostRuntime) -> Result<(), Fail> {
-    let alloc = rt.alloc();
-    let mut folder = folder_of(alloc, &[])?;
-    let mut disk = MemoryDisk::new(alloc, Vec::new(alloc), Vec::new(alloc))?;
-    let told = changed(alloc, &mut folder, &mut disk, "inc 20260201T000000Z\n")?;
-    assert!(rt; told.is_ok());
-    assert!(rt; disk.bytes().ends_with(CHANGE));
+    let mut kept = keeping(rt.alloc(), &[], &[])?;
+    assert!(rt; kept.changed("inc 20260201T000000Z\n")?.is_ok());
+    assert!(rt; kept.disk.bytes().ends_with(CHANGE));
     Ok(())
 }

@@ -28,6 +28,15 @@ const ROWS: [(&str, u128); 16] = [
     ),
 ];
 
+// The refusal of a dependency on the task with this number, or none for 0.
+fn cycle_at(number: u128) -> Option<Refusal> {
+    if number == 0 {
+        return None;
+    }
+    let uuid = uuid_of(number);
+    Some(Refusal::Cycle { uuid })
+}
+
 #[test]
 fn a_dependency_that_closes_a_circle_is_refused(rt: HostRuntime) -> Result<(), Fail> {
     let alloc = rt.alloc();
@@ -35,19 +44,20 @@ fn a_dependency_that_closes_a_circle_is_refused(rt: HostRuntime) -> Result<(), F
     let mut ids = ids_from(1);
     for (line, wanted) in ROWS {
         let before = disk.bytes().len();
-        match decided(alloc, line, NOW, &mut ids, &mut disk)? {
-            Ok(_) => assert_eq!(rt; wanted, 0, "{line}"),
-            Err(refusal) => assert_eq!(rt;
-                refusal,
-                Refusal::Cycle {
-                    uuid: uuid_of(wanted)
-                },
-                "{line}"
-            ),
-        }
+        let refusal = refusal(alloc, line, "", &mut ids, &mut disk)?;
+        assert!(rt; refusal == cycle_at(wanted), "{line}");
         assert_eq!(rt; disk.bytes().len() > before, wanted == 0, "{line}");
     }
     Ok(())
+}
+
+// A task that depends on that with a number.
+fn depending(alloc: Global, before: u128) -> Result<TaskMap, Memory> {
+    let mut task = TaskMap::new(alloc);
+    task.set(alloc, "status", Some("pending"))?;
+    let name = format!(in alloc; "dep_{}", uuid_of(before))?;
+    task.set(alloc, name.as_str(), Some(""))?;
+    Ok(task)
 }
 
 // A disk with a chain of tasks, each of which depends on the one before it.
@@ -56,14 +66,9 @@ fn chained(alloc: Global, length: u64) -> Result<MemoryDisk, Fail> {
     let mut changes = Vec::new(alloc);
     for before in 0..length {
         let before = u128::from(before);
-        let mut task = TaskMap::new(alloc);
-        task.set(alloc, "status", Some("pending"))?;
-        let name = format!(in alloc; "dep_{}", uuid_of(before))?;
-        task.set(alloc, name.as_str(), Some(""))?;
-        changes.push(Change {
-            uuid: uuid_of(before + 1),
-            task: Some(task),
-        })?;
+        let uuid = uuid_of(before + 1);
+        let task = Some(depending(alloc, before)?);
+        changes.push(Change { uuid, task })?;
     }
     write_changes(alloc, &mut disk, changes)?;
     Ok(disk)
@@ -76,9 +81,7 @@ fn a_chain_of_dependencies_is_searched_once(rt: HostRuntime) -> Result<(), Fail>
     let mut ids = ids_from(1 << 100);
     let printed = carried(alloc, "2-500 modify depends:1", NOW, &mut ids, &mut disk)?;
     assert_eq!(rt; printed.as_str(), "Modified 499 tasks.\n");
-    match decided(alloc, "1-500 modify depends:500", NOW, &mut ids, &mut disk)? {
-        Err(refusal) => assert_eq!(rt; refusal, Refusal::Cycle { uuid: uuid_of(500) }),
-        Ok(_) => return Err(Fail::new("no circle")),
-    }
+    let refusal = refusal(alloc, "1-500 modify depends:500", "", &mut ids, &mut disk)?;
+    assert!(rt; refusal == cycle_at(500));
     Ok(())
 }

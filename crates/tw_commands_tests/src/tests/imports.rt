@@ -43,44 +43,30 @@ const ROWS: [(&str, &str, &str); 14] = [
     ),
 ];
 
-fn said(alloc: Global, decided: Result<Vec<u8>, Refusal>) -> Result<String, Fail> {
-    match decided {
-        Ok(text) => Ok(String::from_utf8(text).ok().ok_or("no text")?),
-        Err(Refusal::BadInput { index, name }) => {
-            Ok(format!(in alloc; "element {}: {}", index, name.as_str())?)
-        }
-        Err(refusal) => Ok(format!(in alloc; "{:?}", refusal)?),
-    }
-}
-
 #[test]
 fn elements_become_tasks_in_their_order(rt: HostRuntime) -> Result<(), Fail> {
     let alloc = rt.alloc();
     let mut disk = empty_disk(alloc)?;
     let mut ids = ids_from(1);
     for (line, input, wanted) in ROWS {
-        let told = said(
-            alloc,
-            decided_with(alloc, line, input, NOW, &mut ids, &mut disk)?,
-        )?;
+        let told = carried_with(alloc, line, input, NOW, &mut ids, &mut disk)?;
         assert_eq!(rt; told.as_str(), wanted);
     }
     Ok(())
 }
 
+const TWO: &str =
+    "[{\"description\":\"a\",\"uuid\":\"00000000-0000-4000-8000-000000000001\"},{\"description\":\"b\"}]";
+
 #[test]
 fn a_drawn_uuid_that_an_element_before_has_is_taken(rt: HostRuntime) -> Result<(), Fail> {
     let alloc = rt.alloc();
-    let mut disk = empty_disk(alloc)?;
-    let input =
-        "[{\"description\":\"a\",\"uuid\":\"00000000-0000-4000-8000-000000000001\"},{\"description\":\"b\"}]";
+    let mut disk = with_adds(alloc, &["count"])?;
     let mut ids = ids_from(1);
-    let _ = carried(alloc, "count", NOW, &mut ids, &mut disk)?;
     let before = disk.bytes().len();
-    match decided_with(alloc, "import", input, NOW, &mut ids, &mut disk)? {
-        Err(refusal) => assert_eq!(rt; refusal, Refusal::IdTaken { uuid: uuid_of(1) }),
-        Ok(_) => return Err(Fail::new("imported")),
-    }
+    let refusal = refusal(alloc, "import", TWO, &mut ids, &mut disk)?;
+    let uuid = uuid_of(1);
+    assert!(rt; refusal == Some(Refusal::IdTaken { uuid }));
     assert_eq!(rt; ids.start, 2);
     assert_eq!(rt; disk.bytes().len(), before);
     Ok(())

@@ -53,23 +53,34 @@ fn exported(alloc: Global, disk: &mut MemoryDisk) -> Result<String, Fail> {
     carried(alloc, "export", NOW, &mut ids_from(9), disk)
 }
 
+// Whether an undo leads back to this export.
+fn is_undone(alloc: Global, disk: &mut MemoryDisk, before: &str) -> Result<bool, Fail> {
+    let _ = carried(alloc, "undo", NOW, &mut ids_from(3), disk)?;
+    Ok(exported(alloc, disk)?.as_str() == before)
+}
+
+// Whether a command acts on a task, and so changes the export. Where it does, an undo leads back.
+fn acts_on(alloc: Global, command: &str, text: &str) -> Result<bool, Fail> {
+    let mut disk = disk_with(alloc, text)?;
+    let before = exported(alloc, &mut disk)?;
+    let line = format!(in alloc; "00000000-0000-4000-8000-000000000001 {}", command)?;
+    let printed = carried(alloc, line.as_str(), NOW, &mut ids_from(2), &mut disk)?;
+    let acts = printed.as_str() != "NoMatch";
+    if (exported(alloc, &mut disk)? != before) != acts {
+        return Err(Fail::new("another export"));
+    }
+    if acts && !is_undone(alloc, &mut disk, before.as_str())? {
+        return Err(Fail::new("not undone"));
+    }
+    Ok(acts)
+}
+
 #[test]
 fn a_command_acts_on_its_statuses_and_an_undo_leads_back(rt: HostRuntime) -> Result<(), Fail> {
-    let alloc = rt.alloc();
     for (command, acts) in ROWS {
-        for at in 0..6 {
-            let mut disk = disk_with(alloc, TASKS[at])?;
-            let before = exported(alloc, &mut disk)?;
-            let line = format!(in alloc; "00000000-0000-4000-8000-000000000001 {}", command)?;
-            let printed = carried(alloc, line.as_str(), NOW, &mut ids_from(2), &mut disk)?;
-            assert_eq!(rt; printed.as_str() != "NoMatch", acts[at]);
-            let after = exported(alloc, &mut disk)?;
-            assert_eq!(rt; after != before, acts[at]);
-            if acts[at] {
-                let _ = carried(alloc, "undo", NOW, &mut ids_from(3), &mut disk)?;
-                let back = exported(alloc, &mut disk)?;
-                assert_eq!(rt; back == before, true);
-            }
+        for (text, wanted) in TASKS.iter().zip(acts) {
+            let acts = acts_on(rt.alloc(), command, text)?;
+            assert_eq!(rt; acts, wanted, "{command}: {text}");
         }
     }
     Ok(())

@@ -1,9 +1,9 @@
 // Openings that write one record of the state in place of many records.
-use super::{ADDED, MADE, counts, disk_of};
+use super::{ADDED, MADE, disk_of, opened};
 use std::alloc::Global;
 use std::test::Fail;
-use tw_replica::Replica;
-use tw_world::Memory;
+use tw_replica::{Replica, ReplicaError};
+use tw_world::{Memory, MemoryDisk};
 use uuid::Uuid;
 
 // The record of a commit of nothing.
@@ -25,19 +25,17 @@ const STATE: [u8; 52] = [
     7, 7, 7, 7, 7, 7, 7, 7, 7, 7, 7, 7, 7, 0, 0, 0, 0, 0, 0, 0, 3,
 ];
 
-// The file once the state stands behind these records, at this place, which the second slot tells.
-fn replaced(alloc: Global, file: &[u8], place: [u8; 2]) -> Result<Vec<u8>, Memory> {
-    if file.len() < 29 {
-        return Err(Memory);
-    }
-    let mut bytes = Vec::new(alloc);
-    bytes.push(3)?;
-    bytes.extend_from_slice(&MADE[1..27])?;
-    bytes.extend_from_slice(&place)?;
-    bytes.extend_from_slice(&file[29..])?;
-    bytes.extend_from_slice(&STATE)?;
-    bytes.extend_from_slice(&ADDED[24..])?;
-    Ok(bytes)
+// Whether bytes are those of a file once the state stands behind its records, at this place, which the second slot tells.
+fn is_replaced(bytes: &[u8], file: &[u8], place: [u8; 2]) -> bool {
+    let Some(state) = bytes.get(file.len()..) else {
+        return false;
+    };
+    bytes.first() == Some(&3)
+        && bytes.get(1..27) == MADE.get(1..27)
+        && bytes.get(27..29) == Some(place.as_slice())
+        && bytes.get(29..file.len()) == file.get(29..)
+        && state.get(..52) == Some(STATE.as_slice())
+        && state.get(52..) == ADDED.get(24..)
 }
 
 // Each row is the form of a file, how many commits of nothing stand in it before the one that adds a task, and where the state is put
@@ -52,31 +50,42 @@ fn a_thousand_records_are_replaced_by_the_state(rt: HostRuntime) -> Result<(), F
     ];
     for (form, nothing, place) in table {
         let file = file_of(alloc, form, nothing)?;
-        let mut disk = disk_of(alloc, &file)?;
-        let replica = Replica::open(alloc, &mut disk)?;
-        assert_eq!(rt; counts(&replica), (1, 3, Some(1)));
-        let wanted = match place {
-            Some(place) => replaced(alloc, &file, place)?,
-            None => file,
+        let (held, _, bytes) = opened(alloc, &file)?;
+        assert!(rt; held == (1, 3, Some(1)), "{nothing}");
+        let stands = match place {
+            Some(place) => is_replaced(&bytes, &file, place),
+            None => bytes.as_slice() == file.as_slice(),
         };
-        assert_eq!(rt; disk.bytes(), wanted.as_slice());
+        assert!(rt; stands, "{nothing}");
     }
     Ok(())
+}
+
+// A disk over which a thousand records were replaced.
+fn replaced(alloc: Global) -> Result<MemoryDisk, ReplicaError> {
+    let file = file_of(alloc, &MADE, 999)?;
+    let mut disk = disk_of(alloc, &file)?;
+    let _ = Replica::open(alloc, &mut disk)?;
+    Ok(disk)
+}
+
+// Whether what a crash leaves is opened with the added task, and the state in place of the records.
+fn is_whole(alloc: Global, disk: &MemoryDisk, call: u64, pick: u8) -> Result<bool, ReplicaError> {
+    if call > disk.calls() || pick > 3 {
+        return Ok(false);
+    }
+    let image = disk.image(call, pick)?;
+    let (held, base, bytes) = opened(alloc, &image)?;
+    Ok(held == (1, 3, Some(1)) && base == Uuid::nil() && bytes.first() == Some(&3))
 }
 
 #[test]
 fn a_crash_while_records_are_replaced_leaves_the_same_state(rt: HostRuntime) -> Result<(), Fail> {
     let alloc = rt.alloc();
-    let mut disk = disk_of(alloc, &file_of(alloc, &MADE, 999)?)?;
-    let _ = Replica::open(alloc, &mut disk)?;
+    let disk = replaced(alloc)?;
     for call in 0..=disk.calls() {
         for pick in 0..4 {
-            assert!(rt; call <= disk.calls());
-            let mut image = disk_of(alloc, &disk.image(call, pick)?)?;
-            let replica = Replica::open(alloc, &mut image)?;
-            assert_eq!(rt; counts(&replica), (1, 3, Some(1)), "{call} {pick}");
-            assert_eq!(rt; replica.base(), Uuid::nil(), "{call} {pick}");
-            assert_eq!(rt; image.bytes().first(), Some(&3), "{call} {pick}");
+            assert!(rt; is_whole(alloc, &disk, call, pick)?, "{call} {pick}");
         }
     }
     Ok(())

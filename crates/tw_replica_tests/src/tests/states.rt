@@ -2,7 +2,7 @@
 use super::{ADDED, counts, disk_of, version};
 use std::alloc::Global;
 use std::test::Fail;
-use tw_replica::{OpenError, Replica};
+use tw_replica::{OpenError, Replica, ReplicaError};
 use tw_world::{Memory, MemoryDisk};
 use uuid::Uuid;
 
@@ -74,25 +74,36 @@ fn with_record(alloc: Global, records: &[u8], body: &Vec<u8>) -> Result<MemoryDi
 // Two tasks of which the one is pending, and a vacant place between theirs.
 const PLACES: [Option<u8>; 3] = [Some(8), None, Some(7)];
 
+// Whether a replica over these records and that of this state holds what the state tells, and its last group is taken back.
+fn is_taken(alloc: Global, records: &[u8], body: &Vec<u8>) -> Result<bool, ReplicaError> {
+    let mut disk = with_record(alloc, records, body)?;
+    let mut replica = Replica::open(alloc, &mut disk)?;
+    let first = Some(Uuid::from_bytes([8; 16]));
+    let is_held = counts(&replica) == (2, 3, Some(3))
+        && replica.base() == version()
+        && replica.uuid_of(1) == first
+        && replica.tasks_at_base(alloc)?.len() == 1;
+    let undone = replica.undo(alloc, &mut disk)?;
+    Ok(is_held && undone == 2 && counts(&replica) == (1, 0, None))
+}
+
 #[test]
 fn a_state_takes_the_place_of_what_was_there(rt: HostRuntime) -> Result<(), Fail> {
     let alloc = rt.alloc();
     let body = state(alloc, &PLACES, &[8], 3, &ADDED[24..])?;
     for records in [&ADDED[..13], ADDED.as_slice()] {
-        let mut disk = with_record(alloc, records, &body)?;
-        let mut replica = Replica::open(alloc, &mut disk)?;
-        assert_eq!(rt; counts(&replica), (2, 3, Some(3)));
-        assert_eq!(rt; replica.base(), version());
-        assert_eq!(rt; replica.uuid_of(1), Some(Uuid::from_bytes([8; 16])));
-        assert_eq!(rt; replica.tasks_at_base(alloc)?.len(), 1);
-        assert_eq!(rt; replica.undo(alloc, &mut disk), Ok(2));
-        assert_eq!(rt; counts(&replica), (1, 0, None));
+        assert!(rt; is_taken(alloc, records, &body)?);
     }
     Ok(())
 }
 
-// Why a file is not opened that has this body behind its first record.
-fn refusal(alloc: Global, body: Vec<u8>) -> Result<Option<OpenError>, Memory> {
+// Pending operations with their number behind places and tasks.
+type State = (&'static [Option<u8>], &'static [u8], usize, &'static [u8]);
+
+// Why a file is not opened that has this state behind its first record.
+fn refusal(alloc: Global, row: &State) -> Result<Option<OpenError>, Memory> {
+    let (places, tasks, count, ops) = *row;
+    let body = state(alloc, places, tasks, count, ops)?;
     let mut disk = with_record(alloc, &ADDED[..13], &body)?;
     Ok(Replica::open(alloc, &mut disk).err())
 }
@@ -102,9 +113,8 @@ fn refusal(alloc: Global, body: Vec<u8>) -> Result<Option<OpenError>, Memory> {
 // task without a place; tasks whose uuids fall, and one that stands twice.
 #[test]
 fn a_state_that_is_not_sound_is_damaged(rt: HostRuntime) -> Result<(), Fail> {
-    let alloc = rt.alloc();
     let (add, make) = (&ADDED[24..], &ADDED[24..42]);
-    let table: [(&[Option<u8>], &[u8], usize, &[u8]); 9] = [
+    let table: [State; 9] = [
         (&PLACES, &[8], 2, &ADDED[25..]),
         (&[Some(7)], &[7], 2, make),
         (&PLACES, &[8], 2, add),
@@ -115,12 +125,9 @@ fn a_state_that_is_not_sound_is_damaged(rt: HostRuntime) -> Result<(), Fail> {
         (&[Some(7), Some(8)], &[8, 7], 0, &[]),
         (&[Some(8)], &[8, 8], 0, &[]),
     ];
-    for (places, tasks, count, ops) in table {
-        let body = state(alloc, places, tasks, count, ops)?;
-        assert_eq!(rt;
-            refusal(alloc, body)?,
-            Some(OpenError::Damaged { offset: 13 })
-        );
+    let damaged = Some(OpenError::Damaged { offset: 13 });
+    for row in table {
+        assert!(rt; refusal(rt.alloc(), &row)? == damaged);
     }
     Ok(())
 }

@@ -32,18 +32,22 @@ fn with_status(
     editing.prepare(alloc, renumber)
 }
 
-#[test]
-fn a_step_is_made_in_memory_and_then_written(rt: HostRuntime) -> Result<(), Fail> {
-    let alloc = rt.alloc();
+// Whether a step that adds the task changes no byte before it is written, and then those of the record.
+fn is_written_later(alloc: Global) -> Result<bool, ReplicaError> {
     let mut disk = disk_of(alloc, &ADDED[..13])?;
     let replica = Replica::open(alloc, &mut disk)?;
     let prepared = with_status(alloc, replica, "pending", false)?;
-    assert_eq!(rt; prepared.tasks().len(), 1);
-    assert_eq!(rt; prepared.pending().len(), 3);
-    assert_eq!(rt; prepared.numbers().as_slice(), [Some(milk())].as_slice());
-    assert_eq!(rt; disk.bytes().len(), 13);
-    assert!(rt; prepared.write(&mut disk).is_ok());
-    assert_eq!(rt; disk.bytes(), ADDED.as_slice());
+    let is_made = prepared.tasks().len() == 1
+        && prepared.pending().len() == 3
+        && prepared.numbers().as_slice() == [Some(milk())].as_slice()
+        && disk.bytes().len() == 13;
+    prepared.write(&mut disk)?;
+    Ok(is_made && disk.bytes() == ADDED.as_slice())
+}
+
+#[test]
+fn a_step_is_made_in_memory_and_then_written(rt: HostRuntime) -> Result<(), Fail> {
+    assert!(rt; is_written_later(rt.alloc())?);
     Ok(())
 }
 
@@ -69,30 +73,36 @@ fn a_step_that_changes_nothing_writes_nothing(rt: HostRuntime) -> Result<(), Fai
         ("completed", true, 0, 77),
     ];
     for (status, renumber, places, bytes) in table {
-        let (numbers, length) = written(alloc, status, renumber)?;
-        assert_eq!(rt; numbers, places, "{status}");
-        assert_eq!(rt; length, 94 + bytes, "{status}");
+        let found = written(alloc, status, renumber)?;
+        assert!(rt; found == (places, 94 + bytes), "{status}");
     }
     Ok(())
 }
 
+// Whether the last group is taken back in memory, and what is written then is the record of an undo.
+fn is_taken_back(alloc: Global) -> Result<bool, ReplicaError> {
+    let mut disk = disk_of(alloc, &ADDED)?;
+    let replica = Replica::open(alloc, &mut disk)?;
+    let Ok(prepared) = replica.take_back(alloc) else {
+        return Ok(false);
+    };
+    let is_made = prepared.tasks().len() == 0
+        && prepared.pending().len() == 0
+        && prepared.numbers().as_slice() == [None].as_slice()
+        && disk.bytes() == ADDED.as_slice();
+    prepared.write(&mut disk)?;
+    Ok(is_made && disk.bytes().get(94..) == Some([1, 0, 0, 0, 1, 2].as_slice()))
+}
+
+// Why nothing is taken back in an empty replica.
+fn refusal(alloc: Global) -> Result<Option<TakeBackError>, ReplicaError> {
+    let mut disk = disk_of(alloc, &ADDED[..13])?;
+    Ok(Replica::open(alloc, &mut disk)?.take_back(alloc).err())
+}
+
 #[test]
 fn the_last_group_is_taken_back_in_memory(rt: HostRuntime) -> Result<(), Fail> {
-    let alloc = rt.alloc();
-    let mut disk = disk_of(alloc, &ADDED)?;
-    let prepared = Replica::open(alloc, &mut disk)?.take_back(alloc)?;
-    assert_eq!(rt; prepared.tasks().len(), 0);
-    assert_eq!(rt; prepared.pending().len(), 0);
-    assert_eq!(rt; prepared.numbers().as_slice(), [None].as_slice());
-    assert_eq!(rt; disk.bytes(), ADDED.as_slice());
-    assert!(rt; prepared.write(&mut disk).is_ok());
-    assert_eq!(rt; disk.bytes().get(94..), Some([1, 0, 0, 0, 1, 2].as_slice()));
-
-    let mut disk = disk_of(alloc, &ADDED[..13])?;
-    let replica = Replica::open(alloc, &mut disk)?;
-    assert_eq!(rt;
-        replica.take_back(alloc).err(),
-        Some(TakeBackError::NothingToUndo)
-    );
+    assert!(rt; is_taken_back(rt.alloc())?);
+    assert!(rt; refusal(rt.alloc())? == Some(TakeBackError::NothingToUndo));
     Ok(())
 }

@@ -1,11 +1,10 @@
 // The parts of lines, and the first word that is wrong.
 
-use super::{NOW, halves, line_of, words_of};
+use super::{NOW, halves, line_of, verdict, words_of};
 use std::alloc::Global;
 use std::test::Fail;
-use tw_filter::BadWord;
 use tw_time::Zone;
-use tw_words::{Command, Line, WordError, judge_line, read_line};
+use tw_words::{Command, Line, judge_line, read_line};
 use tw_world::Memory;
 
 // Words with bars between them, and the first that is wrong: by its number, from 0, and its kind.
@@ -79,46 +78,44 @@ _generate|1|0|0 > 3 Extra
 x|_generate|1|0 > 0 Extra
 1|--|done > right";
 
-fn text_of<T: Drop>(alloc: Global, judged: Result<T, WordError>) -> Result<String, Memory> {
-    match judged {
-        Ok(_) => Ok(String::from_str(alloc, "right")?),
-        Err(WordError::Bad(BadWord { word, kind })) => Ok(format!(in alloc; "{word} {kind:?}")?),
-        Err(error) => Ok(format!(in alloc; "{error:?}")?),
-    }
+fn judged(alloc: Global, words: &str) -> Result<String, Memory> {
+    let line = line_of(alloc, words)?;
+    verdict(alloc, judge_line(alloc, &line, NOW, &Zone::utc()))
 }
 
 #[test]
 fn the_first_bad_word_is_named(rt: HostRuntime) -> Result<(), Fail> {
-    let alloc = rt.alloc();
     for row in ROWS.split('\n') {
         let (words, want) = halves(row)?;
-        let line = line_of(alloc, words)?;
-        let judged = text_of(alloc, judge_line(alloc, &line, NOW, &Zone::utc()))?;
-        assert_eq!(rt; judged.as_str(), want, "{row}");
+        assert_eq!(rt; judged(rt.alloc(), words)?.as_str(), want, "{row}");
     }
     assert_eq!(rt; ROWS.split('\n').count(), 68);
     Ok(())
 }
 
+fn read(alloc: Global, words: &str) -> Result<String, Memory> {
+    let words = words_of(alloc, words)?;
+    verdict(alloc, read_line(alloc, &words))
+}
+
 #[test]
 fn a_date_is_no_fault_without_a_moment(rt: HostRuntime) -> Result<(), Fail> {
     let alloc = rt.alloc();
-    let words = words_of(alloc, "add|x|due:never|+PENDING")?;
-    let text = text_of(alloc, read_line(alloc, &words))?;
-    assert_eq!(rt; text.as_str(), "3 Attribute");
-    let text = text_of(alloc, read_line(alloc, &Vec::new(alloc)))?;
-    assert_eq!(rt; text.as_str(), "right");
-    let words = words_of(alloc, "add|x|due:never")?;
-    let text = text_of(alloc, read_line(alloc, &words))?;
-    assert_eq!(rt; text.as_str(), "right");
+    let rows = [
+        ("add|x|due:never|+PENDING", "3 Attribute"),
+        ("add|x|due:never", "right"),
+    ];
+    for (words, want) in rows {
+        assert_eq!(rt; read(alloc, words)?.as_str(), want, "{words}");
+    }
+    assert!(rt; read_line(alloc, &Vec::new(alloc)).is_ok());
     Ok(())
 }
 
-// The parts of a line: its command and that word's place, where the filter ends and where `--` stood, its words with their places,
-// and its overrides.
+// The parts of a line behind its command: that word's place, where the filter ends and where `--` stood, its words with their
+// places, and its overrides.
 fn parts_of(alloc: Global, line: &Line) -> Result<String, Memory> {
-    let mut text = format!(in alloc; "{:?} {}", line.command, line.place)?;
-    text.push_str(format!(in alloc; " {} {}", line.filter_to, line.plain_from)?.as_str())?;
+    let mut text = format!(in alloc; "{} {} {}", line.place, line.filter_to, line.plain_from)?;
     for (word, place) in line.words.iter().zip(&line.places) {
         text.push_str(format!(in alloc; " {}@{place}", word.as_str())?.as_str())?;
     }
@@ -128,27 +125,31 @@ fn parts_of(alloc: Global, line: &Line) -> Result<String, Memory> {
     Ok(text)
 }
 
-const PARTS: &str = "\
-1|--|done > Next 0 2 1 1@0 done@2
-rc.gc:off|1|modify|rc.a=b:c|x|--|rc.y:z > Modify 2 1 2 1@1 x@4 rc.y:z@6 gc=off a=b:c
-add|add|modify > Add 0 0 2 add@1 modify@2
-1|list|2 > List 1 2 2 1@0 2@2
-rc.x|-- > Next 0 1 1 rc.x@0";
+const PARTS: [(&str, Command, &str); 5] = [
+    ("1|--|done", Command::Next, "0 2 1 1@0 done@2"),
+    (
+        "rc.gc:off|1|modify|rc.a=b:c|x|--|rc.y:z",
+        Command::Modify,
+        "2 1 2 1@1 x@4 rc.y:z@6 gc=off a=b:c",
+    ),
+    ("add|add|modify", Command::Add, "0 0 2 add@1 modify@2"),
+    ("1|list|2", Command::List, "1 2 2 1@0 2@2"),
+    ("rc.x|--", Command::Next, "0 1 1 rc.x@0"),
+];
 
 #[test]
 fn lines_have_their_parts(rt: HostRuntime) -> Result<(), Fail> {
     let alloc = rt.alloc();
-    for row in PARTS.split('\n') {
-        let (words, want) = halves(row)?;
+    for (words, command, want) in PARTS {
         let line = line_of(alloc, words)?;
-        assert_eq!(rt;
-            (line.filter_from, line.rest_from),
-            (0, line.filter_to),
-            "{row}"
+        assert!(rt; line.command == command, "{words}");
+        assert!(rt;
+            line.filter_from == 0 && line.rest_from == line.filter_to,
+            "{words}"
         );
-        assert_eq!(rt; parts_of(alloc, &line)?.as_str(), want, "{row}");
+        assert_eq!(rt; parts_of(alloc, &line)?.as_str(), want, "{words}");
     }
     let none = line_of(alloc, "x|y")?;
-    assert_eq!(rt; none.command, Command::Next);
+    assert!(rt; none.command == Command::Next);
     Ok(())
 }

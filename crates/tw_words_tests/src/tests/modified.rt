@@ -1,12 +1,12 @@
 // What modification words make of a task.
 
-use super::{NOW, halves, line_of};
+use super::{NOW, fault_of, halves, line_of};
 use std::alloc::Global;
 use std::test::Fail;
 use tw_filter::{BadWord, View, WordKind};
 use tw_model::{TaskMap, Tasks};
 use tw_time::Zone;
-use tw_words::{Line, WordError, changed, first_unnamed};
+use tw_words::{Line, changed, first_unnamed};
 use tw_world::Memory;
 use uuid::Uuid;
 
@@ -48,9 +48,9 @@ fn has_kind(bad: Option<BadWord>) -> bool {
 // A task that has a project, a tag and a description.
 fn task(alloc: Global) -> Result<TaskMap, Memory> {
     let mut task = TaskMap::new(alloc);
-    task.set(alloc, "description", Some("old"))?;
-    task.set(alloc, "project", Some("Home"))?;
-    task.set(alloc, "tag_b", Some(""))?;
+    for (property, value) in [("description", "old"), ("project", "Home"), ("tag_b", "")] {
+        task.set(alloc, property, Some(value))?;
+    }
     Ok(task)
 }
 
@@ -70,18 +70,24 @@ fn shown(alloc: Global, task: &TaskMap) -> Result<String, Memory> {
 fn made(alloc: Global, line: &Line, view: &View<'_>) -> Result<String, Memory> {
     match changed(alloc, line, &task(alloc)?, view) {
         Ok(task) => shown(alloc, &task),
-        Err(WordError::Bad(bad)) => Ok(format!(in alloc; "{} {:?}", bad.word, bad.kind)?),
-        Err(error) => Ok(format!(in alloc; "{error:?}")?),
+        Err(error) => fault_of(alloc, error),
     }
+}
+
+fn two_tasks(alloc: Global) -> Result<Tasks, Memory> {
+    let mut tasks = Tasks::new(alloc);
+    for number in [FIRST, TENTH] {
+        let _ = tasks.insert(Uuid::from_u128(number), TaskMap::new(alloc))?;
+    }
+    Ok(tasks)
 }
 
 // What the words of a row make, and whether one of them names no task.
 fn made_by(alloc: Global, words: &str, zone: &Zone) -> Result<(String, bool), Memory> {
     let line = line_of(alloc, words)?;
     let tasks = two_tasks(alloc)?;
-    let mut numbers = Vec::new(alloc);
-    numbers.push(Some(Uuid::from_u128(FIRST)))?;
-    numbers.push(Some(Uuid::from_u128(TENTH)))?;
+    let places = [Some(Uuid::from_u128(FIRST)), Some(Uuid::from_u128(TENTH))];
+    let numbers = places.to_vec(alloc)?;
     let view = View {
         tasks: &tasks,
         numbers: &numbers,
@@ -90,13 +96,6 @@ fn made_by(alloc: Global, words: &str, zone: &Zone) -> Result<(String, bool), Me
     };
     let is_unnamed = has_kind(first_unnamed(&line, &view));
     Ok((made(alloc, &line, &view)?, is_unnamed))
-}
-
-fn two_tasks(alloc: Global) -> Result<Tasks, Memory> {
-    let mut tasks = Tasks::new(alloc);
-    let _ = tasks.insert(Uuid::from_u128(FIRST), TaskMap::new(alloc))?;
-    let _ = tasks.insert(Uuid::from_u128(TENTH), TaskMap::new(alloc))?;
-    Ok(tasks)
 }
 
 #[test]
@@ -110,7 +109,9 @@ fn words_change_a_task(rt: HostRuntime) -> Result<(), Fail> {
     }
     let zone = Zone::read("EST5EDT,M3.2.0,M11.1.0").or(Err("no zone"))?;
     let (made, _) = made_by(alloc, "1|modify|due:tomorrow", &zone)?;
-    let want = "description=old|due=1772686800|project=Home|tag_b=|";
-    assert_eq!(rt; made.as_str(), want);
+    assert_eq!(rt;
+        made.as_str(),
+        "description=old|due=1772686800|project=Home|tag_b=|"
+    );
     Ok(())
 }

@@ -1,8 +1,9 @@
 // Settings, and what they say of a run.
 
-use super::{halves, words_of};
+use super::{halves, verdict, words_of};
 use std::alloc::Global;
 use std::test::Fail;
+use tw_urgency::Coefficients;
 use tw_words::{Settings, WordError, cut_words, data_folder, link_address, read_settings};
 use tw_world::Memory;
 
@@ -112,12 +113,8 @@ fn read(alloc: Global, bytes: &[u8], line: &str) -> Result<Result<Settings, Word
 }
 
 // The number of the line that is no setting, where one is.
-fn text_of(alloc: Global, read: Result<Settings, WordError>) -> Result<String, Memory> {
-    match read {
-        Ok(_) => Ok(String::from_str(alloc, "right")?),
-        Err(WordError::Setting { line }) => Ok(format!(in alloc; "{line}")?),
-        Err(error) => Ok(format!(in alloc; "{error:?}")?),
-    }
+fn told(alloc: Global, bytes: &[u8], line: &str) -> Result<String, Memory> {
+    verdict(alloc, read(alloc, bytes, line)?)
 }
 
 #[test]
@@ -127,74 +124,74 @@ fn the_first_line_that_is_no_setting_is_told(rt: HostRuntime) -> Result<(), Fail
         let (text, rest) = halves(row)?;
         let (line, want) = halves(rest)?;
         let bytes = lines_of(alloc, text)?;
-        let told = text_of(alloc, read(alloc, bytes.as_slice(), line)?)?;
-        assert_eq!(rt; told.as_str(), want, "{row}");
+        assert_eq!(rt; told(alloc, &bytes, line)?.as_str(), want, "{row}");
     }
     assert_eq!(rt; ROWS.split('\n').count(), 47);
-    let told = text_of(alloc, read(alloc, b"a=1\nb=\xff", "count")?)?;
-    assert_eq!(rt; told.as_str(), "2");
-    let told = text_of(alloc, read(alloc, b"gc=on\r\n", "count")?)?;
-    assert_eq!(rt; told.as_str(), "1");
+    for (bytes, want) in [(b"a=1\nb=\xff".as_slice(), "2"), (b"gc=on\r\n", "1")] {
+        assert_eq!(rt; told(alloc, bytes, "count")?.as_str(), want);
+    }
     Ok(())
 }
+
+fn settings_of(alloc: Global, bytes: &[u8], line: &str) -> Result<Settings, Fail> {
+    Ok(read(alloc, bytes, line)?.or(Err("no settings"))?)
+}
+
+// What the file of a user says, and what it leaves at the values of taskrc(5).
+const WEIGHTS: Coefficients = Coefficients {
+    tag_next: 20_000,
+    due: 12_000,
+    blocking: 8_000,
+    high: 6_000,
+    medium: 3_900,
+    low: -1_800,
+    scheduled: 5_000,
+    active: 4_000,
+    age: 2_000,
+    annotations: 1_000,
+    tags: 1_000,
+    project: 1_000,
+    blocked: -125,
+    waiting: -3_000,
+    age_max: 90,
+};
+
+const CLIENT: u128 = 0x550e8400_e29b_41d4_a716_446655440000;
 
 #[test]
 fn a_users_settings_are_read(rt: HostRuntime) -> Result<(), Fail> {
     let alloc = rt.alloc();
-    let settings = read(alloc, FILE.as_bytes(), "count")?.or(Err("no settings"))?;
-    assert_eq!(rt; settings.get("news.version"), Some("2.6.0"));
-    assert_eq!(rt; settings.get("urgency.due.coefficient"), Some(""));
-    assert_eq!(rt; settings.get("verbose"), None);
-    assert_eq!(rt; (settings.gc(), settings.recurrence()), (true, false));
+    let settings = settings_of(alloc, FILE.as_bytes(), "count")?;
+    let rows = [
+        ("news.version", Some("2.6.0")),
+        ("urgency.due.coefficient", Some("")),
+        ("verbose", None),
+    ];
+    for (name, value) in rows {
+        assert!(rt; settings.get(name) == value, "{name}");
+    }
+    assert!(rt; settings.gc() && !settings.recurrence());
     assert_eq!(rt; settings.recurrence_limit(), 3);
-    let weights = settings.weights();
-    assert_eq!(rt;
-        (weights.tag_next, weights.due, weights.blocking),
-        (20_000, 12_000, 8_000)
-    );
-    assert_eq!(rt;
-        (weights.high, weights.medium, weights.low),
-        (6_000, 3_900, -1_800)
-    );
-    assert_eq!(rt;
-        (weights.scheduled, weights.active, weights.age),
-        (5_000, 4_000, 2_000)
-    );
-    assert_eq!(rt;
-        (weights.annotations, weights.tags, weights.project),
-        (1_000, 1_000, 1_000)
-    );
-    assert_eq!(rt;
-        (weights.blocked, weights.waiting, weights.age_max),
-        (-125, -3_000, 90)
-    );
+    assert!(rt; settings.weights() == WEIGHTS);
     let server = settings.server(alloc)?.ok_or("no server")?;
     assert_eq!(rt; server.host.as_str(), "tasks.example.org:8080");
-    assert_eq!(rt;
-        server.client.as_u128(),
-        0x550e8400_e29b_41d4_a716_446655440000
-    );
+    assert_eq!(rt; server.client.as_u128(), CLIENT);
     Ok(())
 }
+
+const OVERRIDES: &str =
+    "rc.recurrence.limit=5|rc.recurrence.limit:6|count|rc.recurrence:1|rc.gc:0|rc.sync.server.url:";
 
 #[test]
 fn overrides_come_last(rt: HostRuntime) -> Result<(), Fail> {
     let alloc = rt.alloc();
-    let line =
-        "rc.recurrence.limit=5|rc.recurrence.limit:6|count|rc.recurrence:1|rc.gc:0|rc.sync.server.url:";
-    let settings = read(alloc, FILE.as_bytes(), line)?.or(Err("no settings"))?;
-    assert_eq!(rt; (settings.gc(), settings.recurrence()), (false, true));
+    let settings = settings_of(alloc, FILE.as_bytes(), OVERRIDES)?;
+    assert!(rt; !settings.gc() && settings.recurrence());
     assert_eq!(rt; settings.recurrence_limit(), 6);
     assert!(rt; settings.server(alloc)?.is_none());
-    let settings = read(alloc, b"a=1\na = 2 # 3\nb=4=5", "count")?.or(Err("no settings"))?;
-    assert_eq!(rt;
-        (settings.get("a"), settings.get("b")),
-        (Some("2"), Some("4=5"))
-    );
-    assert_eq!(rt;
-        (settings.recurrence_limit(), settings.weights().age_max),
-        (1, 365)
-    );
+    let few = settings_of(alloc, b"a=1\na = 2 # 3\nb=4=5", "count")?;
+    assert!(rt; few.get("a") == Some("2") && few.get("b") == Some("4=5"));
+    assert!(rt; few.recurrence_limit() == 1 && few.weights().age_max == 365);
     Ok(())
 }
 
@@ -208,55 +205,65 @@ sync.server.url=http://a:1 > rc.sync.server.url:http://b:2|sync > b 2
 sync.server.url=http://a.b-c:1/ > sync|rc.gc:off > a.b-c 1
 sync.server.url=http://a:1 > sync|rc.gc:maybe > none";
 
+fn address(alloc: Global, text: &str, line: &str) -> Result<String, Memory> {
+    let settings = lines_of(alloc, text)?;
+    let words = words_of(alloc, line)?;
+    match link_address(alloc, &words, &settings)? {
+        Some(found) => Ok(format!(in alloc; "{} {}", found.host.as_str(), found.port)?),
+        None => Ok(String::from_str(alloc, "none")?),
+    }
+}
+
 #[test]
 fn the_address_of_the_server_is_found(rt: HostRuntime) -> Result<(), Fail> {
-    let alloc = rt.alloc();
     for row in ADDRESSES.split('\n') {
         let (text, rest) = halves(row)?;
         let (line, want) = halves(rest)?;
-        let settings = lines_of(alloc, text)?;
-        let words = words_of(alloc, line)?;
-        let found = match link_address(alloc, &words, &settings)? {
-            Some(found) => format!(in alloc; "{} {}", found.host.as_str(), found.port)?,
-            None => String::from_str(alloc, "none")?,
-        };
-        assert_eq!(rt; found.as_str(), want, "{row}");
+        assert_eq!(rt; address(rt.alloc(), text, line)?.as_str(), want, "{row}");
     }
     Ok(())
 }
 
+// Settings, what `TASKDATA` and `HOME` say, and the folder of the store.
+const FOLDERS: [(&str, Option<&str>, Option<&str>, &str); 11] = [
+    ("", Some("/data"), Some("/home/ann"), "/data"),
+    ("data.location=/set", Some("/data"), None, "/data"),
+    ("", None, Some("/home/ann"), "/home/ann/.task"),
+    ("", None, None, ".task"),
+    ("data.location=/set", None, Some("/home/ann"), "/set"),
+    (
+        "data.location=/set\nno setting\ngc=maybe\ndata.location=/two",
+        None,
+        None,
+        "/two",
+    ),
+    ("data.location=/set\ndata.location=", None, None, ".task"),
+    (FILE, None, Some("/home/ann"), "/home/ann/tasks"),
+    (FILE, None, None, "~/tasks"),
+    (
+        "data.location=~ann/tasks",
+        None,
+        Some("/home/ann"),
+        "~ann/tasks",
+    ),
+    ("data.location=~", None, Some("/home/ann"), "~"),
+];
+
+fn folder(
+    alloc: Global,
+    text: &str,
+    taskdata: Option<&str>,
+    home: Option<&str>,
+) -> Result<String, Memory> {
+    let settings = text.as_bytes().to_vec(alloc)?;
+    data_folder(alloc, &settings, taskdata, home)
+}
+
 #[test]
 fn the_folder_is_found(rt: HostRuntime) -> Result<(), Fail> {
-    let alloc = rt.alloc();
-    let rows = [
-        ("", Some("/data"), Some("/home/ann"), "/data"),
-        ("data.location=/set", Some("/data"), None, "/data"),
-        ("", None, Some("/home/ann"), "/home/ann/.task"),
-        ("", None, None, ".task"),
-        ("data.location=/set", None, Some("/home/ann"), "/set"),
-        (
-            "data.location=/set\nno setting\ngc=maybe\ndata.location=/two",
-            None,
-            None,
-            "/two",
-        ),
-        ("data.location=/set\ndata.location=", None, None, ".task"),
-        (FILE, None, Some("/home/ann"), "/home/ann/tasks"),
-        (FILE, None, None, "~/tasks"),
-        (
-            "data.location=~ann/tasks",
-            None,
-            Some("/home/ann"),
-            "~ann/tasks",
-        ),
-        ("data.location=~", None, Some("/home/ann"), "~"),
-    ];
-    for (settings, taskdata, home, folder) in rows {
-        let settings = settings.as_bytes().to_vec(alloc)?;
-        assert_eq!(rt;
-            data_folder(alloc, &settings, taskdata, home)?.as_str(),
-            folder
-        );
+    for (text, taskdata, home, want) in FOLDERS {
+        let found = folder(rt.alloc(), text, taskdata, home)?;
+        assert_eq!(rt; found.as_str(), want);
     }
     Ok(())
 }

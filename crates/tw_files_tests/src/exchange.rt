@@ -1,0 +1,112 @@
+// The client's side of one exchange.
+
+use std::alloc::Global;
+use std::io;
+use std::net::{Ipv4Addr, SocketAddr};
+use std::test::Fail;
+use std::time::Duration;
+use tw_files::{AskError, Dialer, TimedStream, ask};
+
+// The bytes of the longest reply: a head of 16,384 and a body of 16,777,216.
+const LONGEST: usize = 16_793_600;
+
+// Gives so many bytes, at most so many at a time, and takes three.
+#[derive(Drop)]
+struct Answer {
+    left: usize,
+    piece: usize,
+}
+
+impl TimedStream for Answer {
+    ghost use Rattle.std.specs.Prelude.{None};
+
+    ghost remaining = { λ stream. None };
+
+    ghost contents = { λ stream. None };
+
+    ghost waited = { λ stream nanos. Unit {0} };
+
+    fn read_within(&mut self, buffer: &mut [u8], _wait: Duration) -> io::Result<usize> {
+        let count = buffer.len().min(self.piece).min(self.left);
+        buffer[..count].fill(b'x');
+        self.left -= count;
+        Ok(count)
+    }
+
+    fn write_within(&mut self, bytes: &[u8], _wait: Duration) -> io::Result<usize> {
+        Ok(bytes.len().min(3))
+    }
+
+    fn end_writing(&mut self) -> io::Result<()> {
+        Ok(())
+    }
+}
+
+// A host with two addresses, of which the second answers.
+#[derive(Drop)]
+struct TwoAddresses {
+    alloc: Global,
+    bytes: usize,
+    piece: usize,
+}
+
+impl Dialer for TwoAddresses {
+    type Stream = Answer;
+
+    ghost is_of = { λ host port address. Unit {0} };
+
+    ghost leads_to = { λ stream address nanos. Unit {0} };
+
+    fn addresses(&self, _host: &str, port: u16) -> io::Result<Vec<SocketAddr>> {
+        let mut found = Vec::new(self.alloc);
+        for last in 1..3 {
+            let ip = Ipv4Addr::new(127, 0, 0, last);
+            found.push(SocketAddr::from((ip, port)))?;
+        }
+        Ok(found)
+    }
+
+    fn connect(&self, address: SocketAddr, _wait: Duration) -> io::Result<Answer> {
+        if address == SocketAddr::from((Ipv4Addr::new(127, 0, 0, 2), 8080)) {
+            return Ok(Answer {
+                left: self.bytes,
+                piece: self.piece,
+            });
+        }
+        Err(io::Error::from(io::ErrorKind::ConnectionRefused))
+    }
+}
+
+// A port, the bytes that its second address gives, how many at a time, and how many the reply has.
+const ROWS: [(u16, usize, usize, Result<usize, AskError>); 3] = [
+    (8080, 5, 2, Ok(5)),
+    (8081, 5, 2, Err(AskError::Failed)),
+    (8080, LONGEST + 1, LONGEST, Ok(LONGEST)),
+];
+
+fn is_all_x(bytes: &[u8]) -> bool {
+    for byte in bytes {
+        if *byte != b'x' {
+            return false;
+        }
+    }
+    true
+}
+
+#[test]
+fn a_reply_is_read_to_its_end_or_to_the_longest(rt: HostRuntime) -> Result<(), Fail> {
+    let alloc = rt.alloc();
+    let mut reply = b"an old reply".to_vec(alloc)?;
+    for (port, bytes, piece, want) in ROWS {
+        let host = TwoAddresses {
+            alloc,
+            bytes,
+            piece,
+        };
+        match ask(&host, &rt, "host", port, b"request", &mut reply) {
+            Ok(()) => assert!(rt; want == Ok(reply.len()) && is_all_x(&reply)),
+            Err(error) => assert!(rt; want == Err(error)),
+        }
+    }
+    Ok(())
+}

@@ -1,0 +1,104 @@
+// Two machines of a user that share a server, and command lines that are run on them one after another.
+
+use crate::machine::{Ended, Exchange, Given, has_property, link_over, machine, run_given};
+use std::alloc::Global;
+use std::process::Abort;
+use std::test::Fail;
+use tw_cli::Cause;
+use tw_server::MemoryLink;
+use tw_world::MemoryDisk;
+
+const SETTINGS: &str = "sync.server.url=http://localhost:8080\n\
+    sync.server.client_id=1a2b3c4d-0001-4002-8003-00000000000f\n";
+
+/// The machine on which a line is run.
+#[derive(Clone, Copy)]
+pub enum On {
+    Desk,
+    Lap,
+}
+
+/// How a line ends.
+#[derive(Clone, Copy)]
+pub enum Then {
+    /// It prints this.
+    Prints(&'static str),
+    /// It is carried out.
+    Done,
+    /// There is nothing to undo.
+    NothingToUndo,
+    /// The way to the server fails, and nothing is printed.
+    LinkFault,
+}
+
+impl Then {
+    fn is_met(self, ended: &Ended) -> bool {
+        match self {
+            Then::Prints(text) => {
+                ended.is(0, &Cause::Done) && ended.out.bytes() == text.as_bytes()
+            }
+            Then::Done => ended.is(0, &Cause::Done),
+            Then::NothingToUndo => ended.outcome.cause == Cause::NothingToUndo,
+            Then::LinkFault => ended.is(5, &Cause::LinkFault) && ended.out.bytes().is_empty(),
+        }
+    }
+}
+
+/// A machine, a second, a line of words that are parted by bars, and how it ends.
+pub type Row = (On, u64, &'static str, Then);
+
+/// Two machines and the link to their server. Each run draws identifiers from 1 on.
+#[derive(Drop)]
+pub struct World {
+    alloc: Global,
+    pub desk: MemoryDisk,
+    pub lap: MemoryDisk,
+    pub link: MemoryLink,
+}
+
+impl World {
+    /// Empty machines, with a link over which these exchanges happen, and then others that arrive.
+    pub fn new(alloc: Global, exchanges: &[Exchange]) -> Result<World, Fail> {
+        let desk = machine(alloc)?;
+        let lap = machine(alloc)?;
+        let link = link_over(alloc, exchanges)?;
+        Ok(World {
+            alloc,
+            desk,
+            lap,
+            link,
+        })
+    }
+
+    /// Runs a line.
+    pub fn run(&mut self, on: On, second: u64, line: &str) -> Result<Ended, Fail> {
+        let mut given = Given::new(1, second);
+        given.settings = SETTINGS;
+        let link = &mut self.link;
+        match on {
+            On::Desk => run_given(self.alloc, &given, line, &mut self.desk, link, &[]),
+            On::Lap => run_given(self.alloc, &given, line, &mut self.lap, link, &[]),
+        }
+    }
+
+    /// Runs lines one after another, and compares how each ends.
+    pub fn follow(&mut self, rt: &impl Abort, rows: &[Row]) -> Result<(), Fail> {
+        for (on, second, line, then) in rows {
+            let ended = self.run(*on, *second, line)?;
+            assert!(rt; then.is_met(&ended), "{line} at {second}");
+        }
+        Ok(())
+    }
+
+    /// Whether both machines print one export.
+    pub fn agrees(&mut self, second: u64) -> Result<bool, Fail> {
+        let desk = self.run(On::Desk, second, "export")?;
+        let lap = self.run(On::Lap, second, "export")?;
+        Ok(desk.is(0, &Cause::Done) && desk.out.bytes() == lap.out.bytes())
+    }
+
+    /// Whether the first task of the lap has this property.
+    pub fn has_at_lap(&mut self, property: &str, want: &str) -> Result<bool, Fail> {
+        has_property(self.alloc, &mut self.lap, property, want)
+    }
+}
