@@ -56,8 +56,9 @@ fn a_lost_reply_costs_nothing(rt: HostRuntime) -> Result<(), Fail> {
             "Synced: 1 pulled, 0 dropped, 0 pushed.\n",
         ),
     ];
+    let nothing: &[&str] = &[];
+    let exchanges = [(nothing, Fate::Deliver), (nothing, Fate::LoseReply)];
     for (between, synced) in table {
-        let exchanges = [([].as_slice(), Fate::Deliver), (&[], Fate::LoseReply)];
         let mut world = World::new(alloc, &exchanges)?;
         world.follow(&rt, &[ADD])?;
         let added = world.desk.bytes().to_vec(alloc)?;
@@ -115,11 +116,12 @@ fn a_version_that_is_no_segment_is_named_and_leaves_all(rt: HostRuntime) -> Resu
 // Before each add-version another machine adds a version. A sync asks, sends and is refused, asks for the version, and asks
 // again: a round of three exchanges, the second of which sends.
 fn conflicting(alloc: Global, conflicts: u8) -> Result<World, Fail> {
+    let nothing: &[&str] = &[];
     let mut exchanges: Vec<Exchange> = Vec::new(alloc);
     for _ in 0..conflicts {
-        for others in [[].as_slice(), &[NOTHING], &[]] {
-            exchanges.push((others, Fate::Deliver))?;
-        }
+        exchanges.push((nothing, Fate::Deliver))?;
+        exchanges.push((&[NOTHING], Fate::Deliver))?;
+        exchanges.push((nothing, Fate::Deliver))?;
     }
     World::new(alloc, &exchanges)
 }
