@@ -12,10 +12,16 @@ use std::mem::replace;
 use tw_world::{Memory, Text};
 
 /// Texts, seen as a list of them. Up to two lie in the value and take no memory of their own.
-#[derive(Drop)]
 pub struct Texts {
     alloc: Global,
     few: Few,
+}
+
+// It is written out, so that a caller does not prove again how each part is dropped.
+impl Drop for Texts {
+    fn drop(self) {
+        let Texts { alloc: _, few: _ } = self;
+    }
 }
 
 #[derive(Drop)]
@@ -247,10 +253,21 @@ fn copy_texts(alloc: Global, texts: &Vec<Text>) -> Result<Vec<Text>, Memory>
 }
 
 /// A time that was tracked, from a start up to but not including an end, or not yet ended.
-#[derive(Drop)]
 pub struct Interval {
     pub start: u64,
     pub end: Option<u64>,
     pub tags: Texts,
     pub annotation: Text,
+}
+
+// It is written out, so that a caller does not prove again how each part is dropped.
+impl Drop for Interval {
+    fn drop(self) {
+        let Interval {
+            start: _,
+            end: _,
+            tags: _,
+            annotation: _,
+        } = self;
+    }
 }

@@ -11,11 +11,21 @@ use uuid::Uuid;
 
 /// Two replicas and a link to their server, all of them in memory. After want of memory a part of a step may be done, and it is to be
 /// dropped.
-#[derive(Drop)]
 pub(crate) struct Network {
     pub(crate) first: Machine,
     pub(crate) second: Machine,
     pub(crate) link: MemoryLink,
+}
+
+// It is written out, so that a caller does not prove again how each part is dropped.
+impl Drop for Network {
+    fn drop(self) {
+        let Network {
+            first: _,
+            second: _,
+            link: _,
+        } = self;
+    }
 }
 
 impl Network {

@@ -1,11 +1,21 @@
 // The calls of an object in memory: which of them are to fail, how many were made, and how many failed.
 ghost use Rattle.std.specs.Prelude.{◌≡◌, ◌≤◌, true, false};
 
-#[derive(Drop)]
 pub struct Calls {
     pub fails: Vec<u64>,
     pub made: u64,
     pub faults: u64,
+}
+
+// It is written out, so that a caller does not prove again how each part is dropped.
+impl Drop for Calls {
+    fn drop(self) {
+        let Calls {
+            fails: _,
+            made: _,
+            faults: _,
+        } = self;
+    }
 }
 
 impl Calls {

@@ -7,18 +7,34 @@ use crate::{DiskError, Memory};
 use std::alloc::Global;
 
 /// What a call did to the disk.
-#[derive(Drop)]
 pub enum Change {
     Write(u64, Vec<u8>),
     Resize(u64),
     Sync,
 }
 
+// It is written out, so that a caller does not prove again how each part is dropped.
+impl Drop for Change {
+    fn drop(self) {
+        match self {
+            Change::Write(_a, _b) => {}
+            Change::Resize(_a) => {}
+            Change::Sync => {}
+        }
+    }
+}
+
 /// A change, and the number of the call that made it.
-#[derive(Drop)]
 pub struct Entry {
     pub call: u64,
     pub change: Change,
+}
+
+// It is written out, so that a caller does not prove again how each part is dropped.
+impl Drop for Entry {
+    fn drop(self) {
+        let Entry { call: _, change: _ } = self;
+    }
 }
 
 // Adds a change to the log, or nothing where there is no room.
