@@ -1,0 +1,14 @@
+//! Tests of disks, folders, files and the journal, over the public calls of tw_world, tw_files and tw_journal.
+//! A module is named after the crate that it tests.
+#![tactic(auto)]
+
+#[cfg(test)]
+mod exchange;
+#[cfg(test)]
+mod files;
+#[cfg(test)]
+mod journal;
+#[cfg(test)]
+mod streams;
+#[cfg(test)]
+mod world;

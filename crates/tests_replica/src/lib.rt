@@ -1,0 +1,16 @@
+//! Tests of a replica, the commands over it, and what they read and print, over the public calls of tw_replica, tw_commands, tw_export, tw_import, tw_report and tw_generate.
+//! A module is named after the crate that it tests.
+#![tactic(auto)]
+
+#[cfg(test)]
+mod commands;
+#[cfg(test)]
+mod export;
+#[cfg(test)]
+mod generate;
+#[cfg(test)]
+mod import;
+#[cfg(test)]
+mod replica;
+#[cfg(test)]
+mod report;

@@ -1,0 +1,10 @@
+//! Tests of hours: the store of intervals, the commands and their top call, over the public calls of timew_store, timew_cmd and timew_cli.
+//! A module is named after the crate that it tests.
+#![tactic(auto)]
+
+#[cfg(test)]
+mod cli;
+#[cfg(test)]
+mod cmd;
+#[cfg(test)]
+mod store;

@@ -1,0 +1,8 @@
+//! Tests of filters, command lines and settings, over the public calls of tw_filter and tw_words.
+//! A module is named after the crate that it tests.
+#![tactic(auto)]
+
+#[cfg(test)]
+mod filter;
+#[cfg(test)]
+mod words;
