@@ -8,7 +8,7 @@ use Rattle.tw_world.specs.Crash.{Tells, Settled, Kept}
 use Rattle.tw_world.specs.Folder.{Files, FolderModel}
 use Rattle.tw_world.specs.Turns.{InTurns, crash_of}
 use Rattle.tw_world.specs.Turns.InTurns.{at_rest}
-use Rattle.jiff.specs.Types.{TimeZone}
+use Rattle.tw_time.specs.Moments.{TimeZone}
 use Rattle.timew_store.proofs.Prepares.{opens_here}
 use Rattle.timew_store.proofs.Undoes.{rest_read}
 use Rattle.tw_world.proofs.TurnRules.{turns_weaker}

@@ -1,6 +1,6 @@
 -- What is known of a run of words.
 use Rattle.std.proofs.Common.{◌≡◌, ◌⊎◌, inl, inr, ℕ, List, Result, Ok, Err, refl, sym, ap, subst, ◌∙◌, arith}
-use Rattle.jiff.specs.Types.{TimeZone}
+use Rattle.tw_time.specs.Moments.{TimeZone}
 use Rattle.tw_world.specs.Disk.{DiskModel, Rose}
 use Rattle.tw_world.specs.Disk as disk
 use Rattle.tw_world.specs.Crash.{Kept}

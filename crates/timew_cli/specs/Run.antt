@@ -1,6 +1,6 @@
 -- What a run gives, by the cause that it ends with.
 use Rattle.std.specs.Prelude.{◌≡◌, ◌⊎◌, ◌<◌, ◌≤◌, ◌+◌, ◌^◌, ℕ, List, [], ◌∷◌, ◌++◌, length, Result, Ok, Err}
-use Rattle.jiff.specs.Types.{TimeZone}
+use Rattle.tw_time.specs.Moments.{TimeZone}
 use Rattle.tw_world.specs.Disk.{DiskModel, Rose}
 use Rattle.tw_world.specs.Disk as disk
 use Rattle.tw_world.specs.Crash.{Tells, Settled, Kept}

@@ -1,7 +1,7 @@
 -- Words with their numbers, and what a word is as a part of a command: timew(1).
 use Rattle.std.specs.Prelude.{ℕ, ◌+◌, ◌==◌, Bool, not, cond, nat_eq, List, [], ◌∷◌, ◌++◌, codes, map, filter, drop, length, take_while, Option, Some, None, is_some, Result, Ok, Err, if◌then◌else◌}
 use Rattle.std.specs.List.{list_any, starts_with}
-use Rattle.jiff.specs.Types.{TimeZone}
+use Rattle.tw_time.specs.Moments.{TimeZone}
 use Rattle.tw_world.specs.Folder.{same_bytes}
 use Rattle.tw_world.specs.Folder.{add_name as add_tag}
 use Rattle.tw_text.specs.Natural.{natural}

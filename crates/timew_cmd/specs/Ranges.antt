@@ -1,6 +1,6 @@
 -- Ranges of time, and which intervals are in them: timew-ranges(7).
 use Rattle.std.specs.Prelude.{ℕ, ◌-◌, Bool, ◌&&◌, nat_lt, nat_le, max, min, List, codes, map, sum, unwrap_or, Result, Ok, Err, if◌then◌else◌}
-use Rattle.jiff.specs.Types.{TimeZone}
+use Rattle.tw_time.specs.Moments.{TimeZone}
 use Rattle.tw_time.specs.declared.error.DateError.{DateError}
 use Rattle.tw_time.specs.Moments.{moment}
 use Rattle.timew_store.specs.declared.interval.Interval.{Interval}

@@ -1,6 +1,6 @@
 -- The command that words give: timew(1). Words are read from the left, each against the next part.
 use Rattle.std.specs.Prelude.{◌≡◌, ℕ, Bool, true, false, ◌&&◌, cond, List, [], ◌∷◌, codes, take, drop, Option, Some, None, Result, Ok, Err}
-use Rattle.jiff.specs.Types.{TimeZone}
+use Rattle.tw_time.specs.Moments.{TimeZone}
 use Rattle.tw_text.specs.Columns.{cell_text}
 use Rattle.tw_time.specs.declared.error.DateError.{DateError}
 use Rattle.tw_time.specs.declared.error.DateError.TheVariants.{Unknown}

@@ -1,7 +1,7 @@
 -- What timew prints: timew(1), timew-summary(1).
 use Rattle.std.specs.Prelude.{ℕ, ◌+◌, ◌/◌, ◌%◌, ◌==◌, true, false, max, min, List, [], ◌∷◌, ◌++◌, codes, map, filter, Option, option_map, if◌then◌else◌}
 use Rattle.std.specs.Fmt.{decimal}
-use Rattle.jiff.specs.Types.{TimeZone}
+use Rattle.tw_time.specs.Moments.{TimeZone}
 use Rattle.tw_time.specs.declared.clock.Clock.{Clock}
 use Rattle.tw_time.specs.Civil.{shown_clock}
 use Rattle.tw_time.specs.Shown.{shown_day_text}

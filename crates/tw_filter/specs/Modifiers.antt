@@ -1,6 +1,6 @@
 -- What a word `name.modifier:value` asks: task(1), under "attribute modifiers".
 use Rattle.std.specs.Prelude.{ℕ, ◌||◌, Bool, true, false, cond, List, Option, Some, None, Result, Err, codes}
-use Rattle.jiff.specs.Types.{TimeZone}
+use Rattle.tw_time.specs.Moments.{TimeZone}
 use Rattle.tw_model.specs.Maps.{same_bytes}
 use Rattle.tw_filter.specs.Values.{◌>>=◌, asks, presence, priority_term, status_value, moment_value}
 use Rattle.tw_filter.specs.declared.bad_word.WordKind.{WordKind}

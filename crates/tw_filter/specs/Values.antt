@@ -1,7 +1,7 @@
 -- What a word `name:value` asks: task(1), under "attributes".
 use Rattle.std.specs.Prelude.{ℕ, ◌==◌, ◌||◌, Bool, true, false, cond, length, List, [], ◌∷◌, Option, Some, None, option_map, Result, Ok, Err, codes}
 use Rattle.std.specs.Option.{ok_or}
-use Rattle.jiff.specs.Types.{Date, TimeZone}
+use Rattle.tw_time.specs.Moments.{Date, TimeZone}
 use Rattle.tw_model.specs.Maps.{same_bytes}
 use Rattle.tw_time.specs.Moments.{moment}
 use Rattle.tw_time.specs.Civil.{shown_date, day_of_date}

@@ -5,7 +5,7 @@ use Rattle.std.specs.Ordering.{is_lt, is_eq, eq_by_cmp}
 use Rattle.std.specs.Cmp.Lexicographic.{nat_list_cmp_total, texts_ties}
 use Rattle.std.specs.FinMap.{get, insert, empty, entries, find, is_sorted, entries_sorted, get-entries, get-empty}
 use Rattle.std.specs.FinMap.Entries.{below_all}
-use Rattle.jiff.specs.Types.{TimeZone}
+use Rattle.tw_time.specs.Moments.{TimeZone}
 use Rattle.tw_world.specs.declared.Moment.{Moment}
 use Rattle.tw_model.specs.Maps.{bytes_cmp, same_bytes}
 use Rattle.tw_model.specs.Ops.{TaskValue, TasksValue}

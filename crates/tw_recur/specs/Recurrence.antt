@@ -2,7 +2,7 @@
 use Rattle.std.specs.Prelude.{◌<◌, ℕ, zero, suc, ◌+◌, ◌-◌, ◌^◌, Bool, true, false, cond, ◌&&◌, nat_lt, nat_le, List, [], Option, Some, None, unwrap_or, codes}
 use Rattle.std.specs.Result.{result_ok}
 use Rattle.std.specs.FinMap.{get}
-use Rattle.jiff.specs.Types.{TimeZone}
+use Rattle.tw_time.specs.Moments.{TimeZone}
 use Rattle.tw_time.specs.declared.Length.{Length}
 use Rattle.tw_time.specs.Lengths.{added, duration, IsOfOneUnit}
 use Rattle.tw_world.specs.declared.moment.TheConstants.{MOMENT_LIMIT}

@@ -14,7 +14,7 @@ use Rattle.tw_words.specs.Modifications.{item_in, takes_out, is_plain, is_add, t
 use Rattle.tw_words.specs.Modifications.{untagged_fault, tagged_fault}
 use Rattle.tw_words.specs.Changed.{Draft, task_in, set_to, dependency_on, going_on, with_items, with_task, given, draft_of, dated, with_value, without_value, with_pair, with_text, pair_or_text, tag_or_pair, unless_wrong, with_word, with_words, made, made_of, beginning}
 use Rattle.tw_words.specs.Changed.{going_on_behind}
-use Rattle.jiff.specs.Types.{TimeZone}
+use Rattle.tw_time.specs.Moments.{TimeZone}
 use Rattle.tw_filter.specs.declared.token.Token.{Token}
 use Rattle.tw_words.specs.Commands.{filtering_of}
 use Rattle.tw_words.specs.Faults.{filter_fault, lack_fault, rest_fault, rest_fault_by, fault_of, unless_bad, filter_by, with_rest}

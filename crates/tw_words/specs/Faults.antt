@@ -1,7 +1,7 @@
 -- The first word of a line that is wrong without a look at its filter or at tasks: task(1), under "SUBCOMMANDS" and "MODIFICATIONS".
 use Rattle.std.specs.Prelude.{ℕ, ◌+◌, ◌-◌, ◌==◌, ◌&&◌, ◌||◌, not, nat_le, Bool, false, cond, is_some, is_none, option_and_then, List, [], Option, Some, None, Result, Ok, Err, codes}
 use Rattle.std.specs.List.{slice_get}
-use Rattle.jiff.specs.Types.{TimeZone}
+use Rattle.tw_time.specs.Moments.{TimeZone}
 use Rattle.tw_model.specs.Maps.{same_bytes}
 use Rattle.tw_text.specs.Natural.{natural}
 use Rattle.tw_filter.specs.Grammar.{filter_in}

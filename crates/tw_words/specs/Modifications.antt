@@ -1,7 +1,7 @@
 -- Modification words, and what is wrong with them: task(1), under "MODIFICATIONS" and "ATTRIBUTES AND METADATA".
 use Rattle.std.specs.Prelude.{ℕ, ◌+◌, ◌==◌, ◌&&◌, ◌||◌, not, nat_eq, nat_le, Bool, true, false, cond, is_some, List, [], ◌∷◌, Option, Some, None, Result, Ok, Err, length, drop, slice_index, codes}
 use Rattle.std.specs.List.{list_all, starts_with}
-use Rattle.jiff.specs.Types.{TimeZone}
+use Rattle.tw_time.specs.Moments.{TimeZone}
 use Rattle.tw_model.specs.Maps.{same_bytes}
 use Rattle.tw_time.specs.Moments.{moment}
 use Rattle.tw_time.specs.Lengths.{duration}
