@@ -24,16 +24,16 @@ commands that add tasks:
 
 commands that change tasks:
   FILTER modify WORDS   change them
-  FILTER append TEXT    put a text behind the description
+  FILTER append TEXT    put a text after the description
   FILTER prepend TEXT   put a text before it
   FILTER annotate TEXT  add a note
-  FILTER denotate TEXT  take a note with this text away
+  FILTER denotate TEXT  take away a note with this text
   FILTER start          begin to work on them
   FILTER stop           end that
   FILTER done           complete them
   FILTER delete         delete them
-  FILTER purge          take deleted ones out for good
-  undo                  take the last command back that changed something
+  FILTER purge          remove deleted ones for good
+  undo                  undo the last command that changed something
 
 reports, the tasks that they show, and their order:
   [FILTER] next         pending, the most urgent first; so without a COMMAND
@@ -55,7 +55,7 @@ commands that show tasks:
 between machines:
   sync                  exchange changes with the server that the settings name
 
-commands of working hours, behind tw timew:
+commands of working hours, after tw timew:
   start [MOMENT] [TAGS] begin an interval; an open one ends
   stop [MOMENT]         end the open interval
   cancel                drop it
@@ -71,7 +71,7 @@ commands of working hours, behind tw timew:
   move @N START         move one to another start
   lengthen @N LENGTH    move the end of one to a later moment
   shorten @N LENGTH     move it to an earlier one
-  undo                  take the last change back
+  undo                  undo the last change
   summary [RANGE]       show intervals and their length, today's without a range
   export [RANGE]        print them as JSON, all without a range
 
@@ -79,13 +79,15 @@ commands of working hours, behind tw timew:
 :adjust other intervals make room for the one that is placed.
 
 A change is a word as project:Home, due:tomorrow, priority:H, depends:3, +tag or
--tag, and every other word is of the description. A task that is added with
+-tag, and every other word is part of the description. A task that is added with
 due:2026-01-31 recur:monthly recurs: the reports make a task for each month.
 
-A filter has numbers of tasks, uuids,
-+tag, -tag, +PENDING and its kin, attributes as project:Home or
-due.before:eow, and words of the description, with and, or, xor, ! and brackets
-between them. Words behind -- are text.
+A filter has numbers of tasks, uuids, +tag, -tag, +PENDING and its kin,
+attributes as project:Home or due.before:eow, and words of the description, with
+and, or, xor, ! and brackets between them. Words after -- are text.
+
+Commands and names are not shortened: mod and pri:H are words of a filter or of
+a description. Nothing asks for confirmation; undo takes a command back.
 
 attributes that a change may set:
   description project priority due wait scheduled until entry depends recur
@@ -98,17 +100,21 @@ virtual tags:
   PENDING WAITING COMPLETED DELETED ACTIVE OVERDUE BLOCKED BLOCKING TAGGED
   ANNOTATED
 
-The working hours lie in the folder that the variable TIMEWARRIORDB names;
-without it in .timewarrior of the folder that HOME names: month files in data,
-and their journal undo.journal.
-
-The tasks lie in the file replica.journal, in the folder that the variable
+The tasks are in the file replica.journal, in the folder that the variable
 TASKDATA names, or the setting data.location; without them in .task of the
-folder that HOME names. A folder that is not there is made, and so is the
-server's file. The variable TZ holds the time zone, as a rule of POSIX:
-CET-1CEST,M3.5.0,M10.5.0/3; without it the zone is UTC. Settings are read from
-the file that TASKRC names; without it from .taskrc in the folder that HOME
-names. A word rc.NAME=VALUE sets one for a run:
+folder that HOME names. The working hours are in the folder that TIMEWARRIORDB
+names; without it in .timewarrior of the folder that HOME names. A folder that
+is not there is made, and so is the server's file.
+
+The variable TZ holds the time zone, as a rule of POSIX such as
+CET-1CEST,M3.5.0,M10.5.0/3; without it the zone is UTC. The name of a place, as
+Europe/Berlin, is refused: bad command line. The rule of this machine's zone is
+the last line of a file:
+
+  export TZ=\"$(tail -n 1 /etc/localtime)\"
+
+Settings are read from the file that TASKRC names; without it from .taskrc in
+the folder that HOME names. A word rc.NAME=VALUE sets one for a run:
 
   sync.server.url=http://HOST:PORT
   sync.server.client_id=UUID
@@ -125,13 +131,12 @@ settings:
   urgency.waiting.coefficient
 
 status:
-  0 done                        4 out of memory
-  1 nothing to do               5 the server or the port failed
-  2 a word or setting is wrong  6 the output failed
-  3 the journal failed          7 the journal or a month file is damaged
-                                8 the folder of the month files failed
-                                8 the input failed, or is none that fits
+  0 done                        5 the server or the port failed
+  1 nothing to do               6 the output failed
+  2 a word or setting is wrong  7 the journal or a month file is damaged
+  3 the journal failed          8 the input failed or does not fit, or the
+  4 out of memory                 folder of the month files failed
 ";
 
-/// The program's name and version.
+/// The program's name and version. The change log has the same version.
 pub const VERSION: &str = "tw 0.1.0\n";
