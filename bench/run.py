@@ -7,13 +7,13 @@ For each number of tasks it builds a store for each program, as that many `add`s
 in the format that docs/FORMATS.md gives, with `--per-record` tasks in each record, and Taskwarrior's
 `pending.data`, `undo.data` and `backlog.data`. With `--synced` the tasks came from a server, and there
 is nothing to undo: a journal of one sync, and Taskwarrior's `pending.data` alone. With `--state` the journal has slots and a thousand
-records, in whose place a first command put the one that tells their state.
+records, in whose place a first command put the one that spells their state.
 The runs of the two programs alternate, and each changes something that is not changed yet: `modify` sets
 another project, `annotate` adds another note, `done` ends another task, `modify-all` changes every task, and `import` reads as many
 tasks from a file into an empty store.
 Each line gives the median of the wall time in milliseconds, the peak of resident memory of one more run in
 megabytes, and how many times less `tw` takes of each.
-Memory is measured by GNU time (Debian's package time), and left out where that is not there.
+Memory is measured by GNU time (Debian's package time), and left out if that is not there.
 Without `task` on the machine (Debian's package taskwarrior), it measures `tw` alone.
 """
 
@@ -195,7 +195,7 @@ class Program:
         return self.run(words, wrapper)
 
     def peak(self, command, folder):
-        """The peak memory of one run in megabytes, where GNU time is there."""
+        """The peak memory of one run in megabytes, if GNU time is there."""
         if not os.access(GNU_TIME, os.X_OK):
             return None
         report = os.path.join(folder, "peak")

@@ -18,7 +18,7 @@ _tw() {
         [[ ${#words[@]} -eq 3 ]] && mapfile -t COMPREPLY < <(compgen -f -- "$begun")
         return
     fi
-    # The shell replaces only what stands behind its last break.
+    # The shell replaces only what comes after its last break.
     kept=
     [[ $begun == *[:=]* ]] && kept=${begun%"${begun##*[:=]}"}
     COMPREPLY=()
@@ -30,4 +30,4 @@ _tw() {
 }
 
 complete -F _tw tw
-# Where task and timew are functions or wrappers of tw: complete -F _tw task timew
+# If task and timew are functions or wrappers of tw: complete -F _tw task timew
