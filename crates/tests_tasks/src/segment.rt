@@ -26,30 +26,48 @@ fn update(
     })
 }
 
+const PROPERTIES: [(&str, &str); 4] = [
+    ("description", "Buy milk"),
+    ("entry", "1700000000"),
+    ("modified", "1700000000"),
+    ("status", "pending"),
+];
+
 fn added(alloc: Global, uuid: Uuid, at: Moment) -> Result<Vec<SyncOp>, Memory> {
     let mut ops = Vec::new(alloc);
     ops.push(SyncOp::Create { uuid })?;
-    ops.push(update(alloc, uuid, "description", "Buy milk", at)?)?;
-    ops.push(update(alloc, uuid, "entry", "1700000000", at)?)?;
-    ops.push(update(alloc, uuid, "modified", "1700000000", at)?)?;
-    ops.push(update(alloc, uuid, "status", "pending", at)?)?;
+    for (property, value) in PROPERTIES {
+        ops.push(update(alloc, uuid, property, value, at)?)?;
+    }
     Ok(ops)
+}
+
+// Whether these operations are written so.
+fn is_written(alloc: Global, ops: &Vec<SyncOp>, text: &[u8]) -> Result<bool, SegmentError> {
+    let written = write_segment(alloc, ops)?;
+    Ok(written.as_slice() == text)
+}
+
+fn is_added_written(alloc: Global, text: &[u8]) -> Result<bool, Fail> {
+    let uuid = Uuid::parse_str(UUID).or(Err("no uuid"))?;
+    let at = Moment::new(1_700_000_000, 0).ok_or("no moment")?;
+    let ops = added(alloc, uuid, at).or(Err("memory"))?;
+    Ok(is_written(alloc, &ops, text)?)
+}
+
+// Whether a text is read as five operations, which are written so again.
+fn is_written_again(alloc: Global, text: &[u8]) -> Result<bool, SegmentError> {
+    let read = read_segment(alloc, text)?;
+    Ok(read.len() == 5 && is_written(alloc, &read, text)?)
 }
 
 #[test]
 fn an_added_task_is_a_segment_of_656_bytes(rt: HostRuntime) -> Result<(), Fail> {
-    let uuid = Uuid::parse_str(UUID).or(Err("no uuid"))?;
-    let at = Moment::new(1_700_000_000, 0).ok_or("no moment")?;
-    let ops = added(rt.alloc(), uuid, at).or(Err("memory"))?;
-    let text = write_segment(rt.alloc(), &ops)?;
-    assert_eq!(rt; text.len(), 656);
-    assert_eq!(rt; text.as_slice(), ADDED.as_bytes());
-    let read = read_segment(rt.alloc(), text.as_slice())?;
-    assert_eq!(rt; read.len(), 5);
-    let again = write_segment(rt.alloc(), &read)?;
-    assert_eq!(rt; again.as_slice(), ADDED.as_bytes());
-    let none = write_segment(rt.alloc(), &Vec::new(rt.alloc()))?;
-    assert_eq!(rt; none.as_slice(), b"{\"operations\":[]}".as_slice());
+    let alloc = rt.alloc();
+    let text = ADDED.as_bytes();
+    assert!(rt; text.len() == 656 && is_added_written(alloc, text)?);
+    assert!(rt; is_written_again(alloc, text)?);
+    assert!(rt; is_written(alloc, &Vec::new(alloc), b"{\"operations\":[]}")?);
     Ok(())
 }
 
@@ -97,8 +115,10 @@ fn other_texts_are_refused_by_their_first_fault(rt: HostRuntime) {
         ),
     ];
     for (text, want) in rows {
-        let read = read_segment(rt.alloc(), text.as_bytes());
-        assert_eq!(rt; read.err(), want, "at {text}");
+        assert!(rt;
+            read_segment(rt.alloc(), text.as_bytes()).err() == want,
+            "at {text}"
+        );
     }
 }
 
@@ -132,9 +152,8 @@ fn timestamps_have_offsets_and_decimals(rt: HostRuntime) -> Result<(), Fail> {
         ("9998-12-31T23:59:59Z", 253370764799, 0),
     ];
     for (text, seconds, nanos) in rows {
-        assert_eq!(rt;
-            moment_of(rt.alloc(), text)?,
-            Moment::new(seconds, nanos),
+        assert!(rt;
+            moment_of(rt.alloc(), text)? == Moment::new(seconds, nanos),
             "at {text}"
         );
     }
@@ -158,7 +177,7 @@ fn timestamps_have_offsets_and_decimals(rt: HostRuntime) -> Result<(), Fail> {
         "",
     ];
     for text in others {
-        assert_eq!(rt; moment_of(rt.alloc(), text)?, None, "at {text}");
+        assert!(rt; moment_of(rt.alloc(), text)?.is_none(), "at {text}");
     }
     Ok(())
 }
