@@ -1,8 +1,8 @@
 // Changing the tasks of a replica in memory.
 
-use crate::changing::make_all;
+use crate::changing::{commit_core, make_all};
 use crate::held::Core;
-use crate::replica::Replica;
+use crate::prepared::Prepared;
 use std::alloc::Global;
 use std::collections::BTreeSet;
 use tw_journal::Journal;
@@ -11,7 +11,6 @@ use tw_world::{Memory, Moment};
 use uuid::Uuid;
 
 /// A replica whose tasks are being changed, in memory. Dropping it leaves the file as it was.
-#[derive(Drop)]
 pub struct Editing {
     pub(crate) journal: Journal,
     pub(crate) core: Core,
@@ -19,29 +18,23 @@ pub struct Editing {
     pub(crate) touched: BTreeSet<Uuid>,
 }
 
-impl Replica {
-    ghost use Rattle.std.specs.Prelude.{[]};
-    ghost use Rattle.tw_world.specs.declared.Moment.{Moment as AnyMoment};
-    ghost use Rattle.tw_replica.specs.Prepared.{IsEditing};
-
-    /// The replica with its tasks open to changes. Nothing is written, and it takes no memory.
-    pub fn edit(self, alloc: Global) -> Editing
-        ensures { (at : AnyMoment) → IsEditing self [] at result }
-    {
-        let Replica { journal, core } = self;
-        Editing {
-            journal,
-            core,
-            ops: Vec::new(alloc),
-            touched: BTreeSet::new(alloc),
-        }
+// It is written out, so that a caller does not prove again how each part is dropped.
+impl Drop for Editing {
+    fn drop(self) {
+        let Editing {
+            journal: _,
+            core: _,
+            ops: _,
+            touched: _,
+        } = self;
     }
 }
 
 impl Editing {
-    ghost use Rattle.std.specs.Prelude.{◌≡◌, ◌++◌, List, OnOk};
+    ghost use Rattle.std.specs.Prelude.{◌≡◌, ◌++◌, List, Bool, IfOk, OnOk};
+    ghost use Rattle.tw_world.specs.declared.Moment.{Moment as AnyMoment};
     ghost use Rattle.tw_model.specs.declared.Change.{Change as AnyChange};
-    ghost use Rattle.tw_replica.specs.Prepared.{IsEditing};
+    ghost use Rattle.tw_replica.specs.Prepared.{IsEditing, IsPrepared, step_of_changes};
     ghost use Rattle.tw_replica.specs.declared.replica.Replica.{Replica as AnyReplica};
 
     /// The tasks, with the changes that were made.
@@ -64,5 +57,26 @@ impl Editing {
             changes,
             at,
         )
+    }
+
+    /// Makes a step of the changes, with an undo point in front of their operations, and packs the numbers where it is asked.
+    /// Nothing is written yet.
+    pub fn prepare(self, alloc: Global, renumber: bool) -> Result<Prepared, Memory>
+        requires { (old : AnyReplica) × (made : List AnyChange) × (at : AnyMoment) × IsEditing old made at self }
+        ensures { IfOk result (λ prepared. (old : AnyReplica) (made : List AnyChange) (at : AnyMoment) → IsEditing old made at self → IsPrepared old (step_of_changes old renumber made at) prepared) }
+    {
+        let Editing {
+            journal,
+            core,
+            ops,
+            touched,
+        } = self;
+        let mut core = core;
+        let body = commit_core(alloc, &mut core, ops, &touched, renumber)?;
+        Ok(Prepared {
+            journal,
+            core,
+            body,
+        })
     }
 }

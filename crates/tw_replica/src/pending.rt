@@ -26,10 +26,19 @@ struct Kept {
 
 /// Operations that no server has seen yet, seen as their list, the oldest first, with an undo point before those of each command.
 /// They lie in the bodies of their records: to read them takes memory, and time with their number.
-#[derive(Drop)]
 pub struct Pending {
     bodies: Vec<Kept>,
     count: usize,
+}
+
+// It is written out, so that a caller does not prove again how each part is dropped.
+impl Drop for Pending {
+    fn drop(self) {
+        let Pending {
+            bodies: _,
+            count: _,
+        } = self;
+    }
 }
 
 impl Model for Pending {

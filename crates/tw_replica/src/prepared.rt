@@ -1,78 +1,31 @@
 // A step that is made in memory, and then written.
 ghost use Rattle.tw_replica.specs.Assigned.{IsAssignedIn, assigned_prop};
 
-use crate::changing::{commit_core, take_back_core, undo_body};
-use crate::editing::Editing;
-use crate::error::{TakeBackError, WriteError};
+use crate::error::WriteError;
 use crate::held::Core;
 use crate::pending::Pending;
 use crate::replica::Replica;
-use std::alloc::Global;
 use tw_journal::Journal;
 use tw_model::Tasks;
-use tw_world::{Disk, Memory};
+use tw_world::Disk;
 use uuid::Uuid;
 
 /// A replica after a step whose record is not written yet. It has taken all the memory that the step wants; dropping it leaves the file as it was.
-#[derive(Drop)]
 pub struct Prepared {
-    journal: Journal,
-    core: Core,
-    body: Option<Vec<u8>>,
+    pub(crate) journal: Journal,
+    pub(crate) core: Core,
+    pub(crate) body: Option<Vec<u8>>,
     ghost assigned: { IsAssignedIn core.numbers.items core.tasks } by { assigned_prop core.numbers.items core.tasks },
 }
 
-impl Replica {
-    ghost use Rattle.std.specs.Prelude.{◌≡◌, IfOk, IfErr};
-    ghost use Rattle.tw_replica.specs.Body.Step.{Undo};
-    ghost use Rattle.tw_replica.specs.Prepared.{IsPrepared, TakingBackRefused};
-
-    /// Takes the last group back in memory. Nothing is written yet, and where it is refused the file stays as it was.
-    pub fn take_back(self, alloc: Global) -> Result<Prepared, TakeBackError>
-        ensures prepared { IfOk result (IsPrepared self Undo) }
-        ensures refused { IfErr result (TakingBackRefused self) }
-    {
-        let Replica { journal, core } = self;
-        let mut core = core;
-        let Some(group) = core.pending.last(alloc)? else {
-            return Err(TakeBackError::NothingToUndo);
-        };
-        take_back_core(alloc, &mut core, &group)?;
-        let body = Some(undo_body(alloc)?);
-        Ok(Prepared {
-            journal,
-            core,
-            body,
-        })
-    }
-}
-
-impl Editing {
-    ghost use Rattle.std.specs.Prelude.{◌≡◌, List, Bool, IfOk};
-    ghost use Rattle.tw_world.specs.declared.Moment.{Moment as AnyMoment};
-    ghost use Rattle.tw_model.specs.declared.Change.{Change as AnyChange};
-    ghost use Rattle.tw_replica.specs.Prepared.{IsEditing, IsPrepared, step_of_changes};
-    ghost use Rattle.tw_replica.specs.declared.replica.Replica.{Replica as AnyReplica};
-
-    /// Makes a step of the changes, with an undo point in front of their operations, and packs the numbers where it is asked.
-    /// Nothing is written yet.
-    pub fn prepare(self, alloc: Global, renumber: bool) -> Result<Prepared, Memory>
-        requires { (old : AnyReplica) × (made : List AnyChange) × (at : AnyMoment) × IsEditing old made at self }
-        ensures { IfOk result (λ prepared. (old : AnyReplica) (made : List AnyChange) (at : AnyMoment) → IsEditing old made at self → IsPrepared old (step_of_changes old renumber made at) prepared) }
-    {
-        let Editing {
-            journal,
-            core,
-            ops,
-            touched,
+// It is written out, so that a caller does not prove again how each part is dropped.
+impl Drop for Prepared {
+    fn drop(self) {
+        let Prepared {
+            journal: _,
+            core: _,
+            body: _,
         } = self;
-        let mut core = core;
-        let body = commit_core(alloc, &mut core, ops, &touched, renumber)?;
-        Ok(Prepared {
-            journal,
-            core,
-            body,
-        })
     }
 }
 
