@@ -54,6 +54,21 @@ fn bytes_of<F: PlacedFile>(alloc: Global, file: &F) -> io::Result<Vec<u8>>
     Ok(bytes)
 }
 
+// A file of this path with these bytes, which are stable.
+fn new_file<S: Folders>(system: &mut S, path: &str, bytes: &[u8]) -> io::Result<S::File>
+    ensures at { IfOk result (λ file. S.File.is_at file path.now) }
+    ensures stable { IfOk result (λ file. S.File.is_stable file) }
+    ensures bytes { IfOk result (λ file. HasBytes (S.File.contents file) bytes.now) }
+{
+    let mut file = system.make(path)?;
+    file.resize(bytes.len() as u64)?;
+    if !write_whole(&mut file, 0, bytes) {
+        return Err(io::Error::from(io::ErrorKind::WriteZero));
+    }
+    file.stabilize()?;
+    Ok(file)
+}
+
 impl<S: Folders> FileFolder<S> {
     /// The folder of a path, which is there. Its names are made stable: an earlier run may have ended before it did that.
     pub fn open(alloc: Global, system: S, path: &str) -> io::Result<FileFolder<S>>
@@ -110,12 +125,7 @@ impl<S: Folders> FileFolder<S> {
         let path = path_in(self.alloc, self.path.as_str(), name)?;
         let from = new.as_str();
         let to = path.as_str();
-        let mut file = self.system.make(from)?;
-        file.resize(bytes.len() as u64)?;
-        if !write_whole(&mut file, 0, bytes) {
-            return Err(io::Error::from(io::ErrorKind::WriteZero));
-        }
-        file.stabilize()?;
+        let file = new_file(&mut self.system, from, bytes)?;
         self.system.rename(file, from, to)?;
         self.system.settle(self.path.as_str())
     }

@@ -6,7 +6,7 @@ ghost use Rattle.tw_files.specs.Folders.{EachOnWay};
 
 use crate::placed_file::PlacedFile;
 use std::alloc::Global;
-use std::fs::{File, OpenOptions};
+use std::fs::{DirEntry, File, OpenOptions};
 use std::{fs, io};
 
 /// What the system offers of folders, and of the files in them, by their paths.
@@ -93,11 +93,7 @@ impl Folders for &HostRuntime {
     fn list(&mut self, alloc: Global, folder: &str) -> io::Result<Vec<String>> {
         let mut names = Vec::new(alloc);
         for entry in fs::read_dir(*self, folder)? {
-            match entry {
-                Ok(entry) => names.push(String::from_str(alloc, entry.file_name())?)?,
-                Err(error) if error.kind() == io::ErrorKind::InvalidFilename => {}
-                Err(error) => return Err(error),
-            }
+            add_name(alloc, &mut names, entry)?;
         }
         Ok(names)
     }
@@ -120,6 +116,18 @@ impl Folders for &HostRuntime {
     fn rename(&mut self, file: File, from: &str, to: &str) -> io::Result<()> {
         drop(file);
         fs::rename(*self, from, to)
+    }
+}
+
+// Adds the name of an entry, where it is a text.
+fn add_name(alloc: Global, names: &mut Vec<String>, entry: io::Result<DirEntry>) -> io::Result<()> {
+    match entry {
+        Ok(entry) => {
+            let name = String::from_str(alloc, entry.file_name())?;
+            Ok(names.push(name)?)
+        }
+        Err(error) if error.kind() == io::ErrorKind::InvalidFilename => Ok(()),
+        Err(error) => Err(error),
     }
 }
 

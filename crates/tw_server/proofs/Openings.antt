@@ -25,7 +25,7 @@ use Rattle.tw_protocol.proofs.Chains.{same_id_exact}
 use Rattle.tw_server.specs.declared.entry.Entry.{Entry}
 use Rattle.tw_server.specs.declared.server.Server.{Server}
 use Rattle.tw_server.specs.Faults.{error_of}
-use Rattle.tw_server.specs.Log.{Accepted, HasUuids, IsSound, chain_of, body_of, bodies_of, entry_of, accepted_in, is_body, is_next_entry, follows}
+use Rattle.tw_server.specs.Log.{Accepted, HasUuids, IsSound, chain_of, body_of, bodies_of, entry_of, accepted_in, entry_in, is_body, is_next_entry, follows}
 use Rattle.std.specs.List.{list_any}
 use Rattle.tw_server.specs.Versions.{is_held}
 use Rattle.tw_server.specs.Server.{magic, IsReadTo, IsBadBody, IsOpenedOn, TakeRefused, ServerOpenRefused}
@@ -67,6 +67,18 @@ none_false false x e = refl
 pub some_true : {X : Type 0} (t : Bool) (x y : X) → Some y ≡ (if t then Some x else None) → (t ≡ true) × (y ≡ x)
 some_true true x y e = (refl, cc)
 some_true false x y e = let no : ⊥ = cc in absurd no
+
+-- what is told where a test holds is told where another one holds too
+pub none_either : {X : Type 0} (t u : Bool) (x : X) → (if t then Some x else None) ≡ None → None ≡ (if t && u then Some x else None)
+none_either true u x e = let no : ⊥ = cc in absurd no
+none_either false u x e = refl
+
+some_either : {X : Type 0} (t : Bool) (u : X → Bool) (x y : X) → Some y ≡ (if t then Some x else None) → (if u y then Some y else None) ≡ (if t && u x then Some x else None)
+some_either true u x y e = let same : y ≡ x = cc in ap (λ z. if u z then Some z else None) same
+some_either false u x y e = let no : ⊥ = cc in absurd no
+
+pub next_is : (log : List Accepted) (body : List ℕ) (e : Entry) (v : Bool) → entry_in body ≡ Some e → v ≡ is_next_entry log e → (if v then Some e else None) ≡ (if follows log body then Some (entry_of (accepted_in body)) else None)
+next_is log body e v some next = ap (λ b. if b then Some e else None) next ∙ some_either (is_body body) (is_next_entry log) (entry_of (accepted_in body)) e (sym some)
 
 -- ---- a body's fields
 

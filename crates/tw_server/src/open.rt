@@ -86,11 +86,15 @@ impl Server {
         ensures next { (log : List Accepted) → Knows self.now log → result ≡ (if follows log body.now then Some (entry_of (accepted_in body.now)) else None) }
         ensures bytes { All (λ b. b < 256) body.now }
     {
-        let entry = read_entry(body)?;
-        if self.may_follow(&entry) {
-            Some(entry)
-        } else {
-            None
+        match read_entry(body) {
+            Some(entry) => {
+                if self.may_follow(&entry) {
+                    Some(entry)
+                } else {
+                    None
+                }
+            }
+            None => None,
         }
     }
 
