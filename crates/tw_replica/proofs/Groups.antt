@@ -10,7 +10,8 @@ use Rattle.tw_replica.specs.Body.Step.{Commit, Undo, Sync, Checkpoint}
 use Rattle.tw_replica.specs.Reading.{◌>>=◌, number_at, uuid_at, many_at, op_at, group_of, commit_of, sync_op_at, sync_of, counted_at, place_at, tasks_at, checkpoint_of, step_of}
 use Rattle.tw_replica.specs.State.{in_front, split_group}
 use Rattle.tw_replica.specs.Pending.{BeginsWithPoint}
-use Rattle.tw_replica.proofs.Spelled.{bind_some, both_hold}
+use Rattle.tw_replica.proofs.Spelled.{bind_some}
+use Rattle.tw_numbers.proofs.Basics.{both_hold}
 
 -- ---- a list that is split at its last undo point
 
