@@ -8,10 +8,13 @@ use Rattle.tw_model.specs.Maps.{bytes_cmp}
 use Rattle.tw_model.specs.Ops.{TaskValue, TasksValue}
 use Rattle.tw_model.specs.declared.Op.{Op}
 use Rattle.tw_model.specs.Places.{Places}
-use Rattle.tw_replica.specs.Body.{pair_bytes, task_bytes, op_bytes, place_bytes, places_bytes, entry_bytes, tasks_bytes, ops_bytes, body_of, IsUuid, IsPlace, IsEntry, IsOp, IsStep}
+use Rattle.tw_replica.specs.Body.{pair_bytes, task_bytes, op_bytes, place_bytes, places_bytes, entry_bytes, tasks_bytes, ops_bytes, body_of, IsPlace, IsEntry, IsOp, IsStep}
+use Rattle.tw_fields.specs.Fields.{IsUuid}
 use Rattle.tw_replica.specs.Body.Step.{Checkpoint}
-use Rattle.tw_replica.specs.Reading.{many_at, place_at, entry_at, op_at, counted_at, tasks_at, checkpoint_of}
-use Rattle.tw_replica.proofs.Again.{four_again, uuid_again, many_again, few, held, task_again}
+use Rattle.tw_replica.specs.Reading.{place_at, entry_at, op_at, tasks_at, checkpoint_of}
+use Rattle.tw_fields.specs.Reading.{many_at, counted_at}
+use Rattle.tw_replica.proofs.Again.{task_again}
+use Rattle.tw_fields.proofs.Again.{four_again, uuid_again, many_again, few, held}
 use Rattle.tw_replica.proofs.OpsAgain.{op_again, op_has_bytes}
 
 place_again : (place : Option (List ℕ)) (rest : List ℕ) → IsPlace place × (length (place_bytes place) < 2 ^ 32) → place_at (place_bytes place ++ rest) ≡ Some (place, rest)

@@ -17,11 +17,11 @@ ghost use Rattle.tw_replica.specs.Prepared.{ChangedAmong, bodies_in, step_bodies
 use crate::about::touched_uuids;
 use crate::held::{Core, is_idle, take_back_from};
 use crate::pending::{Pending, copy_of};
-use tw_numbers::renew_places;
 use crate::writing::commit_body;
 use std::alloc::Global;
 use std::collections::BTreeSet;
 use tw_model::{Change, Op, Tasks, make};
+use tw_numbers::renew_places;
 use tw_world::{Memory, Moment};
 use uuid::Uuid;
 

@@ -8,12 +8,12 @@ ghost use Rattle.tw_numbers.specs.Assigned.{is_among};
 ghost use Rattle.tw_replica.specs.Touched.{is_touched};
 
 use crate::about::add_all_touched;
-use crate::fields::ReadError;
 use crate::held::take_back_from;
 use crate::reading::read_group;
 use std::alloc::Global;
 use std::collections::BTreeSet;
 use std::marker::Model;
+use tw_fields::ReadError;
 use tw_model::{Op, Tasks};
 use tw_world::Memory;
 use uuid::Uuid;

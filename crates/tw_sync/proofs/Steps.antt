@@ -6,7 +6,7 @@ use Rattle.tw_model.specs.declared.Op.{Op}
 use Rattle.tw_model.proofs.LocalOps.{all_taken_back}
 use Rattle.tw_protocol.specs.Chain.{Version}
 use Rattle.tw_replica.specs.Body.{is_group}
-use Rattle.tw_replica.specs.Reading.{◌>>=◌}
+use Rattle.tw_fields.specs.Reading.{◌>>=◌}
 use Rattle.tw_numbers.specs.Assign.{assigned}
 use Rattle.tw_replica.specs.State.{State, misfit, is_idle, unless, moved_to, split_group, undone}
 use Rattle.tw_replica.specs.Sound.{start_of, IsSound, IsUndone}
