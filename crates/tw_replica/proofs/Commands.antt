@@ -7,13 +7,14 @@ use Rattle.tw_model.specs.Ops.{TasksValue}
 use Rattle.tw_model.specs.LocalOps.{apply_all_local, FitAllLocal}
 use Rattle.tw_model.specs.declared.Op.{Op}
 use Rattle.tw_model.specs.declared.Op.TheVariants.{Create, Delete, Update, UndoPoint}
-use Rattle.tw_replica.specs.declared.fields.ReadError.{ReadError}
+use Rattle.tw_fields.specs.declared.read.ReadError.{ReadError}
 use Rattle.tw_replica.specs.Body.{is_undo_point, has_no_point, is_group}
-use Rattle.tw_replica.specs.Reading.{◌>>=◌, Fails, text_at, option_at, moment_at, uuid_at, many_at, with_front, task_at, create_at, delete_at, update_at, op_at}
+use Rattle.tw_replica.specs.Reading.{task_at, create_at, delete_at, update_at, op_at}
+use Rattle.tw_fields.specs.Reading.{◌>>=◌, Fails, text_at, option_at, moment_at, uuid_at, many_at, with_front}
 use Rattle.tw_replica.specs.State.{misfit, begins_with_point}
 use Rattle.tw_replica.specs.Restoring.{begins_a_command, ReadsCommand, TakesPending}
-use Rattle.tw_replica.proofs.Loop.{goes_on, ends}
-use Rattle.tw_replica.proofs.Spelled.{bind_some, none_left}
+use Rattle.tw_fields.proofs.Loop.{goes_on, ends}
+use Rattle.tw_fields.proofs.Spelled.{bind_some, none_left}
 use Rattle.tw_replica.proofs.Commits.{none_misfits}
 use Rattle.tw_replica.proofs.Soundness.{fits_from, none_is, applied-append, fit-append, fit_front, fit_behind}
 

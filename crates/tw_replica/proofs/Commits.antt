@@ -14,7 +14,7 @@ use Rattle.tw_model.specs.declared.Change.{Change}
 use Rattle.tw_model.proofs.Leading.{changes_lead}
 use Rattle.tw_replica.specs.Body.{is_group, has_no_point}
 use Rattle.tw_replica.specs.State.{State, is_idle, misfit, unless, moved_to, packed_if, committed}
-use Rattle.tw_replica.specs.Assign.{assigned}
+use Rattle.tw_numbers.specs.Assign.{assigned}
 use Rattle.tw_replica.proofs.Standing.{is_committed}
 use Rattle.tw_replica.proofs.Changes.{not_first, not_second}
 use Rattle.tw_model.proofs.Maps.{get-set_at_apart}

@@ -9,8 +9,8 @@ use Rattle.tw_model.specs.declared.Change.{Change}
 use Rattle.tw_model.proofs.Leading.{changed_all-append, ops_of_all-append}
 use Rattle.tw_replica.specs.Body.{IsOp, is_group, IsStep}
 use Rattle.tw_replica.specs.Body.Step.{Commit}
-use Rattle.tw_replica.specs.Assign.{assigned}
-use Rattle.tw_replica.specs.Assigned.{IsAssignedIn, IsReadyFor}
+use Rattle.tw_numbers.specs.Assign.{assigned}
+use Rattle.tw_numbers.specs.Assigned.{IsAssignedIn, IsReadyFor}
 use Rattle.tw_replica.specs.State.{is_idle, packed_if, committed}
 use Rattle.tw_replica.specs.Core.{state_of}
 use Rattle.tw_replica.specs.Prepared.{IsEditing, ChangedAmong}

@@ -7,10 +7,12 @@ use Rattle.tw_model.specs.declared.Op.{Op}
 use Rattle.tw_model.specs.declared.Op.TheVariants.{Create, Delete, Update, UndoPoint}
 use Rattle.tw_replica.specs.Body.{Step, is_undo_point, has_no_point, is_group}
 use Rattle.tw_replica.specs.Body.Step.{Commit, Undo, Sync, Checkpoint}
-use Rattle.tw_replica.specs.Reading.{◌>>=◌, number_at, uuid_at, many_at, op_at, group_of, commit_of, sync_op_at, sync_of, counted_at, place_at, tasks_at, checkpoint_of, step_of}
+use Rattle.tw_replica.specs.Reading.{op_at, group_of, commit_of, sync_op_at, sync_of, place_at, tasks_at, checkpoint_of, step_of}
+use Rattle.tw_fields.specs.Reading.{◌>>=◌, number_at, uuid_at, many_at, counted_at}
 use Rattle.tw_replica.specs.State.{in_front, split_group}
 use Rattle.tw_replica.specs.Pending.{BeginsWithPoint}
-use Rattle.tw_replica.proofs.Spelled.{bind_some, both_hold}
+use Rattle.tw_fields.proofs.Spelled.{bind_some}
+use Rattle.tw_numbers.proofs.Basics.{both_hold}
 
 -- ---- a list that is split at its last undo point
 

@@ -11,13 +11,15 @@ use Rattle.tw_model.specs.LocalOps.{take_back_all}
 use Rattle.tw_model.specs.declared.Op.{Op}
 use Rattle.tw_replica.specs.Body.{Step, body_of, IsStep, is_undo_point, has_no_point, is_group}
 use Rattle.tw_replica.specs.Body.Step.{Commit, Undo, Sync, Checkpoint}
-use Rattle.tw_replica.specs.Reading.{◌>>=◌, number_at, uuid_at, many_at, op_at, group_of, commit_of, sync_op_at, sync_of, counted_at, place_at, tasks_at, checkpoint_of, step_of}
-use Rattle.tw_replica.specs.Assigned.{is_about, is_touched}
+use Rattle.tw_replica.specs.Reading.{op_at, group_of, commit_of, sync_op_at, sync_of, place_at, tasks_at, checkpoint_of, step_of}
+use Rattle.tw_fields.specs.Reading.{◌>>=◌, number_at, uuid_at, many_at, counted_at}
+use Rattle.tw_replica.specs.Touched.{is_about, is_touched}
 use Rattle.tw_replica.specs.State.{in_front, split_group}
 use Rattle.tw_replica.specs.Kept.{ops_or_none, group_in, groups_in, IsKept, AreKept, IsLastOf, IsLast}
 use Rattle.tw_replica.specs.declared.pending.Kept.{Kept}
 use Rattle.tw_replica.proofs.Points.{no_point}
-use Rattle.tw_replica.proofs.Spelled.{bind_some, both_hold}
+use Rattle.tw_fields.proofs.Spelled.{bind_some}
+use Rattle.tw_numbers.proofs.Basics.{both_hold}
 use Rattle.tw_replica.proofs.StepAgain.{step_again}
 use Rattle.tw_replica.proofs.Soundness.{back-append}
 use Rattle.tw_replica.proofs.Groups.{group_read}

@@ -15,7 +15,8 @@ use Rattle.tw_journal.specs.declared.error.AppendError.{AppendError}
 use Rattle.tw_journal.specs.declared.error.AppendError.TheVariants as appends
 use Rattle.tw_journal.proofs.Places.{open_records, left_records, still_open}
 use Rattle.tw_replica.specs.Body.{body_of, IsStep}
-use Rattle.tw_replica.specs.Reading.{◌>>=◌, step_of}
+use Rattle.tw_replica.specs.Reading.{step_of}
+use Rattle.tw_fields.specs.Reading.{◌>>=◌}
 use Rattle.tw_replica.specs.State.{State, start, applied, replayed, Stands, checkpoint}
 use Rattle.tw_replica.specs.Sound.{IsSound}
 use Rattle.tw_replica.specs.Replica.{magic, OpensTo, KeepsRecords, OpeningRefused}

@@ -1,17 +1,19 @@
 -- What was written of a whole state is read again.
-use Rattle.std.proofs.Common.{◌≡◌, ℕ, ◌+◌, ◌^◌, ◌<◌, ◌≤◌, true, List, [], ◌∷◌, ◌++◌, length, Option, Some, None, refl, sym, ap, ◌∙◌, append_assoc, arith}
+use Rattle.std.proofs.Common.{◌≡◌, ℕ, ◌+◌, ◌^◌, ◌<◌, ◌≤◌, List, [], ◌++◌, length, Option, Some, None, refl, sym, ap, ◌∙◌, append_assoc, arith}
 use Rattle.std.specs.List.{flat_map, AllByRecursion}
 use Rattle.std.specs.Int.{w32, to_be_bytes}
-use Rattle.std.specs.FinMap.{entries, len, len-entries, from_sorted, entries_sorted, entries-from_sorted, same_entries_map, is_sorted}
+use Rattle.std.specs.FinMap.{entries, len, len-entries, from_sorted, entries_sorted, entries-from_sorted, same_entries_map}
 use Rattle.std.proofs.lemmas.List.{append-nil, length-append}
 use Rattle.tw_model.specs.Maps.{bytes_cmp}
 use Rattle.tw_model.specs.Ops.{TaskValue, TasksValue}
 use Rattle.tw_model.specs.declared.Op.{Op}
 use Rattle.tw_model.specs.Places.{Places}
-use Rattle.tw_replica.specs.Body.{pair_bytes, task_bytes, op_bytes, place_bytes, places_bytes, entry_bytes, tasks_bytes, ops_bytes, body_of, IsUuid, IsPlace, IsEntry, IsOp, IsStep}
+use Rattle.tw_replica.specs.Body.{pair_bytes, task_bytes, op_bytes, place_bytes, places_bytes, entry_bytes, tasks_bytes, ops_bytes, body_of, IsPlace, IsEntry, IsOp, IsStep}
 use Rattle.tw_replica.specs.Body.Step.{Checkpoint}
-use Rattle.tw_replica.specs.Reading.{many_at, place_at, entry_at, op_at, counted_at, tasks_at, checkpoint_of}
-use Rattle.tw_replica.proofs.Again.{four_again, uuid_again, many_again, few, held, task_again}
+use Rattle.tw_replica.specs.Reading.{place_at, entry_at, op_at, tasks_at, checkpoint_of}
+use Rattle.tw_fields.specs.Reading.{many_at, counted_at}
+use Rattle.tw_replica.proofs.Again.{task_again}
+use Rattle.tw_fields.proofs.Again.{four_again, uuid_again, many_again, few, held}
 use Rattle.tw_replica.proofs.OpsAgain.{op_again, op_has_bytes}
 
 place_again : (place : Option (List ℕ)) (rest : List ℕ) → IsPlace place × (length (place_bytes place) < 2 ^ 32) → place_at (place_bytes place ++ rest) ≡ Some (place, rest)

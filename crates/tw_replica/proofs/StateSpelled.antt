@@ -8,10 +8,13 @@ use Rattle.std.proofs.lemmas.Option.{same_Some, cond_some}
 use Rattle.tw_model.specs.Maps.{bytes_cmp}
 use Rattle.tw_model.specs.Ops.{TaskValue, TasksValue}
 use Rattle.tw_model.specs.Places.{Places}
-use Rattle.tw_replica.specs.Body.{Step, task_bytes, op_bytes, place_bytes, places_bytes, entry_bytes, tasks_bytes, ops_bytes, body_of, IsUuid, IsPlace, IsEntry, IsTask, IsOp, IsStep}
+use Rattle.tw_replica.specs.Body.{Step, task_bytes, op_bytes, place_bytes, places_bytes, entry_bytes, tasks_bytes, ops_bytes, body_of, IsPlace, IsEntry, IsTask, IsOp, IsStep}
+use Rattle.tw_fields.specs.Fields.{IsUuid}
 use Rattle.tw_replica.specs.Body.Step.{Checkpoint}
-use Rattle.tw_replica.specs.Reading.{place_at, entry_at, op_at, counted_at, tasks_at, checkpoint_of}
-use Rattle.tw_replica.proofs.Spelled.{bind_some, AreBytes, bytes_tail, none_left, Spells, four_spelled, uuid_spelled, many_spelled, true_held, task_spelled}
+use Rattle.tw_replica.specs.Reading.{place_at, entry_at, op_at, tasks_at, checkpoint_of}
+use Rattle.tw_fields.specs.Reading.{counted_at}
+use Rattle.tw_replica.proofs.Spelled.{task_spelled}
+use Rattle.tw_fields.proofs.Spelled.{bind_some, AreBytes, bytes_tail, none_left, Spells, four_spelled, uuid_spelled, many_spelled, true_held}
 use Rattle.tw_replica.proofs.OpsSpelled.{op_spelled}
 
 place_spelled : (bytes : List ℕ) (r : Option (List ℕ) × List ℕ) → AreBytes bytes → place_at bytes ≡ Some r → Spells place_bytes IsPlace bytes r

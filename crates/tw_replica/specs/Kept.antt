@@ -5,7 +5,6 @@ use Rattle.std.specs.Global.{Vec}
 use Rattle.tw_model.specs.declared.Op.{Op}
 use Rattle.tw_replica.specs.Body.{is_group}
 use Rattle.tw_replica.specs.Reading.{group_of}
-use Rattle.tw_replica.specs.State.{split_group}
 use Rattle.tw_replica.specs.declared.pending.Kept.{Kept}
 
 abbrev pub ops_or_none : Option (List Op) → List Op

@@ -11,7 +11,7 @@ use Rattle.tw_replica.specs.Body.Step.{Commit, Undo, Sync, Checkpoint}
 use Rattle.tw_replica.specs.State.{State, is_idle, applied, split_group}
 use Rattle.tw_replica.specs.Core.{state_of}
 use Rattle.tw_replica.specs.Replica.{magic, held_state}
-use Rattle.tw_replica.specs.Assigned.{is_among}
+use Rattle.tw_numbers.specs.Assigned.{is_among}
 use Rattle.tw_world.specs.declared.Moment.{Moment}
 use Rattle.tw_model.specs.Changes.{changed_all, ops_of_all, group_of}
 use Rattle.tw_model.specs.declared.Change.{Change}

@@ -5,7 +5,8 @@ use Rattle.tw_model.specs.LocalOps.{apply_all_local}
 use Rattle.tw_model.specs.Places.{Places}
 use Rattle.tw_model.specs.declared.Op.{Op}
 use Rattle.tw_replica.specs.Body.{has_no_point}
-use Rattle.tw_replica.specs.Reading.{◌>>=◌, many_at, with_front, op_at, checkpoint_in}
+use Rattle.tw_replica.specs.Reading.{op_at, checkpoint_in}
+use Rattle.tw_fields.specs.Reading.{◌>>=◌, many_at, with_front}
 use Rattle.tw_replica.specs.State.{State, misfit, applied, begins_with_point}
 
 -- whether bytes begin with those of an undo point

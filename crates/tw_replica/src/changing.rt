@@ -9,19 +9,19 @@ ghost use Rattle.tw_model.specs.Ops.{TasksValue};
 ghost use Rattle.tw_replica.specs.Body.{IsOp, body_of, is_group};
 ghost use Rattle.tw_replica.specs.Body.Step.{Commit, Undo};
 ghost use Rattle.tw_replica.specs.Kept.{group_in, IsLastOf};
-ghost use Rattle.tw_replica.specs.Assign.{assigned};
+ghost use Rattle.tw_numbers.specs.Assign.{assigned};
 ghost use Rattle.tw_replica.specs.State.{is_idle, packed_if};
-ghost use Rattle.tw_replica.specs.Assigned.{IsAssignedIn, IsReadyFor};
+ghost use Rattle.tw_numbers.specs.Assigned.{IsAssignedIn, IsReadyFor};
 ghost use Rattle.tw_replica.specs.Prepared.{ChangedAmong, bodies_in, step_bodies};
 
 use crate::about::touched_uuids;
 use crate::held::{Core, is_idle, take_back_from};
 use crate::pending::{Pending, copy_of};
-use crate::scan::renew_places;
 use crate::writing::commit_body;
 use std::alloc::Global;
 use std::collections::BTreeSet;
 use tw_model::{Change, Op, Tasks, make};
+use tw_numbers::renew_places;
 use tw_world::{Memory, Moment};
 use uuid::Uuid;
 

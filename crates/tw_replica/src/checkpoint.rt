@@ -2,15 +2,17 @@
 ghost use Rattle.std.specs.Prelude.{◌≡◌, ◌++◌, ◌∷◌, length, IfOk, OnOk, IfSome};
 ghost use Rattle.std.specs.List.{flat_map, AllByRecursion};
 ghost use Rattle.std.specs.FinMap as map;
-ghost use Rattle.tw_replica.specs.Body.{place_bytes, places_bytes, entry_bytes, tasks_bytes, ops_bytes, body_of, IsUuid, IsPlace, IsEntry, IsOp, IsStep};
+ghost use Rattle.tw_replica.specs.Body.{place_bytes, places_bytes, entry_bytes, tasks_bytes, ops_bytes, body_of, IsPlace, IsEntry, IsOp, IsStep};
+ghost use Rattle.tw_fields.specs.Fields.{IsUuid};
 ghost use Rattle.tw_replica.specs.Body.Step.{Checkpoint};
 ghost use Rattle.tw_replica.specs.Views.{IsRead};
-ghost use Rattle.tw_replica.specs.Reading.{Gives, many_at, with_last, counted_at, place_at, entry_at, tasks_at, checkpoint_of};
+ghost use Rattle.tw_replica.specs.Reading.{place_at, entry_at, tasks_at, checkpoint_of};
+ghost use Rattle.tw_fields.specs.Reading.{Gives, many_at, with_last, counted_at};
 
-use crate::fields::{ReadError, read_uuid, u32_at};
 use crate::reading::{Read, read_task, room_for};
-use crate::writing::{put_count, put_ops, put_task, put_uuid};
+use crate::writing::{put_ops, put_task};
 use std::alloc::Global;
+use tw_fields::{ReadError, put_count, put_uuid, read_uuid, u32_at};
 use tw_model::{Op, TaskMap, Tasks};
 use tw_world::Memory;
 use uuid::Uuid;
@@ -76,7 +78,7 @@ fn read_entries(
     Ok((entries, rest))
 }
 
-#[tactic(auto, unfolding(crate::specs::Reading::counted_at))]
+#[tactic(auto, unfolding(tw_fields::specs::Reading::counted_at))]
 fn counted_places(alloc: Global, bytes: &[u8]) -> Result<(Vec<Option<Uuid>>, &[u8]), ReadError>
     ensures { Gives (λ x. (x.0.items, x.1.now)) result (counted_at place_at bytes.now) }
 {
@@ -84,7 +86,7 @@ fn counted_places(alloc: Global, bytes: &[u8]) -> Result<(Vec<Option<Uuid>>, &[u
     read_places(alloc, count, rest)
 }
 
-#[tactic(auto, unfolding(crate::specs::Reading::counted_at))]
+#[tactic(auto, unfolding(tw_fields::specs::Reading::counted_at))]
 fn counted_entries(alloc: Global, bytes: &[u8]) -> Result<(Vec<(Uuid, TaskMap)>, &[u8]), ReadError>
     ensures { Gives (λ x. (x.0.items, x.1.now)) result (counted_at entry_at bytes.now) }
 {

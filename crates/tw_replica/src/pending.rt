@@ -4,15 +4,16 @@ ghost use Rattle.tw_model.specs.declared.Op.{Op as AnyOp};
 ghost use Rattle.tw_model.specs.LocalOps.{take_back_all};
 ghost use Rattle.tw_replica.specs.Kept.{ops_or_none, group_in, groups_in, AreKept, IsLastOf, IsLast};
 ghost use Rattle.tw_replica.specs.Reading.{group_of};
-ghost use Rattle.tw_replica.specs.Assigned.{is_among, is_touched};
+ghost use Rattle.tw_numbers.specs.Assigned.{is_among};
+ghost use Rattle.tw_replica.specs.Touched.{is_touched};
 
 use crate::about::add_all_touched;
-use crate::fields::ReadError;
 use crate::held::take_back_from;
 use crate::reading::read_group;
 use std::alloc::Global;
 use std::collections::BTreeSet;
 use std::marker::Model;
+use tw_fields::ReadError;
 use tw_model::{Op, Tasks};
 use tw_world::Memory;
 use uuid::Uuid;

@@ -1,5 +1,5 @@
 // A step that is made in memory, and then written.
-ghost use Rattle.tw_replica.specs.Assigned.{IsAssignedIn, assigned_prop};
+ghost use Rattle.tw_numbers.specs.Assigned.{IsAssignedIn, assigned_prop};
 
 use crate::error::WriteError;
 use crate::held::Core;

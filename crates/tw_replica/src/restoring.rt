@@ -2,16 +2,17 @@
 ghost use Rattle.std.specs.Prelude.{◌≡◌, ◌<◌, ◌++◌, [], true, length, is_none, IfOk, IfErr, OnOk};
 ghost use Rattle.tw_model.specs.LocalOps.{apply_all_local};
 ghost use Rattle.tw_replica.specs.Body.{is_group};
-ghost use Rattle.tw_replica.specs.Reading.{Fails, many_at, op_at};
+ghost use Rattle.tw_replica.specs.Reading.{op_at};
+ghost use Rattle.tw_fields.specs.Reading.{Fails, many_at};
 ghost use Rattle.tw_replica.specs.State.{misfit};
 ghost use Rattle.tw_replica.specs.Restoring.{begins_a_command, ReadsCommand, TakesPending};
 
-use crate::fields::ReadError;
 use crate::held::apply_ops;
 use crate::pending::{BODY_LIMIT, Pending};
 use crate::reading::{read_op, room_for};
 use crate::writing::commit_body;
 use std::alloc::Global;
+use tw_fields::ReadError;
 use tw_model::{Op, Tasks};
 use tw_world::Memory;
 

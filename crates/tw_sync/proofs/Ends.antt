@@ -9,7 +9,7 @@ use Rattle.tw_model.proofs.LocalOps.{plain_same}
 use Rattle.tw_protocol.specs.Chain.{Version, IsChain}
 use Rattle.tw_replica.specs.State.{State, start}
 use Rattle.tw_replica.specs.Sound.{IsSound, start_of}
-use Rattle.tw_replica.proofs.Touched.{assigned_in}
+use Rattle.tw_numbers.proofs.Touched.{assigned_in}
 use Rattle.tw_replica.proofs.Soundness as replica
 use Rattle.tw_sync.specs.Fold.{IsFold, Agrees}
 use Rattle.tw_sync.specs.End.{ServerChain, IsLeft, IsPushed, stands_at}

@@ -14,7 +14,7 @@ use Rattle.tw_journal.specs.declared.error.AppendError.{AppendError}
 use Rattle.tw_journal.specs.declared.error.AppendError.TheVariants as journal
 use Rattle.tw_http.specs.Link.{LinkModel}
 use Rattle.tw_transform.specs.Grid.{grid}
-use Rattle.tw_replica.specs.Assign.{assigned}
+use Rattle.tw_numbers.specs.Assign.{assigned}
 use Rattle.tw_replica.specs.State.{State, synced}
 use Rattle.tw_replica.specs.Sound.{start_of}
 use Rattle.tw_replica.specs.Core.{state_of}

@@ -6,11 +6,11 @@ use Rattle.tw_model.specs.declared.Op.{Op}
 use Rattle.tw_model.proofs.LocalOps.{all_taken_back}
 use Rattle.tw_protocol.specs.Chain.{Version}
 use Rattle.tw_replica.specs.Body.{is_group}
-use Rattle.tw_replica.specs.Reading.{◌>>=◌}
-use Rattle.tw_replica.specs.Assign.{assigned}
+use Rattle.tw_fields.specs.Reading.{◌>>=◌}
+use Rattle.tw_numbers.specs.Assign.{assigned}
 use Rattle.tw_replica.specs.State.{State, misfit, is_idle, unless, moved_to, split_group, undone}
 use Rattle.tw_replica.specs.Sound.{start_of, IsSound, IsUndone}
-use Rattle.tw_replica.proofs.Touched.{assigned_in, packed_if_in}
+use Rattle.tw_numbers.proofs.Touched.{assigned_in, packed_if_in}
 use Rattle.tw_replica.proofs.Groups.{group_begins, begins-append}
 use Rattle.tw_replica.proofs.Soundness.{undo_sound, undo_leads_back}
 use Rattle.tw_sync.specs.Fold.{IsFold, Agrees}

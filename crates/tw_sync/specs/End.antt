@@ -6,7 +6,7 @@ use Rattle.tw_model.specs.declared.SyncOp.{SyncOp}
 use Rattle.tw_protocol.specs.Chain.{Version, IsBetween, HoldsAll, Grows}
 use Rattle.tw_segment.specs.Segment.{max_len, segment_text, IsSegment}
 use Rattle.tw_transform.specs.Positions.{IsPosition}
-use Rattle.tw_replica.specs.Assign.{assigned}
+use Rattle.tw_numbers.specs.Assign.{assigned}
 use Rattle.tw_replica.specs.State.{State}
 use Rattle.tw_replica.specs.Sound.{start_of}
 use Rattle.tw_sync.specs.Fold.{Reads}

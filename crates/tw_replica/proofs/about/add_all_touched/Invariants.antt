@@ -2,7 +2,7 @@ use Rattle.std.proofs.Common.{◌≡◌, ◌||◌, ℕ, List, true, take}
 use Rattle.std.specs.BTreeSet as set
 use Rattle.tw_model.specs.Maps.{bytes_cmp}
 use Rattle.tw_model.specs.Places.{has_uuid}
-use Rattle.tw_replica.specs.Assigned.{is_touched}
+use Rattle.tw_replica.specs.Touched.{is_touched}
 use Rattle.tw_replica.proofs.about.add_all_touched.Given as goal
 
 abbrev pub invariant-loop-op : goal.invariant-loop-op

@@ -1,6 +1,6 @@
 use Rattle.std.proofs.Common.{◌≡◌, ◌-◌, ℕ, List, true, length, drop}
 use Rattle.tw_model.specs.Maps.{same_bytes}
-use Rattle.tw_replica.specs.Assigned.{is_touched}
+use Rattle.tw_replica.specs.Touched.{is_touched}
 use Rattle.tw_replica.proofs.about.stay_with.Given as goal
 
 abbrev pub invariant-loop-at : goal.invariant-loop-at

@@ -1,7 +1,7 @@
 use Rattle.std.proofs.Common.{◌++◌}
 use Rattle.std.specs.Vec.Iter.{into_iter_items}
 use Rattle.tw_model.specs.Changes.{changed_all, ops_of_all}
-use Rattle.tw_replica.specs.Assigned.{is_among}
+use Rattle.tw_numbers.specs.Assigned.{is_among}
 use Rattle.tw_replica.proofs.Commits.{tasks_more, ops_more, among_more}
 use Rattle.tw_replica.proofs.changing.make_all.Goals as goal
 

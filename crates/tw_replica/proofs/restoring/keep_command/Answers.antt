@@ -2,7 +2,7 @@ use Rattle.std.proofs.Common.{◌≡◌, ◌<◌, ◌^◌, ◌++◌, ◌∙◌, 
 use Rattle.tw_model.specs.declared.Op.{Op}
 use Rattle.tw_replica.specs.Kept.{group_in}
 use Rattle.tw_replica.proofs.Keeping.{written_holds}
-use Rattle.tw_replica.proofs.Standing.{on_ok_map}
+use Rattle.tw_numbers.proofs.Basics.{on_ok_map}
 use Rattle.tw_replica.proofs.restoring.keep_command.Goals as goal
 
 pub keep-requires : goal.keep-requires

@@ -2,7 +2,8 @@ use Rattle.std.proofs.Common.{◌≡◌, ◌∙◌, ◌+◌, ◌++◌, ◌∷◌
 use Rattle.std.proofs.lemmas.Result.{err_from_is_err_and}
 use Rattle.tw_model.specs.declared.Op.{Op}
 use Rattle.tw_replica.specs.Body.{is_undo_point, has_no_point}
-use Rattle.tw_replica.specs.Reading.{many_at, op_at}
+use Rattle.tw_replica.specs.Reading.{op_at}
+use Rattle.tw_fields.specs.Reading.{many_at}
 use Rattle.tw_replica.specs.State.{begins_with_point}
 use Rattle.tw_replica.proofs.Commands.{front_none, one_read, none_read, point_told, begins_same, others_more}
 use Rattle.tw_replica.proofs.restoring.read_command.Goals as goal

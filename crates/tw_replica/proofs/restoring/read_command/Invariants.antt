@@ -1,6 +1,7 @@
 use Rattle.std.proofs.Common.{◌≡◌, ◌≤◌, ◌+◌, true, length, drop}
 use Rattle.tw_replica.specs.Body.{has_no_point}
-use Rattle.tw_replica.specs.Reading.{many_at, with_front, op_at}
+use Rattle.tw_replica.specs.Reading.{op_at}
+use Rattle.tw_fields.specs.Reading.{many_at, with_front}
 use Rattle.tw_replica.specs.State.{begins_with_point}
 use Rattle.tw_replica.specs.Restoring.{begins_a_command}
 use Rattle.tw_replica.proofs.restoring.read_command.Given as goal

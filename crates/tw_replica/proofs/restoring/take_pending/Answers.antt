@@ -1,7 +1,8 @@
 use Rattle.std.proofs.Common.{◌∙◌, List, length, nat_eq, refl, sym, ap, subst, arith}
 use Rattle.tw_model.specs.LocalOps.{apply_all_local, FitAllLocal}
 use Rattle.tw_model.specs.declared.Op.{Op}
-use Rattle.tw_replica.specs.Reading.{many_at, with_front, op_at}
+use Rattle.tw_replica.specs.Reading.{op_at}
+use Rattle.tw_fields.specs.Reading.{many_at, with_front}
 use Rattle.tw_replica.specs.State.{begins_with_point}
 use Rattle.tw_replica.specs.Restoring.{begins_a_command}
 use Rattle.tw_replica.proofs.Commands.{begun, begins_more, command_is_group, not_begun, misfits, read_more, fit_more, made_more, ended}

@@ -1,7 +1,8 @@
 use Rattle.std.proofs.Common.{◌≡◌, true}
 use Rattle.std.specs.Prelude.{◌⊎◌}
 use Rattle.tw_model.specs.LocalOps.{apply_all_local, FitAllLocal}
-use Rattle.tw_replica.specs.Reading.{many_at, with_front, op_at}
+use Rattle.tw_replica.specs.Reading.{op_at}
+use Rattle.tw_fields.specs.Reading.{many_at, with_front}
 use Rattle.tw_replica.specs.State.{begins_with_point}
 use Rattle.tw_replica.specs.Restoring.{begins_a_command}
 use Rattle.tw_replica.proofs.restoring.take_pending.Given as goal

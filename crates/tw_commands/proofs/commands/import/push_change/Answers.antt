@@ -1,7 +1,7 @@
 use Rattle.std.proofs.Common.{◌≡◌, ◌∙◌, ◌||◌, ◌∷◌, [], ap, sym}
 use Rattle.std.specs.BTreeSet as set
 use Rattle.tw_model.specs.Maps.{bytes_cmp, same_bytes}
-use Rattle.tw_replica.proofs.Assigning.{has_more}
+use Rattle.tw_numbers.proofs.Assigning.{has_more}
 use Rattle.tw_commands.specs.Makes.Import.{is_changed, change_to}
 use Rattle.tw_commands.proofs.Importing.{changed_more}
 use Rattle.tw_commands.proofs.commands.import.push_change.Goals as goal

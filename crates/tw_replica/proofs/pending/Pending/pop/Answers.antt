@@ -1,4 +1,4 @@
-use Rattle.std.proofs.Common.{◌≡◌, ◌≤◌, ◌++◌, ◌∷◌, ◌∙◌, [], List, Option, length, ap, subst, sym, arith}
+use Rattle.std.proofs.Common.{◌++◌, ◌∙◌, List, Option, ap, subst, sym, arith}
 use Rattle.std.specs.Option.{option_to_list}
 use Rattle.tw_replica.specs.Kept.{group_in, groups_in, AreKept}
 use Rattle.tw_replica.specs.declared.pending.Kept.{Kept}

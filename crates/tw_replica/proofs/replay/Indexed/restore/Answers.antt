@@ -1,5 +1,5 @@
 use Rattle.std.proofs.Common.{◌∙◌, sym}
-use Rattle.tw_replica.proofs.Restored.{assigned_if}
+use Rattle.tw_numbers.proofs.Restored.{assigned_if}
 use Rattle.tw_replica.proofs.replay.Indexed.restore.Goals as goal
 
 pub returns-clause-ready : goal.returns-clause-ready

@@ -1,0 +1,4 @@
+pub mod Again
+pub mod Loop
+pub mod Spelled
+pub mod Texts

@@ -1,0 +1,13 @@
+pub mod Alike
+pub mod Assigning
+pub mod Basics
+pub mod FirstPlaces
+pub mod Looking
+pub mod NewTasks
+pub mod Ordered
+pub mod Places
+pub mod Ranks
+pub mod Restored
+pub mod Scanning
+pub mod Touched
+pub mod Vacating

@@ -1,0 +1,11 @@
+use Rattle.std.proofs.Common.{◌≡◌, []}
+use Rattle.tw_numbers.specs.Assign.{with_ranks}
+use Rattle.tw_numbers.specs.Assigned.{IsOnce, vacated_all}
+use Rattle.tw_numbers.proofs.few.assign_few.Given as goal
+
+abbrev pub invariant-loop-uuid : goal.invariant-loop-uuid
+invariant-loop-uuid l = IsOnce l.fn.places.items → record {
+  once : IsOnce l.places.items;
+  places : vacated_all l.tasks l.places.items l.uuid-iterator ≡ vacated_all l.tasks l.fn.places.items l.touched.keys;
+  ranks : with_ranks l.places.items l.tasks l.ranks.keys l.uuid-iterator ≡ with_ranks l.fn.places.items l.tasks [] l.touched.keys;
+}

@@ -1,0 +1,3 @@
+pub mod Assign
+pub mod Assigned
+pub mod Placed

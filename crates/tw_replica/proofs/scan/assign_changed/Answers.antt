@@ -1,5 +1,0 @@
-use Rattle.std.proofs.Common.{refl}
-use Rattle.tw_replica.proofs.scan.assign_changed.Goals as goal
-
-pub returns : goal.returns
-returns c = λ ready. c.in_ok-places.ensures c.args.tasks.now (λ u inside. refl) ready
