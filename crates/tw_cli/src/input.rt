@@ -15,7 +15,7 @@ const MAX_INPUT: usize = 67_108_864;
 const PIECE: usize = 8192;
 
 /// Why the input of a command is not taken.
-#[derive(Clone, Copy, Debug, PartialEq, Eq, Drop)]
+#[derive(Clone, Copy, Drop)]
 pub(crate) enum InputError {
     /// The input failed.
     Fault,
