@@ -104,5 +104,7 @@ pub(crate) fn command_of(request: &Request<'_>) -> Command
 pub(crate) fn with_input<'a>(request: Request<'a>, input: Input) -> Request<'a>
     ensures { result ≡ with_input request.entry input }
 {
-    Request { input, ..request }
+    let mut request = request;
+    request.input = input;
+    request
 }

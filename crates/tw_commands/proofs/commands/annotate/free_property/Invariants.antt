@@ -1,7 +1,7 @@
 use Rattle.std.proofs.Common.{◌≡◌, ◌+◌, ◌≤◌, ◌^◌, string_bytes}
 use Rattle.std.specs.FinMap.{len}
 use Rattle.tw_commands.specs.Effects.Annotate.{annotation_at, free_second}
-use Rattle.tw_commands.proofs.commands.annotate.annotate.Given as goal
+use Rattle.tw_commands.proofs.commands.annotate.free_property.Given as goal
 
 abbrev pub invariant-loop-more : goal.invariant-loop-more
 invariant-loop-more l = record {
