@@ -103,18 +103,14 @@ const REFUSED: [(&str, ReplyKind); 11] = [
 #[test]
 fn each_bad_reply_is_told_by_its_kind(rt: HostRuntime) -> Result<(), Fail> {
     for (reply, kind) in REFUSED {
-        assert_eq!(rt;
-            ended(rt.alloc(), Some(reply))?.err(),
-            Some(SyncError::Reply { kind }),
-            "{reply}"
-        );
+        let ended = ended(rt.alloc(), Some(reply))?;
+        assert!(rt; ended == Err(SyncError::Reply { kind }), "{reply}");
     }
     Ok(())
 }
 
 #[test]
 fn each_reply_that_is_no_version_ends_a_sync(rt: HostRuntime) -> Result<(), Fail> {
-    let alloc = rt.alloc();
     let none = "HTTP/1.1 404 Not Found\r\nContent-Length: 0\r\n\r\n";
     let base = Uuid::nil();
     let report = SyncReport {
@@ -123,12 +119,13 @@ fn each_reply_that_is_no_version_ends_a_sync(rt: HostRuntime) -> Result<(), Fail
         pushed: 0,
         base,
     };
-    assert_eq!(rt; ended(alloc, Some(none))?.ok(), Some(report));
     let gone = "HTTP/1.1 410 Gone\r\nContent-Length: 0\r\n\r\n";
-    assert_eq!(rt;
-        ended(alloc, Some(gone))?.err(),
-        Some(SyncError::Gone { base })
-    );
-    assert_eq!(rt; ended(alloc, None)?.err(), Some(SyncError::Link));
+    for (reply, want) in [
+        (Some(none), Ok(report)),
+        (Some(gone), Err(SyncError::Gone { base })),
+        (None, Err(SyncError::Link)),
+    ] {
+        assert!(rt; ended(rt.alloc(), reply)? == want);
+    }
     Ok(())
 }

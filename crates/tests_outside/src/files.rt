@@ -6,7 +6,7 @@ use std::alloc::Global;
 use std::fs::OpenOptions;
 use std::test::Fail;
 use std::{fs, io};
-use tw_files::{Busy, FileDisk, open_disk, open_folder};
+use tw_files::{Busy, FileDisk, Folders, open_disk, open_folder};
 use tw_world::{Disk, DiskError, Folder, FolderError};
 
 // What a write answers, or none where the disk is too short.
@@ -25,6 +25,26 @@ fn read<D: Disk>(disk: &mut D, at: u64, out: &mut [u8]) -> Option<Result<(), Dis
     }
 }
 
+// Whether a disk without bytes becomes longer, and holds what is written into it.
+fn holds_abc<D: Disk>(disk: &mut D) -> bool {
+    let mut bytes = [9; 6];
+    let none = disk.size() == Ok(0);
+    let longer = disk.set_len(6).is_ok();
+    let written = write(disk, 1, b"abc") == Some(Ok(()));
+    let stable = disk.sync().is_ok();
+    let got = read(disk, 0, &mut bytes) == Some(Ok(()));
+    none & longer & written & stable & got & (bytes == *b"\0abc\0\0")
+}
+
+// Whether a disk that may not be written fails, and one of whose bytes another took away four.
+fn fails<D: Disk>(disk: &mut D, short: &mut D) -> bool {
+    let mut bytes = [9; 6];
+    let failed = Some(Err(DiskError::Failed));
+    let kept = write(short, 0, b"x") == failed;
+    let cut = disk.set_len(2).is_ok();
+    kept & cut & (read(short, 0, &mut bytes) == failed)
+}
+
 #[test]
 fn a_file_holds_what_is_written(rt: HostRuntime) -> Result<(), Fail> {
     let path = "a_file.journal";
@@ -35,21 +55,34 @@ fn a_file_holds_what_is_written(rt: HostRuntime) -> Result<(), Fail> {
         .truncate(true)
         .open(&rt, path)?;
     let mut disk = FileDisk::new(file)?;
-    assert!(rt; disk.size() == Ok(0));
-    assert!(rt; disk.set_len(6).is_ok());
-    assert!(rt; write(&mut disk, 1, b"abc") == Some(Ok(())));
-    assert!(rt; disk.sync().is_ok());
-    let mut bytes = [9; 6];
-    assert!(rt; read(&mut disk, 0, &mut bytes) == Some(Ok(())));
-    assert_eq!(rt; bytes, *b"\0abc\0\0");
-
+    assert!(rt; holds_abc(&mut disk));
     let mut short = FileDisk::new(OpenOptions::new().read(true).open(&rt, path)?)?;
-    let failed = Some(Err(DiskError::Failed));
-    assert!(rt; write(&mut short, 0, b"x") == failed);
-    assert!(rt; disk.set_len(2).is_ok());
-    assert!(rt; read(&mut short, 0, &mut bytes) == failed);
+    assert!(rt; fails(&mut disk, &mut short));
     fs::remove_file(&rt, path)?;
     Ok(())
+}
+
+// Whether a file can't be opened, since it is in use.
+fn is_busy<S: Folders>(system: &mut S, path: &str) -> bool {
+    match open_disk(system, path, Busy::Fail) {
+        Ok(_) => false,
+        Err(error) => error.kind() == io::ErrorKind::WouldBlock,
+    }
+}
+
+// Whether a file is made, written, and busy while it is open.
+fn is_made<S: Folders>(system: &mut S, path: &str) -> io::Result<bool> {
+    let mut disk = open_disk(system, path, Busy::Wait)?;
+    let none = disk.size() == Ok(0);
+    let longer = disk.set_len(3).is_ok();
+    let written = write(&mut disk, 0, b"abc") == Some(Ok(()));
+    Ok(none & longer & written & is_busy(system, path))
+}
+
+// How long a file is that no one uses, if that is told.
+fn size_of<S: Folders>(system: &mut S, path: &str) -> io::Result<Option<u64>> {
+    let mut disk = open_disk(system, path, Busy::Fail)?;
+    Ok(disk.size().ok())
 }
 
 #[test]
@@ -57,17 +90,8 @@ fn a_file_is_made_with_its_folders_and_used_by_one_at_a_time(rt: HostRuntime) ->
     let mut system = &rt;
     for path in ["a.journal", "two/deep/a.journal"] {
         let _ = fs::remove_file(&rt, path);
-        let mut disk = open_disk(&mut system, path, Busy::Wait)?;
-        assert!(rt; disk.size() == Ok(0));
-        assert!(rt; disk.set_len(3).is_ok());
-        assert!(rt; write(&mut disk, 0, b"abc") == Some(Ok(())));
-        match open_disk(&mut system, path, Busy::Fail) {
-            Ok(_) => return Err(Fail::new("not busy")),
-            Err(error) => assert!(rt; error.kind() == io::ErrorKind::WouldBlock),
-        }
-        drop(disk);
-        let mut again = open_disk(&mut system, path, Busy::Fail)?;
-        assert!(rt; again.size() == Ok(3));
+        assert!(rt; is_made(&mut system, path)?);
+        assert!(rt; size_of(&mut system, path)? == Some(3));
         fs::remove_file(&rt, path)?;
     }
     fs::remove_dir(&rt, "two/deep")?;
@@ -100,16 +124,22 @@ fn names<F: Folder>(folder: &mut F, alloc: Global) -> Result<String, Fail> {
     Ok(text)
 }
 
+// Whether a folder without files holds two that are put into it, one of them twice, and no third one.
+fn holds_two<F: Folder>(folder: &mut F, alloc: Global) -> Result<bool, Fail> {
+    let first = folder.replace("b", b"one").is_ok();
+    let second = folder.replace("a", b"").is_ok();
+    let third = folder.replace("b", b"four").is_ok();
+    let named = names(folder, alloc)?.as_str() == "a|b|";
+    let there = holds(folder, alloc, "b", Some(b"four")) == Ok(true);
+    let none = holds(folder, alloc, "c", None) == Ok(true);
+    Ok(first & second & third & named & there & none)
+}
+
 #[test]
 fn a_folder_holds_what_is_put_into_it(rt: HostRuntime) -> Result<(), Fail> {
     let alloc = rt.alloc();
     let mut folder = open_folder(alloc, &rt, "a_folder/deep")?;
-    assert!(rt; folder.replace("b", b"one").is_ok());
-    assert!(rt; folder.replace("a", b"").is_ok());
-    assert!(rt; folder.replace("b", b"four").is_ok());
-    assert_eq!(rt; names(&mut folder, alloc)?.as_str(), "a|b|");
-    assert!(rt; holds(&mut folder, alloc, "b", Some(b"four")) == Ok(true));
-    assert!(rt; holds(&mut folder, alloc, "c", None) == Ok(true));
+    assert!(rt; holds_two(&mut folder, alloc)?);
     let _ = open_folder(alloc, &rt, "a_folder/deep/d")?;
     assert!(rt; holds(&mut folder, alloc, "d", None) == Err(FolderError::Failed));
     for made in ["a_folder/deep/a", "a_folder/deep/b"] {

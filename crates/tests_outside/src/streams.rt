@@ -1,5 +1,6 @@
 // Streams as sources, sinks and peers.
 
+use std::alloc::Global;
 use std::io;
 use std::io::{Read, Write};
 use std::test::Fail;
@@ -38,36 +39,53 @@ impl Write for Narrow {
     }
 }
 
+// Whether a text is written whole, and of the next one what there is room for.
+fn gets_what_fits(narrow: &mut Narrow) -> bool {
+    let mut stream = Stream::new(narrow);
+    let first = stream.write_all(b"Created") == Ok(());
+    let second = stream.write_all(b" task 1.\n") == Err(StreamError::Failed);
+    first & second
+}
+
 #[test]
 fn a_stream_gets_all_bytes_or_fails(rt: HostRuntime) {
     let got = Vec::new(rt.alloc());
     let mut narrow = Narrow { got, room: 12 };
-    let mut stream = Stream::new(&mut narrow);
-    assert!(rt; stream.write_all(b"Created") == Ok(()));
-    assert!(rt; stream.write_all(b" task 1.\n") == Err(StreamError::Failed));
-    drop(stream);
+    assert!(rt; gets_what_fits(&mut narrow));
     assert_eq!(rt; narrow.got.as_slice(), b"Created task".as_slice());
+}
+
+// Whether two bytes are read, and then it fails.
+fn gives_two(alloc: Global) -> bool {
+    let got = Vec::new(alloc);
+    let mut source = StreamSource::new(Narrow { got, room: 2 });
+    let mut bytes = [0; 3];
+    let first = source.read(&mut bytes) == Ok(2);
+    let is = bytes == *b"xx\0";
+    let second = source.read(&mut bytes) == Err(StreamError::Failed);
+    first & is & second
 }
 
 #[test]
 fn a_source_gives_what_is_read_or_fails(rt: HostRuntime) {
-    let got = Vec::new(rt.alloc());
-    let mut source = StreamSource::new(Narrow { got, room: 2 });
+    assert!(rt; gives_two(rt.alloc()));
+}
+
+// Whether a peer of eight bytes gives two and takes six, and then fails.
+fn gives_and_takes(alloc: Global) -> bool {
+    let got = Vec::new(alloc);
+    let mut peer = StreamPeer::new(Narrow { got, room: 8 });
     let mut bytes = [0; 3];
-    assert!(rt; source.read(&mut bytes) == Ok(2));
-    assert_eq!(rt; bytes, *b"xx\0");
-    assert!(rt; source.read(&mut bytes) == Err(StreamError::Failed));
+    let first = peer.read(&mut bytes) == Ok(2);
+    let is = bytes == *b"xx\0";
+    let reply = peer.write_all(b"reply") == Ok(());
+    let more = peer.write_all(b"more") == Err(StreamError::Failed);
+    let second = peer.read(&mut bytes) == Err(StreamError::Failed);
+    let taken = peer.into_stream().got.as_slice() == b"replym".as_slice();
+    first & is & reply & more & second & taken
 }
 
 #[test]
 fn a_peer_reads_and_writes_or_fails(rt: HostRuntime) {
-    let got = Vec::new(rt.alloc());
-    let mut peer = StreamPeer::new(Narrow { got, room: 8 });
-    let mut bytes = [0; 3];
-    assert!(rt; peer.read(&mut bytes) == Ok(2));
-    assert_eq!(rt; bytes, *b"xx\0");
-    assert!(rt; peer.write_all(b"reply") == Ok(()));
-    assert!(rt; peer.write_all(b"more") == Err(StreamError::Failed));
-    assert!(rt; peer.read(&mut bytes) == Err(StreamError::Failed));
-    assert_eq!(rt; peer.into_stream().got.as_slice(), b"replym".as_slice());
+    assert!(rt; gives_and_takes(rt.alloc()));
 }

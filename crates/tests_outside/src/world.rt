@@ -1,3 +1,4 @@
+use std::alloc::Global;
 use std::collections::BTreeMap;
 use std::test::Fail;
 use tw_world::{Disk, IdWords, Memory, MemoryDisk, Moment, Text};
@@ -65,17 +66,25 @@ fn has_image(disk: &MemoryDisk, calls: u64, pick: u8, want: &[u8]) -> Result<boo
     Ok(disk.image(calls, pick)?.as_slice() == want)
 }
 
-// What each pick of an image holds after so many calls of these:
-// a write of two bytes, a sync, a write of two bytes, a write of one byte, a longer length.
+// A disk behind five calls: a write of two bytes, a sync, a write of two bytes, a write of one byte, a longer length.
+fn changed(alloc: Global) -> Result<MemoryDisk, Fail> {
+    let mut disk = MemoryDisk::new(alloc, [1, 2, 3, 4].to_vec(alloc)?, Vec::new(alloc))?;
+    let first = writes(&mut disk, 0, &[9, 9]);
+    let stable = disk.sync().is_ok();
+    let second = writes(&mut disk, 1, &[7, 7]);
+    let third = writes(&mut disk, 3, &[8]);
+    let longer = disk.set_len(5).is_ok();
+    if first & stable & second & third & longer {
+        Ok(disk)
+    } else {
+        Err(Fail::new("not changed"))
+    }
+}
+
+// What each pick of an image holds after so many of these calls.
 #[test]
 fn an_image_goes_by_its_pick(rt: HostRuntime) -> Result<(), Fail> {
-    let alloc = rt.alloc();
-    let mut disk = MemoryDisk::new(alloc, [1, 2, 3, 4].to_vec(alloc)?, Vec::new(alloc))?;
-    assert!(rt; writes(&mut disk, 0, &[9, 9]));
-    assert!(rt; disk.sync().is_ok());
-    assert!(rt; writes(&mut disk, 1, &[7, 7]));
-    assert!(rt; writes(&mut disk, 3, &[8]));
-    assert!(rt; disk.set_len(5).is_ok());
+    let disk = changed(rt.alloc())?;
     let table = [
         (0, 1, [1, 2, 3, 4].as_slice()),
         (1, 0, [1, 2, 3, 4].as_slice()),

@@ -10,10 +10,11 @@ mod statuses;
 use std::alloc::Global;
 use std::test::Fail;
 use tw_commands::{Input, Ready, Refusal, Request, decide};
-use tw_model::{Change, TaskMap};
+use tw_filter::Filter;
+use tw_model::{Change, TaskMap, Tasks};
 use tw_replica::{Prepared, Replica};
 use tw_time::Zone;
-use tw_words::{cut_words, judge_line, read_settings};
+use tw_words::{Line, Settings, cut_words, judge_line, read_settings};
 use tw_world::{IdWords, Memory, MemoryDisk, Moment};
 use uuid::Uuid;
 
@@ -61,9 +62,7 @@ fn made(
 // Makes changes in the replica of a disk, and writes them.
 fn write_changes(alloc: Global, disk: &mut MemoryDisk, changes: Vec<Change>) -> Result<(), Fail> {
     let at = moment(1)?;
-    let Ok(replica) = Replica::open(alloc, disk) else {
-        return Err(Fail::new("no replica"));
-    };
+    let replica = opened(alloc, disk)?;
     let prepared = made(alloc, replica, changes, at)?;
     match prepared.write(disk) {
         Ok(_) => Ok(()),
@@ -79,22 +78,38 @@ fn words_of(alloc: Global, line: &str) -> Result<Vec<String>, Fail> {
     Ok(words)
 }
 
-// A line of words that is judged at a second, with an input.
-fn asked<'a>(
+fn line_of(alloc: Global, line: &str) -> Result<Line, Fail> {
+    let words = words_of(alloc, line)?;
+    Ok(cut_words(alloc, &words)?)
+}
+
+fn settings_of(alloc: Global, line: &Line) -> Result<Settings, Fail> {
+    match read_settings(alloc, &Vec::new(alloc), &line.overrides) {
+        Ok(settings) => Ok(settings),
+        Err(_) => Err(Fail::new("a wrong setting")),
+    }
+}
+
+fn filter_of(alloc: Global, line: &Line, at: Moment, zone: &Zone) -> Result<Filter, Fail> {
+    match judge_line(alloc, line, at, zone) {
+        Ok(filter) => Ok(filter),
+        Err(_) => Err(Fail::new("a wrong word")),
+    }
+}
+
+fn input_of(alloc: Global, input: &str) -> Result<Input, Fail> {
+    Ok(Input::new(input.as_bytes().to_vec(alloc)?))
+}
+
+fn request_of<'a>(
     alloc: Global,
-    line: &str,
-    input: &str,
-    second: u64,
+    line: Line,
+    input: Input,
+    at: Moment,
     zone: &'a Zone,
 ) -> Result<Request<'a>, Fail> {
-    let words = words_of(alloc, line)?;
-    let at = moment(second)?;
-    let line = cut_words(alloc, &words)?;
-    let filter = judge_line(alloc, &line, at, zone).or(Err("a wrong word"))?;
-    let settings = read_settings(alloc, &Vec::new(alloc), &line.overrides).or(Err(
-        "a wrong setting",
-    ))?;
-    let input = Input::new(input.as_bytes().to_vec(alloc)?);
+    let filter = filter_of(alloc, &line, at, zone)?;
+    let settings = settings_of(alloc, &line)?;
     Ok(Request {
         line,
         filter,
@@ -105,7 +120,44 @@ fn asked<'a>(
     })
 }
 
-// Carries a line of words out at a second, over the replica of a disk, and gives what it prints, or why it does nothing.
+// A line of words that is judged at a second, with an input.
+fn asked<'a>(
+    alloc: Global,
+    line: &str,
+    input: &str,
+    second: u64,
+    zone: &'a Zone,
+) -> Result<Request<'a>, Fail> {
+    let at = moment(second)?;
+    let input = input_of(alloc, input)?;
+    let line = line_of(alloc, line)?;
+    request_of(alloc, line, input, at, zone)
+}
+
+// Writes what is made in memory, and gives what it prints.
+fn written(ready: Ready, disk: &mut MemoryDisk) -> Result<Vec<u8>, Fail> {
+    let Ready { prepared, text } = ready;
+    match prepared.write(disk) {
+        Ok(_) => Ok(text),
+        Err(_) => Err(Fail::new("not written")),
+    }
+}
+
+// Carries a request out over the replica of a disk, and gives what it prints, or why it does nothing.
+fn decided_by(
+    alloc: Global,
+    request: &Request<'_>,
+    ids: &mut IdWords,
+    disk: &mut MemoryDisk,
+) -> Result<Result<Vec<u8>, Refusal>, Fail> {
+    let replica = opened(alloc, disk)?;
+    match decide(alloc, request, ids, replica)? {
+        Ok(ready) => Ok(Ok(written(ready, disk)?)),
+        Err(refusal) => Ok(Err(refusal)),
+    }
+}
+
+// The same of a line of words at a second.
 fn decided(
     alloc: Global,
     line: &str,
@@ -116,16 +168,7 @@ fn decided(
 ) -> Result<Result<Vec<u8>, Refusal>, Fail> {
     let zone = Zone::utc();
     let request = asked(alloc, line, input, second, &zone)?;
-    let Ok(replica) = Replica::open(alloc, disk) else {
-        return Err(Fail::new("no replica"));
-    };
-    match decide(alloc, &request, ids, replica)? {
-        Ok(Ready { prepared, text }) => match prepared.write(disk) {
-            Ok(_) => Ok(Ok(text)),
-            Err(_) => Err(Fail::new("not written")),
-        },
-        Err(refusal) => Ok(Err(refusal)),
-    }
+    decided_by(alloc, &request, ids, disk)
 }
 
 // Why a line does nothing, or none.
@@ -139,7 +182,7 @@ fn refusal(
     Ok(decided(alloc, line, input, NOW, ids, disk)?.err())
 }
 
-fn told(alloc: Global, refusal: Refusal) -> Result<String, Fail> {
+fn told(alloc: Global, refusal: &Refusal) -> Result<String, Memory> {
     match refusal {
         Refusal::NoMatch => Ok(String::from_str(alloc, "NoMatch")?),
         Refusal::BadInput { index, name } => {
@@ -160,7 +203,7 @@ fn carried_with(
 ) -> Result<String, Fail> {
     match decided(alloc, line, input, second, ids, disk)? {
         Ok(text) => Ok(String::from_utf8(text).ok().ok_or("no text")?),
-        Err(refusal) => told(alloc, refusal),
+        Err(refusal) => Ok(told(alloc, &refusal)?),
     }
 }
 
@@ -205,27 +248,54 @@ const DAY: [(&str, &str); 24] = [
     ("status:deleted purge", "Purged 1 task.\n"),
 ];
 
+// Whether a line prints this.
+fn prints(
+    alloc: Global,
+    line: &str,
+    wanted: &str,
+    ids: &mut IdWords,
+    disk: &mut MemoryDisk,
+) -> Result<bool, Fail> {
+    Ok(carried(alloc, line, NOW, ids, disk)?.as_str() == wanted)
+}
+
+// How many lines of the day print what is wanted, up to the first that does not.
+fn day_so_far(alloc: Global, ids: &mut IdWords, disk: &mut MemoryDisk) -> Result<usize, Fail> {
+    for (number, (line, wanted)) in DAY.iter().enumerate() {
+        if !prints(alloc, line, wanted, ids, disk)? {
+            return Ok(number);
+        }
+    }
+    Ok(DAY.len())
+}
+
 #[test]
 fn each_command_has_its_text(rt: HostRuntime) -> Result<(), Fail> {
     let alloc = rt.alloc();
     let mut disk = empty_disk(alloc)?;
     let mut ids = ids_from(1);
-    for (line, wanted) in DAY {
-        let printed = carried(alloc, line, NOW, &mut ids, &mut disk)?;
-        assert_eq!(rt; printed.as_str(), wanted, "{line}");
-    }
+    assert_eq!(rt; day_so_far(alloc, &mut ids, &mut disk)?, DAY.len());
     // one for each task that was made
     assert_eq!(rt; ids.start, 6);
+    Ok(())
+}
+
+fn carry_all(
+    alloc: Global,
+    lines: &[&str],
+    ids: &mut IdWords,
+    disk: &mut MemoryDisk,
+) -> Result<(), Fail> {
+    for line in lines {
+        let _ = carried(alloc, line, NOW, ids, disk)?;
+    }
     Ok(())
 }
 
 // Adds tasks, that of number N with the identifier N, from 1.
 fn with_adds(alloc: Global, lines: &[&str]) -> Result<MemoryDisk, Fail> {
     let mut disk = empty_disk(alloc)?;
-    let mut ids = ids_from(1);
-    for line in lines {
-        let _ = carried(alloc, line, NOW, &mut ids, &mut disk)?;
-    }
+    carry_all(alloc, lines, &mut ids_from(1), &mut disk)?;
     Ok(disk)
 }
 
@@ -237,37 +307,83 @@ const TAKEN: [(&str, u128, u128, u128, u128); 4] = [
     ("1 2 duplicate", 9, 0, 9, 9),
 ];
 
+// Whether a line is refused for the number that is taken.
+fn is_taken(
+    alloc: Global,
+    line: &str,
+    input: &str,
+    number: u128,
+    ids: &mut IdWords,
+    disk: &mut MemoryDisk,
+) -> Result<bool, Fail> {
+    let uuid = uuid_of(number);
+    Ok(refusal(alloc, line, input, ids, disk)? == Some(Refusal::IdTaken { uuid }))
+}
+
+fn taken_so_far(alloc: Global, disk: &mut MemoryDisk) -> Result<usize, Fail> {
+    for (number, (line, start, step, taken, left)) in TAKEN.iter().enumerate() {
+        let mut ids = IdWords {
+            start: *start,
+            step: *step,
+        };
+        if !is_taken(alloc, line, "", *taken, &mut ids, disk)? || ids.start != *left {
+            return Ok(number);
+        }
+    }
+    Ok(TAKEN.len())
+}
+
 #[test]
 fn a_uuid_that_is_taken_is_told(rt: HostRuntime) -> Result<(), Fail> {
     let alloc = rt.alloc();
     let mut disk = with_adds(alloc, &["add a", "add b"])?;
-    for (line, start, step, taken, left) in TAKEN {
-        let mut ids = IdWords { start, step };
-        let uuid = uuid_of(taken);
-        let refusal = refusal(alloc, line, "", &mut ids, &mut disk)?;
-        assert!(rt; refusal == Some(Refusal::IdTaken { uuid }), "{line}");
-        assert_eq!(rt; ids.start, left);
-    }
+    assert_eq!(rt; taken_so_far(alloc, &mut disk)?, TAKEN.len());
     Ok(())
+}
+
+// Whether a line leaves the disk as long as it was.
+fn writes_nothing(
+    alloc: Global,
+    line: &str,
+    ids: &mut IdWords,
+    disk: &mut MemoryDisk,
+) -> Result<bool, Fail> {
+    let before = disk.bytes().len();
+    let _ = carried(alloc, line, NOW + 1, ids, disk)?;
+    Ok(disk.bytes().len() == before)
+}
+
+const IDLE: [&str; 4] = ["1 modify project:Home", "1 modify -flat", "count", "ids"];
+
+fn idle_so_far(alloc: Global, disk: &mut MemoryDisk) -> Result<usize, Fail> {
+    for (number, line) in IDLE.iter().enumerate() {
+        if !writes_nothing(alloc, line, &mut ids_from(2), disk)? {
+            return Ok(number);
+        }
+    }
+    Ok(IDLE.len())
 }
 
 #[test]
 fn what_changes_nothing_writes_no_record(rt: HostRuntime) -> Result<(), Fail> {
     let alloc = rt.alloc();
     let mut disk = with_adds(alloc, &["add a project:Home"])?;
-    let before = disk.bytes().len();
-    for line in ["1 modify project:Home", "1 modify -flat", "count", "ids"] {
-        let _ = carried(alloc, line, NOW + 1, &mut ids_from(2), &mut disk)?;
-        assert_eq!(rt; disk.bytes().len(), before);
-    }
+    assert_eq!(rt; idle_so_far(alloc, &mut disk)?, IDLE.len());
     Ok(())
+}
+
+// A property of the first task.
+fn property_of<'a>(tasks: &'a Tasks, property: &str) -> Option<&'a str> {
+    tasks.get(uuid_of(1))?.get(property)
 }
 
 // How long the description of the first task is.
 fn description_len(alloc: Global, disk: &mut MemoryDisk) -> Result<usize, Fail> {
     let replica = opened(alloc, disk)?;
-    let task = replica.tasks().get(uuid_of(1)).ok_or("no task")?;
-    Ok(task.get("description").ok_or("no description")?.len())
+    match property_of(replica.tasks(), "description") {
+        Some(text) => Ok(text.len()),
+        None => Err(Fail::new("no description")),
+    }
 }
 
 #[test]

@@ -58,6 +58,22 @@ fn tasks_of(alloc: Global, tasks: &[(u128, &str)]) -> Result<Tasks, Memory> {
     Ok(made)
 }
 
+fn rows_of(alloc: Global, numbers: &[u128]) -> Result<Vec<Uuid>, Memory> {
+    let mut rows = Vec::new(alloc);
+    for number in numbers {
+        rows.push(Uuid::from_u128(*number))?;
+    }
+    Ok(rows)
+}
+
+fn text_of(alloc: Global, rows: &Vec<Uuid>, tasks: &Tasks, now: Moment) -> Result<String, Fail> {
+    let text = export_text(alloc, rows, tasks, now, &WEIGHTS)?;
+    match String::from_utf8(text) {
+        Ok(text) => Ok(text),
+        Err(_) => Err(Fail::new("no text")),
+    }
+}
+
 // The export of the rows at a second.
 fn exported(
     alloc: Global,
@@ -65,14 +81,20 @@ fn exported(
     numbers: &[u128],
     second: u64,
 ) -> Result<String, Fail> {
-    let mut rows = Vec::new(alloc);
-    for number in numbers {
-        rows.push(Uuid::from_u128(*number))?;
-    }
     let now = Moment::new(second, 0).ok_or("no moment")?;
+    let rows = rows_of(alloc, numbers)?;
     let tasks = tasks_of(alloc, tasks)?;
-    let text = export_text(alloc, &rows, &tasks, now, &WEIGHTS)?;
-    Ok(String::from_utf8(text).ok().ok_or("no text")?)
+    text_of(alloc, &rows, &tasks, now)
+}
+
+// Whether the export of the rows is this.
+fn is_exported(
+    alloc: Global,
+    tasks: &[(u128, &str)],
+    numbers: &[u128],
+    wanted: &str,
+) -> Result<bool, Fail> {
+    Ok(exported(alloc, tasks, numbers, NOW)?.as_str() == wanted)
 }
 
 // Properties, and the task's object. Beside it stands a task that is pending, and that the second row depends on.
@@ -112,37 +134,47 @@ const TASKS: [(&str, &str); 8] = [
     ),
 ];
 
+// Whether the export of a task with these properties is this object alone.
+fn is_object(alloc: Global, properties: &str, object: &str) -> Result<bool, Fail> {
+    let wanted = format!(in alloc; "[\n{object}\n]\n")?;
+    let tasks = [(1, "status=pending"), (2, properties)];
+    is_exported(alloc, &tasks, &[2], wanted.as_str())
+}
+
+// How many of the objects are as wanted, up to the first that is not.
+fn objects_so_far(alloc: Global) -> Result<usize, Fail> {
+    for (number, (properties, object)) in TASKS.iter().enumerate() {
+        if !is_object(alloc, properties, object)? {
+            return Ok(number);
+        }
+    }
+    Ok(TASKS.len())
+}
+
 #[test]
 fn a_task_is_one_object(rt: HostRuntime) -> Result<(), Fail> {
-    let alloc = rt.alloc();
-    for (properties, object) in TASKS {
-        let tasks = [(1, "status=pending"), (2, properties)];
-        let printed = exported(alloc, &tasks, &[2], NOW)?;
-        let want = format!(in alloc; "[\n{object}\n]\n")?;
-        assert_eq!(rt; printed.as_str(), want.as_str());
-    }
+    assert_eq!(rt; objects_so_far(rt.alloc())?, TASKS.len());
     Ok(())
 }
+
+const CHOSEN: [(u128, &str); 4] = [
+    (2, "uuids=5"),
+    (1, ""),
+    (3, "description=not chosen"),
+    (
+        4,
+        "dep_00000000-0000-0000-0000-000000000001=|status=pending",
+    ),
+];
+
+const TWO: &str =
+    "[\n{\"urgency\":0.000,\"uuid\":\"00000000-0000-0000-0000-000000000001\"},\n{\"urgency\":0.000,\"uuid\":\"00000000-0000-0000-0000-000000000002\",\"uuids\":\"5\"}\n]\n";
 
 #[test]
 fn rows_are_chosen_in_byte_order(rt: HostRuntime) -> Result<(), Fail> {
     let alloc = rt.alloc();
-    let tasks = [
-        (2, "uuids=5"),
-        (1, ""),
-        (3, "description=not chosen"),
-        (
-            4,
-            "dep_00000000-0000-0000-0000-000000000001=|status=pending",
-        ),
-    ];
-    let none = exported(alloc, &tasks, &[], NOW)?;
-    assert_eq!(rt; none.as_str(), "[\n]\n");
-    let two = exported(alloc, &tasks, &[2, 9, 1, 2], NOW)?;
-    assert_eq!(rt;
-        two.as_str(),
-        "[\n{\"urgency\":0.000,\"uuid\":\"00000000-0000-0000-0000-000000000001\"},\n{\"urgency\":0.000,\"uuid\":\"00000000-0000-0000-0000-000000000002\",\"uuids\":\"5\"}\n]\n"
-    );
+    assert!(rt; is_exported(alloc, &CHOSEN, &[], "[\n]\n")?);
+    assert!(rt; is_exported(alloc, &CHOSEN, &[2, 9, 1, 2], TWO)?);
     Ok(())
 }
 
@@ -186,42 +218,56 @@ fn is_same_object(ours: &Value, theirs: &Value) -> bool {
     true
 }
 
+// The export of the same tasks at a second.
+fn ours_at(alloc: Global, second: u64) -> Result<Value, Fail> {
+    let text = exported(alloc, &REAL_TASKS, &[RENT, SHIP], second)?;
+    Ok(Value::from_str(alloc, text.as_str())?)
+}
+
+fn are_same_objects(ours: &Value, theirs: &Value) -> bool {
+    let (Some(ours), Some(theirs)) = (ours.as_array(), theirs.as_array()) else {
+        return false;
+    };
+    for (a, b) in ours.iter().zip(theirs.iter()) {
+        if !is_same_object(a, b) {
+            return false;
+        }
+    }
+    ours.len() == 2 && theirs.len() == 2
+}
+
+// once the wait is over: until then `waiting` stands where Taskwarrior prints `pending`
 #[test]
 fn a_real_export_has_the_same_tasks(rt: HostRuntime) -> Result<(), Fail> {
     let alloc = rt.alloc();
-    // once the wait is over: until then `waiting` stands where Taskwarrior prints `pending`
-    let text = exported(alloc, &REAL_TASKS, &[RENT, SHIP], YEAR_2040)?;
-    let ours = Value::from_str(alloc, text.as_str())?;
+    let ours = ours_at(alloc, YEAR_2040)?;
     let theirs = Value::from_str(alloc, REAL)?;
-    let (Some(ours), Some(theirs)) = (ours.as_array(), theirs.as_array()) else {
-        return Err(Fail::new("no list"));
-    };
-    assert_eq!(rt; (ours.len(), theirs.len()), (2, 2));
-    for (a, b) in ours.iter().zip(theirs.iter()) {
-        assert!(rt; is_same_object(a, b));
-    }
+    assert!(rt; are_same_objects(&ours, &theirs));
     Ok(())
+}
+
+fn urgency_at(tasks: &Value, n: usize) -> Option<f64> {
+    tasks.get(n)?.get("urgency")?.as_f64()
+}
+
+fn has_urgencies(tasks: &Value) -> bool {
+    urgency_at(tasks, 0).is_some() && urgency_at(tasks, 1).is_some()
+}
+
+fn are_same_urgencies(ours: &Value, theirs: &Value) -> bool {
+    urgency_at(ours, 0) == urgency_at(theirs, 0) && urgency_at(ours, 1) == urgency_at(theirs, 1)
+}
+
+fn status_at(tasks: &Value, n: usize) -> Option<&str> {
+    tasks.get(n)?.get("status")?.as_str()
 }
 
 #[test]
 fn a_real_export_has_the_same_urgencies(rt: HostRuntime) -> Result<(), Fail> {
     let alloc = rt.alloc();
-    let text = exported(alloc, &REAL_TASKS, &[RENT, SHIP], YEAR_2026)?;
-    let ours = Value::from_str(alloc, text.as_str())?;
+    let ours = ours_at(alloc, YEAR_2026)?;
     let theirs = Value::from_str(alloc, REAL)?;
-    for n in 0..2 {
-        let urgency = ours.get(n).and_then(|task| task.get("urgency"));
-        let wanted = theirs.get(n).and_then(|task| task.get("urgency"));
-        assert_eq!(rt;
-            urgency.and_then(Value::as_f64),
-            wanted.and_then(Value::as_f64)
-        );
-    }
-    assert_eq!(rt;
-        ours.get(1)
-            .and_then(|task| task.get("status"))
-            .and_then(Value::as_str),
-        Some("waiting")
-    );
+    assert!(rt; has_urgencies(&ours) && are_same_urgencies(&ours, &theirs));
+    assert!(rt; status_at(&ours, 1) == Some("waiting"));
     Ok(())
 }

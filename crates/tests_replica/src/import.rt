@@ -27,22 +27,33 @@ fn put_task(told: &mut String, one: &Imported) -> Result<(), Memory> {
     Ok(())
 }
 
+fn put_tasks(told: &mut String, tasks: &Vec<Imported>) -> Result<(), Memory> {
+    for one in tasks {
+        put_task(told, one)?;
+    }
+    Ok(())
+}
+
+fn told_tasks(alloc: Global, tasks: &Vec<Imported>) -> Result<String, Memory> {
+    let mut told = String::new(alloc);
+    put_tasks(&mut told, tasks)?;
+    Ok(told)
+}
+
 // The tasks, one a line, or why there are none.
 fn told_of(alloc: Global, bytes: &[u8]) -> Result<String, Memory> {
-    let mut told = String::new(alloc);
     match read_import(alloc, bytes, NOW) {
-        Ok(tasks) => {
-            for one in &tasks {
-                put_task(&mut told, one)?;
-            }
-        }
-        Err(ImportError::NotJson) => told.push_str("no JSON")?,
+        Ok(tasks) => told_tasks(alloc, &tasks),
+        Err(ImportError::NotJson) => Ok(String::from_str(alloc, "no JSON")?),
         Err(ImportError::Task { index, name }) => {
-            told = format!(in alloc; "element {index}: {}", name.as_str())?;
+            Ok(format!(in alloc; "element {index}: {}", name.as_str())?)
         }
-        Err(ImportError::Memory) => return Err(Memory),
+        Err(ImportError::Memory) => Err(Memory),
     }
-    Ok(told)
+}
+
+fn is_told(alloc: Global, bytes: &[u8], wanted: &str) -> Result<bool, Memory> {
+    Ok(told_of(alloc, bytes)?.as_str() == wanted)
 }
 
 const DEFAULTS: &str = "entry=1700000000 modified=1700000000 status=pending";
@@ -91,27 +102,43 @@ const TASKS: [(&str, &str, &str); 8] = [
     ),
 ];
 
+// What is told of a row: without a text after the defaults it has an estimate among them.
+fn wanted_of(alloc: Global, before: &str, after: &str) -> Result<String, Memory> {
+    if after.is_empty() {
+        Ok(format!(in alloc;
+            "{before}entry=1700000000 estimate=18446744073709551615 modified=1700000000 status=pending\n"
+        )?)
+    } else {
+        Ok(format!(in alloc; "{before}{DEFAULTS}{after}")?)
+    }
+}
+
+fn is_row(alloc: Global, text: &str, before: &str, after: &str) -> Result<bool, Memory> {
+    let wanted = wanted_of(alloc, before, after)?;
+    is_told(alloc, text.as_bytes(), wanted.as_str())
+}
+
+// How many of the texts are told as wanted, up to the first that is not.
+fn tasks_so_far(alloc: Global) -> Result<usize, Memory> {
+    for (number, (text, before, after)) in TASKS.iter().enumerate() {
+        if !is_row(alloc, text, before, after)? {
+            return Ok(number);
+        }
+    }
+    Ok(TASKS.len())
+}
+
+const TWO: &str =
+    "[{\"description\":\"a\",\"modified\":\"20010909T014640Z\",\"status\":7,\"uuid\":\"00000000-0000-4000-8000-000000000001\"},{\"description\":\"b\",\"entry\":\"19700101T000000Z\",\"status\":\"done\",\"uuid\":\"00000000-0000-4000-8000-000000000001\"}]";
+
+const BOTH: &str =
+    "00000000-0000-4000-8000-000000000001 description=a entry=1700000000 modified=1000000000 status=7\n00000000-0000-4000-8000-000000000001 description=b entry=0 modified=1700000000 status=done\n";
+
 #[test]
 fn elements_become_tasks(rt: HostRuntime) -> Result<(), Fail> {
     let alloc = rt.alloc();
-    for (text, before, after) in TASKS {
-        let told = told_of(alloc, text.as_bytes())?;
-        if after.is_empty() {
-            let want = format!(in alloc;
-                "{before}entry=1700000000 estimate=18446744073709551615 modified=1700000000 status=pending\n"
-            )?;
-            assert_eq!(rt; told.as_str(), want.as_str());
-        } else {
-            let want = format!(in alloc; "{before}{DEFAULTS}{after}")?;
-            assert_eq!(rt; told.as_str(), want.as_str());
-        }
-    }
-    let two =
-        "[{\"description\":\"a\",\"modified\":\"20010909T014640Z\",\"status\":7,\"uuid\":\"00000000-0000-4000-8000-000000000001\"},{\"description\":\"b\",\"entry\":\"19700101T000000Z\",\"status\":\"done\",\"uuid\":\"00000000-0000-4000-8000-000000000001\"}]";
-    assert_eq!(rt;
-        told_of(alloc, two.as_bytes())?.as_str(),
-        "00000000-0000-4000-8000-000000000001 description=a entry=1700000000 modified=1000000000 status=7\n00000000-0000-4000-8000-000000000001 description=b entry=0 modified=1700000000 status=done\n"
-    );
+    assert_eq!(rt; tasks_so_far(alloc)?, TASKS.len());
+    assert!(rt; is_told(alloc, TWO.as_bytes(), BOTH)?);
     Ok(())
 }
 
@@ -187,20 +214,26 @@ fn nested(alloc: Global, depth: u64) -> Result<Vec<u8>, Memory> {
     Ok(text)
 }
 
+fn refusals_so_far(alloc: Global) -> Result<usize, Memory> {
+    for (number, (text, wanted)) in REFUSALS.iter().enumerate() {
+        if !is_told(alloc, text.as_bytes(), wanted)? {
+            return Ok(number);
+        }
+    }
+    Ok(REFUSALS.len())
+}
+
+// Whether arrays that nest so deep are told as this.
+fn is_told_at(alloc: Global, depth: u64, wanted: &str) -> Result<bool, Memory> {
+    let text = nested(alloc, depth)?;
+    is_told(alloc, text.as_slice(), wanted)
+}
+
 #[test]
 fn the_first_bad_element_is_named(rt: HostRuntime) -> Result<(), Fail> {
     let alloc = rt.alloc();
-    for (text, want) in REFUSALS {
-        assert_eq!(rt;
-            told_of(alloc, text.as_bytes())?.as_str(),
-            want,
-            "of {text}"
-        );
-    }
-    assert_eq!(rt; told_of(alloc, b"[\"\xff\"]")?.as_str(), "no JSON");
-    let deepest = nested(alloc, 127)?;
-    assert_eq!(rt; told_of(alloc, deepest.as_slice())?.as_str(), "element 0: ");
-    let deeper = nested(alloc, 128)?;
-    assert_eq!(rt; told_of(alloc, deeper.as_slice())?.as_str(), "no JSON");
+    assert_eq!(rt; refusals_so_far(alloc)?, REFUSALS.len());
+    assert!(rt; is_told(alloc, b"[\"\xff\"]", "no JSON")?);
+    assert!(rt; is_told_at(alloc, 127, "element 0: ")? && is_told_at(alloc, 128, "no JSON")?);
     Ok(())
 }

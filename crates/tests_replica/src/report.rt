@@ -1,5 +1,4 @@
 use std::alloc::Global;
-use std::str;
 use std::test::Fail;
 use tw_filter::View;
 use tw_model::{TaskMap, Tasks};
@@ -34,201 +33,206 @@ const NOW: Moment = Moment {
     nanos: 0,
 };
 
-fn add(alloc: Global, tasks: &mut Tasks, uuid: u128, pairs: &[(&str, &str)]) -> Result<(), Memory> {
+// The task of a text `property=value|property=value`.
+fn task_of(alloc: Global, text: &str) -> Result<TaskMap, Memory> {
     let mut task = TaskMap::new(alloc);
-    for (property, value) in pairs {
-        task.set(alloc, property, Some(value))?;
+    for pair in text.split('|') {
+        if let Some((property, value)) = pair.split_once('=') {
+            task.set(alloc, property, Some(value))?;
+        }
     }
-    let _ = tasks.insert(Uuid::from_u128(uuid), task)?;
-    Ok(())
+    Ok(task)
 }
 
-fn rows_of(alloc: Global, uuids: &[u128]) -> Result<Vec<Uuid>, Memory> {
+fn tasks_of(alloc: Global, tasks: &[(u128, &str)]) -> Result<Tasks, Memory> {
+    let mut made = Tasks::new(alloc);
+    for (number, text) in tasks {
+        let _ = made.insert(Uuid::from_u128(*number), task_of(alloc, text)?)?;
+    }
+    Ok(made)
+}
+
+// The uuids of these numbers; 0 is none.
+fn rows_of(alloc: Global, numbers: &[u128]) -> Result<Vec<Uuid>, Memory> {
     let mut rows = Vec::new(alloc);
-    for uuid in uuids {
-        rows.push(Uuid::from_u128(*uuid))?;
+    for number in numbers {
+        if *number != 0 {
+            rows.push(Uuid::from_u128(*number))?;
+        }
     }
     Ok(rows)
 }
 
-fn places_of(alloc: Global, uuids: &[u128]) -> Result<Vec<Option<Uuid>>, Memory> {
+fn place_of(number: u128) -> Option<Uuid> {
+    if number == 0 {
+        None
+    } else {
+        Some(Uuid::from_u128(number))
+    }
+}
+
+fn places_of(alloc: Global, numbers: &[u128]) -> Result<Vec<Option<Uuid>>, Memory> {
     let mut places = Vec::new(alloc);
-    for uuid in uuids {
-        if *uuid == 0 {
-            places.push(None)?;
-        } else {
-            places.push(Some(Uuid::from_u128(*uuid)))?;
-        }
+    for number in numbers {
+        places.push(place_of(*number))?;
     }
     Ok(places)
 }
 
-// The urgencies are those of taskrc(5)'s defaults; ties stand by uuid, and a place of the second number is vacant.
-#[test]
-fn rows_stand_in_the_order_of_a_report(rt: HostRuntime) -> Result<(), Fail> {
-    let alloc = rt.alloc();
-    let mut tasks = Tasks::new(alloc);
-    let first = [
-        ("description", "first"),
-        ("entry", "1700000000"),
-        ("priority", "H"),
-        ("project", "Home"),
-        ("status", "pending"),
-        ("tag_next", ""),
-    ];
-    add(alloc, &mut tasks, 4, &first)?;
-    let overdue = [
-        ("description", "overdue"),
-        ("due", "1699395200"),
-        ("status", "pending"),
-    ];
-    add(alloc, &mut tasks, 3, &overdue)?;
-    let ahead = [
-        ("description", "a"),
-        ("due", "1701209600"),
-        ("status", "pending"),
-    ];
-    add(alloc, &mut tasks, 2, &ahead)?;
-    let sooner = [
-        ("description", "z"),
-        ("due", "1701209599"),
-        ("status", "pending"),
-    ];
-    add(alloc, &mut tasks, 1, &sooner)?;
-    let late = [
-        ("description", "done late"),
-        ("end", "1700000000"),
-        ("status", "completed"),
-    ];
-    add(alloc, &mut tasks, 5, &late)?;
-    let early = [
-        ("description", "done early"),
-        ("end", "1600000000"),
-        ("status", "completed"),
-    ];
-    add(alloc, &mut tasks, 6, &early)?;
-    let waiting = [
-        ("description", "later"),
-        ("status", "pending"),
-        ("wait", "1800000000"),
-    ];
-    add(alloc, &mut tasks, 7, &waiting)?;
-    add(alloc, &mut tasks, 8, &[("status", "strange\t")])?;
-    let numbers = places_of(alloc, &[4, 0, 2, 1])?;
-    let zone = Zone::utc();
+// A text for people.
+#[derive(Clone, Copy)]
+enum Asked {
+    Report(Report),
+    Information,
+    Projects,
+    Tags,
+}
+
+fn text_of(
+    alloc: Global,
+    asked: Asked,
+    rows: &Vec<Uuid>,
+    view: &View<'_>,
+) -> Result<Vec<u8>, Memory> {
+    match asked {
+        Asked::Report(report) => report_text(alloc, report, rows, view, &WEIGHTS),
+        Asked::Information => information_text(alloc, rows, view, &WEIGHTS),
+        Asked::Projects => projects_text(alloc, rows, view),
+        Asked::Tags => tags_text(alloc, rows, view),
+    }
+}
+
+// What is asked, of which rows, and what is shown.
+type Row = (Asked, [u128; 4], &'static str);
+
+fn is_shown(alloc: Global, view: &View<'_>, row: &Row) -> Result<bool, Memory> {
+    let rows = rows_of(alloc, &row.1)?;
+    let text = text_of(alloc, row.0, &rows, view)?;
+    Ok(text.as_slice() == row.2.as_bytes())
+}
+
+// How many of the rows are shown as wanted, up to the first that is not.
+fn shown_so_far(alloc: Global, view: &View<'_>, rows: &[Row]) -> Result<usize, Memory> {
+    for (number, row) in rows.iter().enumerate() {
+        if !is_shown(alloc, view, row)? {
+            return Ok(number);
+        }
+    }
+    Ok(rows.len())
+}
+
+// The same over tasks, their places and a zone.
+fn seen_so_far(
+    alloc: Global,
+    tasks: &[(u128, &str)],
+    places: &[u128],
+    zone: &Zone,
+    rows: &[Row],
+) -> Result<usize, Memory> {
+    let numbers = places_of(alloc, places)?;
+    let tasks = tasks_of(alloc, tasks)?;
     let view = View {
         tasks: &tasks,
         numbers: &numbers,
         now: NOW,
-        zone: &zone,
+        zone,
     };
-    let open = rows_of(alloc, &[1, 2, 3, 4])?;
-    let closed = rows_of(alloc, &[5, 6, 9, 6])?;
-    let others = rows_of(alloc, &[8, 7])?;
-    let reports = [
-        (
-            Report::Next,
-            &open,
-            "ID    Urg Project Due        Description\n 1 22.800 Home               first\n   12.000         2023-11-07 overdue\n 4  2.400         2023-11-28 z\n 3  2.400         2023-11-28 a\n\n4 tasks\n",
-        ),
-        (
-            Report::Blocked,
-            &open,
-            "ID Due        Description\n   2023-11-07 overdue\n 4 2023-11-28 z\n 3 2023-11-28 a\n 1            first\n\n4 tasks\n",
-        ),
-        (
-            Report::Completed,
-            &closed,
-            "UUID                                 Completed  Description\n00000000-0000-0000-0000-000000000006 2020-09-13 done early\n00000000-0000-0000-0000-000000000005 2023-11-14 done late\n\n2 tasks\n",
-        ),
-        (
-            Report::Waiting,
-            &others,
-            "ID Wait       Description\n   2027-01-15 later\n              \n\n2 tasks\n",
-        ),
-        (
-            Report::All,
-            &others,
-            "ID Status   UUID                                 Description\n   waiting  00000000-0000-0000-0000-000000000007 later\n   strange  00000000-0000-0000-0000-000000000008 \n\n2 tasks\n",
-        ),
-    ];
-    for (report, rows, want) in reports {
-        let text = report_text(alloc, report, rows, &view, &WEIGHTS)?;
-        assert_eq!(rt; str::from_utf8(text.as_slice()).ok(), Some(want));
-    }
+    shown_so_far(alloc, &view, rows)
+}
+
+const ORDERED: [(u128, &str); 8] = [
+    (
+        4,
+        "description=first|entry=1700000000|priority=H|project=Home|status=pending|tag_next=",
+    ),
+    (3, "description=overdue|due=1699395200|status=pending"),
+    (2, "description=a|due=1701209600|status=pending"),
+    (1, "description=z|due=1701209599|status=pending"),
+    (5, "description=done late|end=1700000000|status=completed"),
+    (6, "description=done early|end=1600000000|status=completed"),
+    (7, "description=later|status=pending|wait=1800000000"),
+    (8, "status=strange\t"),
+];
+
+const REPORTS: [Row; 5] = [
+    (
+        Asked::Report(Report::Next),
+        [1, 2, 3, 4],
+        "ID    Urg Project Due        Description\n 1 22.800 Home               first\n   12.000         2023-11-07 overdue\n 4  2.400         2023-11-28 z\n 3  2.400         2023-11-28 a\n\n4 tasks\n",
+    ),
+    (
+        Asked::Report(Report::Blocked),
+        [1, 2, 3, 4],
+        "ID Due        Description\n   2023-11-07 overdue\n 4 2023-11-28 z\n 3 2023-11-28 a\n 1            first\n\n4 tasks\n",
+    ),
+    (
+        Asked::Report(Report::Completed),
+        [5, 6, 9, 6],
+        "UUID                                 Completed  Description\n00000000-0000-0000-0000-000000000006 2020-09-13 done early\n00000000-0000-0000-0000-000000000005 2023-11-14 done late\n\n2 tasks\n",
+    ),
+    (
+        Asked::Report(Report::Waiting),
+        [8, 7, 0, 0],
+        "ID Wait       Description\n   2027-01-15 later\n              \n\n2 tasks\n",
+    ),
+    (
+        Asked::Report(Report::All),
+        [8, 7, 0, 0],
+        "ID Status   UUID                                 Description\n   waiting  00000000-0000-0000-0000-000000000007 later\n   strange  00000000-0000-0000-0000-000000000008 \n\n2 tasks\n",
+    ),
+];
+
+// The urgencies are those of taskrc(5)'s defaults; ties stand by uuid, and a place of the second number is vacant.
+#[test]
+fn rows_stand_in_the_order_of_a_report(rt: HostRuntime) -> Result<(), Fail> {
+    let zone = Zone::utc();
+    let shown = seen_so_far(rt.alloc(), &ORDERED, &[4, 0, 2, 1], &zone, &REPORTS)?;
+    assert_eq!(rt; shown, REPORTS.len());
     Ok(())
 }
+
+const WORDED: [(u128, &str); 4] = [
+    (
+        1,
+        "description=Call Ann|entry=1700000000|modified=1700000000|status=pending|tag_phone=",
+    ),
+    (
+        2,
+        "description=no due|priority=L|project=e\u{301}t\u{e9}|tag_a b=x|tag_phone=",
+    ),
+    (
+        3,
+        "description=tab\tand\nline|due=1700000000|project=\u{65e5}\u{672c}\u{8a9e}",
+    ),
+    (4, "a\nb=c\u{7f}d|due=soon|project=\u{65e5}\u{672c}\u{8a9e}"),
+];
+
+const TEXTS: [Row; 6] = [
+    (
+        Asked::Report(Report::List),
+        [1, 2, 3, 4],
+        "ID Project Pri Due        Description\n 3 \u{65e5}\u{672c}\u{8a9e}      2023-11-15 tab and line\n 1                        Call Ann\n 2 e\u{301}t\u{e9}     L              no due\n   \u{65e5}\u{672c}\u{8a9e}                 \n\n4 tasks\n",
+    ),
+    (
+        Asked::Information,
+        [4, 1, 0, 0],
+        "id: 1\nuuid: 00000000-0000-0000-0000-000000000001\nurgency: 0.800\ndescription: Call Ann\nentry: 1700000000\nmodified: 1700000000\nstatus: pending\ntag_phone: \n\nid: \nuuid: 00000000-0000-0000-0000-000000000004\nurgency: 1.000\na b: c d\ndue: soon\nproject: \u{65e5}\u{672c}\u{8a9e}\n",
+    ),
+    (
+        Asked::Projects,
+        [1, 2, 3, 4],
+        "e\u{301}t\u{e9} 1\n\u{65e5}\u{672c}\u{8a9e} 2\n",
+    ),
+    (Asked::Tags, [1, 2, 3, 4], "a b 1\nphone 2\n"),
+    (Asked::Projects, [1, 0, 0, 0], ""),
+    (Asked::Tags, [1, 0, 0, 0], "phone 1\n"),
+];
 
 // Nine hours ahead the day is a later one. Three ideographs take six columns, an accented letter takes one however it is written.
 #[test]
 fn cells_are_on_one_line_and_names_are_counted(rt: HostRuntime) -> Result<(), Fail> {
-    let alloc = rt.alloc();
-    let mut tasks = Tasks::new(alloc);
-    let call = [
-        ("description", "Call Ann"),
-        ("entry", "1700000000"),
-        ("modified", "1700000000"),
-        ("status", "pending"),
-        ("tag_phone", ""),
-    ];
-    add(alloc, &mut tasks, 1, &call)?;
-    let accented = [
-        ("description", "no due"),
-        ("priority", "L"),
-        ("project", "e\u{301}t\u{e9}"),
-        ("tag_a b", "x"),
-        ("tag_phone", ""),
-    ];
-    add(alloc, &mut tasks, 2, &accented)?;
-    let wide = [
-        ("description", "tab\tand\nline"),
-        ("due", "1700000000"),
-        ("project", "\u{65e5}\u{672c}\u{8a9e}"),
-    ];
-    add(alloc, &mut tasks, 3, &wide)?;
-    add(
-        alloc,
-        &mut tasks,
-        4,
-        &[
-            ("a\nb", "c\u{7f}d"),
-            ("due", "soon"),
-            ("project", "\u{65e5}\u{672c}\u{8a9e}"),
-        ],
-    )?;
-    let numbers = places_of(alloc, &[1, 2, 3])?;
     let zone = Zone::read("JST-9").or(Err("zone"))?;
-    let view = View {
-        tasks: &tasks,
-        numbers: &numbers,
-        now: NOW,
-        zone: &zone,
-    };
-    let all = rows_of(alloc, &[1, 2, 3, 4])?;
-    let ends = rows_of(alloc, &[4, 1])?;
-    let list =
-        "ID Project Pri Due        Description\n 3 \u{65e5}\u{672c}\u{8a9e}      2023-11-15 tab and line\n 1                        Call Ann\n 2 e\u{301}t\u{e9}     L              no due\n   \u{65e5}\u{672c}\u{8a9e}                 \n\n4 tasks\n";
-    let told =
-        "id: 1\nuuid: 00000000-0000-0000-0000-000000000001\nurgency: 0.800\ndescription: Call Ann\nentry: 1700000000\nmodified: 1700000000\nstatus: pending\ntag_phone: \n\nid: \nuuid: 00000000-0000-0000-0000-000000000004\nurgency: 1.000\na b: c d\ndue: soon\nproject: \u{65e5}\u{672c}\u{8a9e}\n";
-    let texts = [
-        (
-            report_text(alloc, Report::List, &all, &view, &WEIGHTS)?,
-            list,
-        ),
-        (information_text(alloc, &ends, &view, &WEIGHTS)?, told),
-        (
-            projects_text(alloc, &all, &view)?,
-            "e\u{301}t\u{e9} 1\n\u{65e5}\u{672c}\u{8a9e} 2\n",
-        ),
-        (tags_text(alloc, &all, &view)?, "a b 1\nphone 2\n"),
-        (projects_text(alloc, &rows_of(alloc, &[1])?, &view)?, ""),
-        (
-            tags_text(alloc, &rows_of(alloc, &[1])?, &view)?,
-            "phone 1\n",
-        ),
-    ];
-    for (text, want) in &texts {
-        assert_eq!(rt; str::from_utf8(text.as_slice()).ok(), Some(*want));
-    }
+    let shown = seen_so_far(rt.alloc(), &WORDED, &[1, 2, 3], &zone, &TEXTS)?;
+    assert_eq!(rt; shown, TEXTS.len());
     Ok(())
 }

@@ -121,19 +121,48 @@ fn has_rents(tasks: &Tasks) -> bool {
     true
 }
 
+// Makes what is due in May, and tells whether that is as many changes and operations.
+fn makes_in_may(
+    alloc: Global,
+    tasks: &mut Tasks,
+    changes: usize,
+    ops: usize,
+) -> Result<bool, Memory> {
+    Ok(make_due(alloc, tasks, MAY.seconds, &Zone::utc(), 1)? == (changes, ops))
+}
+
+// Whether the changes and the operations of what is due in May make the same of the tasks.
+fn makes_rents(alloc: Global, tasks: &mut Tasks) -> Result<bool, Memory> {
+    let Some((applied, count)) = applied(alloc, tasks)? else {
+        return Ok(false);
+    };
+    Ok(makes_in_may(alloc, tasks, 6, count)? && has_rents(tasks) && has_rents(&applied))
+}
+
+fn is_marked(tasks: &Tasks) -> bool {
+    let marked = [("mask", Some("-----")), ("modified", Some("1777593600"))];
+    has_all(tasks, PARENT, &marked)
+}
+
 #[test]
 fn months_keep_their_ends(rt: HostRuntime) -> Result<(), Fail> {
     let alloc = rt.alloc();
     let mut tasks = template(alloc, &MONTHLY)?;
     assert!(rt; are_rents(&due_in_may(alloc, &tasks)?));
-    let (applied, count) = applied(alloc, &tasks)?.ok_or("one does not fit")?;
-    let (changes, ops) = make_due(alloc, &mut tasks, MAY.seconds, &Zone::utc(), 1)?;
-    assert!(rt; changes == 6 && ops == count);
-    assert!(rt; has_rents(&tasks) && has_rents(&applied));
-    let marked = [("mask", Some("-----")), ("modified", Some("1777593600"))];
-    assert!(rt; has_all(&tasks, PARENT, &marked));
+    assert!(rt; makes_rents(alloc, &mut tasks)? && is_marked(&tasks));
     assert!(rt; due_in_may(alloc, &tasks)?.is_empty());
     Ok(())
+}
+
+// Whether these numbers of changes are made, one after another.
+fn makes_each(alloc: Global, tasks: &mut Tasks, counts: &[usize]) -> Result<bool, Memory> {
+    for count in counts {
+        let (changes, _) = make_due(alloc, tasks, MAY.seconds, &Zone::utc(), 1)?;
+        if changes != *count {
+            return Ok(false);
+        }
+    }
+    Ok(true)
 }
 
 // A day of 2,000 ago that comes again each day: a thousand instances at once, the rest later.
@@ -141,13 +170,11 @@ fn months_keep_their_ends(rt: HostRuntime) -> Result<(), Fail> {
 fn a_thousand_are_made_at_once(rt: HostRuntime) -> Result<(), Fail> {
     let alloc = rt.alloc();
     let mut tasks = template(alloc, &[("due", "1604793600"), ("recur", "1d")])?;
-    for want in [1001, 1001, 3, 0] {
-        let (changes, _) = make_due(alloc, &mut tasks, MAY.seconds, &Zone::utc(), 1)?;
-        assert_eq!(rt; changes, want);
-    }
+    assert!(rt; makes_each(alloc, &mut tasks, &[1001, 1001, 3, 0])?);
     Ok(())
 }
 
+#[derive(Clone, Copy)]
 struct Case {
     pairs: [(&'static str, &'static str); 4],
     zone: &'static str,
@@ -299,15 +326,32 @@ fn made(alloc: Global, case: &Case) -> Result<Tasks, Fail> {
     Ok(tasks)
 }
 
-#[test]
-fn instances_end_where_the_template_says(rt: HostRuntime) -> Result<(), Fail> {
-    for case in &CASES {
-        let tasks = made(rt.alloc(), case)?;
-        assert!(rt; has_all(&tasks, PARENT, &[("mask", case.mask)]));
-        assert!(rt; tasks.len() as usize == count_dues(&case.dues).saturating_add(1));
-        for due in case.dues {
-            assert!(rt; due == 0 || is_due(&tasks, due));
+fn are_due(tasks: &Tasks, dues: &[u64]) -> bool {
+    for due in dues {
+        if *due != 0 && !is_due(tasks, *due) {
+            return false;
         }
     }
+    tasks.len() as usize == count_dues(dues).saturating_add(1)
+}
+
+fn is_right(alloc: Global, case: &Case) -> Result<bool, Fail> {
+    let tasks = made(alloc, case)?;
+    Ok(has_all(&tasks, PARENT, &[("mask", case.mask)]) && are_due(&tasks, &case.dues))
+}
+
+// How many of the cases come out as they should, up to the first that does not.
+fn cases_so_far(alloc: Global) -> Result<usize, Fail> {
+    for (number, case) in CASES.iter().enumerate() {
+        if !is_right(alloc, case)? {
+            return Ok(number);
+        }
+    }
+    Ok(CASES.len())
+}
+
+#[test]
+fn instances_end_where_the_template_says(rt: HostRuntime) -> Result<(), Fail> {
+    assert_eq!(rt; cases_so_far(rt.alloc())?, CASES.len());
     Ok(())
 }

@@ -1,5 +1,4 @@
 use std::alloc::Global;
-use std::str;
 use std::test::Fail;
 use tw_table::{Column, table_text};
 use tw_world::Memory;
@@ -19,13 +18,23 @@ const COLUMNS: [Column; 3] = [
     },
 ];
 
-// A row may be shorter than the others, or have no cells.
-const ROWS: [&[&str]; 5] = [
-    &["1", "\u{65e5}\u{672c}", "x"],
-    &["10", "e\u{301}", ""],
-    &["", "abcde", "longer than its heading"],
-    &["123", "short row"],
-    &[],
+// Rows, and their table. Two ideographs take four columns, a letter with a combining accent takes one. A row may be shorter than the
+// others, or have no cells.
+const TABLES: [(&[&[&str]], &str); 2] = [
+    (
+        &[
+            &["1", "\u{65e5}\u{672c}", "x"],
+            &["10", "e\u{301}", ""],
+            &["", "abcde", "longer than its heading"],
+            &["123", "short row"],
+            &[],
+        ],
+        " ID Name      Note\n  1 \u{65e5}\u{672c}      x\n 10 e\u{301}         \n    abcde     longer than its heading\n123 short row\n\n",
+    ),
+    (
+        &[&["1", "\u{65e5}\u{672c}", "x"], &["2", "abcde", ""]],
+        "ID Name  Note\n 1 \u{65e5}\u{672c}  x\n 2 abcde \n",
+    ),
 ];
 
 fn row_of(alloc: Global, cells: &[&str]) -> Result<Vec<String>, Memory> {
@@ -36,17 +45,18 @@ fn row_of(alloc: Global, cells: &[&str]) -> Result<Vec<String>, Memory> {
     Ok(row)
 }
 
-// Two ideographs take four columns, a letter with a combining accent takes one.
+fn is_table(alloc: Global, cells: &[&[&str]], want: &str) -> Result<bool, Fail> {
+    let mut rows = Vec::new(alloc);
+    for row in cells {
+        rows.push(row_of(alloc, row)?)?;
+    }
+    Ok(table_text(alloc, &COLUMNS, &rows)?.as_slice() == want.as_bytes())
+}
+
 #[test]
 fn a_column_is_as_wide_as_its_widest_cell(rt: HostRuntime) -> Result<(), Fail> {
-    let alloc = rt.alloc();
-    let mut rows = Vec::new(alloc);
-    for cells in ROWS {
-        rows.push(row_of(alloc, cells)?)?;
+    for (cells, want) in TABLES {
+        assert!(rt; is_table(rt.alloc(), cells, want)?, "{want}");
     }
-    let want =
-        " ID Name      Note\n  1 \u{65e5}\u{672c}      x\n 10 e\u{301}         \n    abcde     longer than its heading\n123 short row\n\n";
-    let text = table_text(alloc, &COLUMNS, &rows)?;
-    assert_eq!(rt; str::from_utf8(text.as_slice()).ok(), Some(want));
     Ok(())
 }

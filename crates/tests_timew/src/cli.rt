@@ -30,8 +30,9 @@ const NOW: Moment = Moment {
     nanos: 0,
 };
 
-fn sink(alloc: Global) -> Result<MemorySink, Fail> {
-    Ok(MemorySink::new(alloc, Vec::new(alloc), Vec::new(alloc))?)
+// A sink whose calls with these numbers fail.
+fn sink(alloc: Global, fails: &[u64]) -> Result<MemorySink, Fail> {
+    Ok(MemorySink::new(alloc, Vec::new(alloc), fails.to_vec(alloc)?)?)
 }
 
 // A folder whose calls with these numbers fail, and that holds a text for January.
@@ -51,11 +52,21 @@ fn disk_of(alloc: Global, content: &[u8], fails: &[u64]) -> Result<MemoryDisk, F
 }
 
 // A folder of month files, and their journal.
-#[derive(Drop)]
 struct Machine {
     alloc: Global,
     folder: MemoryFolder,
     disk: MemoryDisk,
+}
+
+// It is written out, so that a caller does not prove again how each part is dropped.
+impl Drop for Machine {
+    fn drop(self) {
+        let Machine {
+            alloc: _,
+            folder: _,
+            disk: _,
+        } = self;
+    }
 }
 
 fn empty(alloc: Global) -> Result<Machine, Fail> {
@@ -86,12 +97,23 @@ fn holding(
     })
 }
 
+// A status and what was written, as one text.
+fn told_by(alloc: Global, status: u8, out: &MemorySink, err: &MemorySink) -> Result<String, Fail> {
+    let mut told = format!(in alloc; "{status} ")?;
+    push_bytes(&mut told, out.bytes())?;
+    push_bytes(&mut told, err.bytes())?;
+    Ok(told)
+}
+
 impl Machine {
-    // The status of a line, and what it writes.
-    fn told(&mut self, line: &str) -> Result<String, Fail> {
+    // The status of a line.
+    fn status_of(
+        &mut self,
+        line: &str,
+        out: &mut MemorySink,
+        err: &mut MemorySink,
+    ) -> Result<u8, Fail> {
         let words = words_of(self.alloc, line)?;
-        let mut out = sink(self.alloc)?;
-        let mut err = sink(self.alloc)?;
         let outcome = timew_run(
             self.alloc,
             &words,
@@ -99,13 +121,23 @@ impl Machine {
             &Zone::utc(),
             &mut self.folder,
             &mut self.disk,
-            &mut out,
-            &mut err,
+            out,
+            err,
         );
-        let mut told = format!(in self.alloc; "{} ", outcome.status)?;
-        push_bytes(&mut told, out.bytes())?;
-        push_bytes(&mut told, err.bytes())?;
-        Ok(told)
+        Ok(outcome.status)
+    }
+
+    // The status of a line and what it writes, if these calls of the output fail.
+    fn told_over(&mut self, line: &str, out_fails: &[u64]) -> Result<String, Fail> {
+        let mut out = sink(self.alloc, out_fails)?;
+        let mut err = sink(self.alloc, &[])?;
+        let status = self.status_of(line, &mut out, &mut err)?;
+        told_by(self.alloc, status, &out, &err)
+    }
+
+    // The status of a line, and what it writes.
+    fn told(&mut self, line: &str) -> Result<String, Fail> {
+        self.told_over(line, &[])
     }
 
     // Whether a line has this status and writes this.
@@ -120,6 +152,11 @@ impl Machine {
             Some(bytes) => bytes.as_slice() == want.as_bytes(),
             None => want.is_empty(),
         })
+    }
+
+    // Whether a line has this status and writes this, and the file of January then holds that.
+    fn leaves(&mut self, line: &str, want: &str, file: &str) -> Result<bool, Fail> {
+        Ok(self.tells(line, want)? && self.holds(file)?)
     }
 }
 
@@ -169,8 +206,7 @@ const LINES: [(&str, &str, &str); 14] = [
 fn lines_one_after_another(rt: HostRuntime) -> Result<(), Fail> {
     let mut machine = empty(rt.alloc())?;
     for (line, want, file) in LINES {
-        assert_eq!(rt; machine.told(line)?.as_str(), want, "{line}");
-        assert!(rt; machine.holds(file)?, "{line}");
+        assert!(rt; machine.leaves(line, want, file)?, "{line}");
     }
     Ok(())
 }
@@ -188,12 +224,66 @@ const EDITED: [(&str, &str); 3] = [
     (ONE, "0 Stored 0 intervals.\n"),
 ];
 
+// Whether an undo over a file of January with this text says this.
+fn is_undone(alloc: Global, text: &str, want: &str) -> Result<bool, Fail> {
+    let mut machine = holding(alloc, text, &[], &[])?;
+    machine.tells("undo", want)
+}
+
 #[test]
 fn a_file_was_changed_by_hand(rt: HostRuntime) -> Result<(), Fail> {
     for (text, want) in EDITED {
-        let mut machine = holding(rt.alloc(), text, &[], &[])?;
-        assert_eq!(rt; machine.told("undo")?.as_str(), want);
+        assert!(rt; is_undone(rt.alloc(), text, want)?, "{want}");
     }
+    Ok(())
+}
+
+// What a split says if these calls of the folder, of the journal's disk and of the output fail.
+const FAILING: [(&[u64], &[u64], &[u64], &str); 9] = [
+    (&[], &[], &[], "0 Stored 2 intervals.\n"),
+    (&[0], &[], &[], FOLDER_FAILED),
+    (&[1], &[], &[], FOLDER_FAILED),
+    (&[2], &[], &[], FOLDER_FAILED),
+    (&[3], &[], &[], FOLDER_FAILED),
+    (&[], &[0], &[], DISK_FAILED),
+    (&[], &[5], &[], DISK_FAILED),
+    (&[], &[9], &[], DISK_FAILED),
+    (&[], &[], &[0], "6 timew: output failed\n"),
+];
+
+const FOLDER_FAILED: &str = "8 timew: the folder failed\n";
+
+const DISK_FAILED: &str = "3 timew: the journal failed\n";
+
+fn is_told(
+    alloc: Global,
+    folder_fails: &[u64],
+    disk_fails: &[u64],
+    out_fails: &[u64],
+    want: &str,
+) -> Result<bool, Fail> {
+    let mut machine = holding(alloc, ONE, folder_fails, disk_fails)?;
+    Ok(machine.told_over("split @1", out_fails)?.as_str() == want)
+}
+
+#[test]
+fn what_fails_is_told(rt: HostRuntime) -> Result<(), Fail> {
+    for (folder, disk, out, want) in FAILING {
+        assert!(rt; is_told(rt.alloc(), folder, disk, out, want)?, "{want}");
+    }
+    Ok(())
+}
+
+// Whether a line that is no command is told of, and the journal's disk is not used.
+fn leaves_the_disk(alloc: Global) -> Result<bool, Fail> {
+    let mut machine = empty(alloc)?;
+    let is_told = machine.tells("start :adjust 999999999999", "2 timew: bad word 2\n")?;
+    Ok(is_told && machine.disk.calls() == 0)
+}
+
+#[test]
+fn bad_words_leave_the_disk(rt: HostRuntime) -> Result<(), Fail> {
+    assert!(rt; leaves_the_disk(rt.alloc())?);
     Ok(())
 }
 
@@ -215,14 +305,23 @@ fn is_split_or_whole(
 }
 
 // Each of the four calls of the folder and each of the disk fails in turn while an interval is split.
-#[test]
-fn a_split_is_whole_or_not_there(rt: HostRuntime) -> Result<(), Fail> {
+fn each_is_split_or_whole(alloc: Global) -> Result<bool, Fail> {
     for call in 0..4 {
-        assert!(rt; is_split_or_whole(rt.alloc(), &[call], &[])?, "{call}");
+        if !is_split_or_whole(alloc, &[call], &[])? {
+            return Ok(false);
+        }
     }
     for call in 0..12 {
-        assert!(rt; is_split_or_whole(rt.alloc(), &[], &[call])?, "{call}");
+        if !is_split_or_whole(alloc, &[], &[call])? {
+            return Ok(false);
+        }
     }
+    Ok(true)
+}
+
+#[test]
+fn a_split_is_whole_or_not_there(rt: HostRuntime) -> Result<(), Fail> {
+    assert!(rt; each_is_split_or_whole(rt.alloc())?);
     Ok(())
 }
 
@@ -241,18 +340,21 @@ fn is_loaded(alloc: Global, disk: &MemoryDisk, call: u64, pick: u8) -> Result<bo
 }
 
 // Each image that a crash may leave of the journal while an interval is split.
-#[test]
-fn every_image_is_loaded(rt: HostRuntime) -> Result<(), Fail> {
-    let alloc = rt.alloc();
-    let mut machine = holding(alloc, ONE, &[], &[])?;
-    let _ = machine.told("split @1")?;
-    for call in 0..machine.disk.calls() {
+fn each_is_loaded(alloc: Global, disk: &MemoryDisk) -> Result<bool, Fail> {
+    for call in 0..disk.calls() {
         for pick in 0..4 {
-            assert!(rt;
-                is_loaded(alloc, &machine.disk, call, pick)?,
-                "{call} {pick}"
-            );
+            if !is_loaded(alloc, disk, call, pick)? {
+                return Ok(false);
+            }
         }
     }
+    Ok(true)
+}
+
+#[test]
+fn every_image_is_loaded(rt: HostRuntime) -> Result<(), Fail> {
+    let mut machine = holding(rt.alloc(), ONE, &[], &[])?;
+    let _ = machine.told("split @1")?;
+    assert!(rt; each_is_loaded(rt.alloc(), &machine.disk)?);
     Ok(())
 }

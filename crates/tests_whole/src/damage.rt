@@ -44,11 +44,24 @@ fn damage_of(alloc: Global, whole: &[u8], place: usize) -> Result<Option<u64>, F
     *bytes.get_mut(place).ok_or("no byte")? = 255;
     let mut disk = disk_of(alloc, &bytes, &[])?;
     let ended = run_alone(alloc, &Given::new(3, SECOND), "count", &mut disk)?;
-    match ended.outcome.cause {
+    match &ended.outcome.cause {
         Cause::Done if ended.out.bytes() == b"2\n".as_slice() => Ok(None),
-        Cause::Damaged { offset } => Ok(Some(offset)),
+        Cause::Damaged { offset } => Ok(Some(*offset)),
         _ => Err(Fail::new("another cause")),
     }
+}
+
+// How many bytes of a store may each be 255 and change no task, where each other one is damage at its record.
+fn taken(alloc: Global, whole: &[u8]) -> Result<Option<u64>, Fail> {
+    let mut taken: u64 = 0;
+    for place in 0..whole.len() {
+        match damage_of(alloc, whole, place)? {
+            None => taken = taken.saturating_add(1),
+            Some(offset) if offset == damage_at(place as u64) => {}
+            Some(_) => return Ok(None),
+        }
+    }
+    Ok(Some(taken))
 }
 
 #[test]
@@ -56,15 +69,8 @@ fn a_byte_of_255_is_damage_at_its_record_or_changes_no_task(rt: HostRuntime) -> 
     let alloc = rt.alloc();
     let whole = two_tasks(alloc)?;
     assert_eq!(rt; whole.len(), 529);
-    let mut taken: u64 = 0;
-    for place in 0..whole.len() {
-        match damage_of(alloc, &whole, place)? {
-            None => taken = u64::saturating_add(taken, 1),
-            Some(offset) => assert_eq!(rt; offset, damage_at(place as u64), "byte {place}"),
-        }
-    }
     // Of each of the eight moments seven bytes may be 255 and leave it in range: the last four of the seconds, and the last three
     // of the nanoseconds. And so may the eight of the slot that does not count.
-    assert_eq!(rt; taken, 8 * 7 + 8);
+    assert!(rt; taken(alloc, whole.as_slice())? == Some(8 * 7 + 8));
     Ok(())
 }

@@ -1,7 +1,9 @@
 // Imports over a store and an input in memory.
 
 use crate::machine::{Given, machine, run_alone};
+use std::alloc::Global;
 use std::test::Fail;
+use tw_world::MemoryDisk;
 
 const SECOND: u64 = 1_700_000_000;
 
@@ -12,7 +14,9 @@ const CALL_EXPORTED: &str =
     "[\n{\"description\":\"Call Ann\",\"entry\":\"20231114T221320Z\",\"modified\":\"20231114T221320Z\",\"status\":\"pending\",\"tags\":[\"phone\"],\"urgency\":0.800,\"uuid\":\"00000000-0000-4000-8000-000000000001\"}\n]\n";
 
 // A line, its input, the number of the read that fails, the status, and what is printed or told.
-const ROWS: [(&str, &str, &[u64], u8, &str); 12] = [
+type Row = (&'static str, &'static str, &'static [u64], u8, &'static str);
+
+const ROWS: [Row; 12] = [
     ("import", CALL, &[1], 8, "task: input failed\n"),
     ("count", "", &[], 0, "0\n"),
     ("import", CALL, &[], 0, "Imported 1 task.\n"),
@@ -39,17 +43,22 @@ const ROWS: [(&str, &str, &[u64], u8, &str); 12] = [
     ("export", "", &[], 0, "[\n]\n"),
 ];
 
+// Runs the line of a row. Whether it ends as the row says.
+fn ends(alloc: Global, row: &Row, disk: &mut MemoryDisk) -> Result<bool, Fail> {
+    let (line, input, input_fails, status, text) = *row;
+    let mut given = Given::new(1, SECOND);
+    given.input = input;
+    given.input_fails = input_fails;
+    let ended = run_alone(alloc, &given, line, disk)?;
+    Ok(ended.outcome.status == status && ended.said() == Some(text.as_bytes()))
+}
+
 #[test]
 fn an_input_is_imported_and_taken_back(rt: HostRuntime) -> Result<(), Fail> {
     let alloc = rt.alloc();
     let mut disk = machine(alloc)?;
-    for (line, input, input_fails, status, text) in ROWS {
-        let mut given = Given::new(1, SECOND);
-        given.input = input;
-        given.input_fails = input_fails;
-        let ended = run_alone(alloc, &given, line, &mut disk)?;
-        assert_eq!(rt; ended.outcome.status, status, "{line}");
-        assert!(rt; ended.said() == Some(text.as_bytes()), "{line}");
+    for row in &ROWS {
+        assert!(rt; ends(alloc, row, &mut disk)?, "{}", row.0);
     }
     Ok(())
 }

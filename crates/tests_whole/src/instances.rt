@@ -1,6 +1,7 @@
 // Instances of a recurring task, made on two machines.
 
 use crate::world::{On, Row, Then, World};
+use std::alloc::Global;
 use std::test::Fail;
 
 // 2026-05-01T00:00:00Z.
@@ -43,26 +44,36 @@ const ROWS: [(u64, &str, &str, &str); 4] = [
     (JUNE, "2|done", "5\n", "------"),
 ];
 
+// Whether the machines agree after a row, and the template has this mask.
+fn agree(
+    alloc: Global,
+    second: u64,
+    line: &'static str,
+    counted: &'static str,
+    mask: &str,
+) -> Result<bool, Fail> {
+    let apart = [
+        (On::Desk, MAY + 1, line, Then::Done),
+        (On::Lap, second, "list", Then::Done),
+    ];
+    let count = [(
+        On::Desk,
+        COMPARED,
+        "status:pending|count",
+        Then::Prints(counted),
+    )];
+    let mut world = World::new(alloc, &[])?;
+    world.follow_all(&[&SHARED, &apart, &SYNCS, &count])?;
+    Ok(world.agrees(COMPARED)? && world.has_at_lap("mask", mask)?)
+}
+
 #[test]
 fn an_instance_is_made_once_on_two_machines(rt: HostRuntime) -> Result<(), Fail> {
     for (second, line, counted, mask) in ROWS {
-        let mut world = World::new(rt.alloc(), &[])?;
-        world.follow(&rt, &SHARED)?;
-        let apart = [
-            (On::Desk, MAY + 1, line, Then::Done),
-            (On::Lap, second, "list", Then::Done),
-        ];
-        world.follow(&rt, &apart)?;
-        world.follow(&rt, &SYNCS)?;
-        let count = [(
-            On::Desk,
-            COMPARED,
-            "status:pending|count",
-            Then::Prints(counted),
-        )];
-        world.follow(&rt, &count)?;
-        assert!(rt; world.agrees(COMPARED)?, "{line} at {second}");
-        assert!(rt; world.has_at_lap("mask", mask)?, "{line} at {second}");
+        assert!(rt;
+            agree(rt.alloc(), second, line, counted, mask)?,
+            "{line} at {second}"
+        );
     }
     Ok(())
 }

@@ -96,11 +96,21 @@ impl<'a> Given<'a> {
 }
 
 /// How a run ended, with what it printed and told.
-#[derive(Drop)]
 pub struct Ended {
     pub outcome: Outcome,
     pub out: MemorySink,
     pub err: MemorySink,
+}
+
+// It is written out, so that a caller does not prove again how each part is dropped.
+impl Drop for Ended {
+    fn drop(self) {
+        let Ended {
+            outcome: _,
+            out: _,
+            err: _,
+        } = self;
+    }
 }
 
 impl Ended {
@@ -137,6 +147,29 @@ fn sink_of(alloc: Global, fails: &[u64]) -> Result<MemorySink, Fail> {
     Ok(MemorySink::new(alloc, Vec::new(alloc), fails.to_vec(alloc)?)?)
 }
 
+// The streams of a run.
+#[derive(Drop)]
+struct Streams {
+    input: MemorySource,
+    out: MemorySink,
+    err: MemorySink,
+}
+
+impl Streams {
+    // An input as it is given, and an output whose calls with these numbers fail.
+    fn new(alloc: Global, given: &Given<'_>, out_fails: &[u64]) -> Result<Streams, Fail> {
+        let input = source_of(alloc, given)?;
+        let out = sink_of(alloc, out_fails)?;
+        let err = sink_of(alloc, &[])?;
+        Ok(Streams { input, out, err })
+    }
+
+    fn ended(self, outcome: Outcome) -> Ended {
+        let Streams { out, err, .. } = self;
+        Ended { outcome, out, err }
+    }
+}
+
 /// Runs a line of words that are parted by bars, over an output whose calls with these numbers fail.
 pub fn run_given(
     alloc: Global,
@@ -149,9 +182,7 @@ pub fn run_given(
     let now = moment(given.second)?;
     let words = words_of(alloc, line)?;
     let settings = given.settings.as_bytes().to_vec(alloc)?;
-    let mut input = source_of(alloc, given)?;
-    let mut out = sink_of(alloc, out_fails)?;
-    let mut err = sink_of(alloc, &[])?;
+    let mut streams = Streams::new(alloc, given, out_fails)?;
     let mut ids = IdWords {
         start: given.first,
         step: 1,
@@ -165,11 +196,11 @@ pub fn run_given(
         &mut ids,
         disk,
         link,
-        &mut input,
-        &mut out,
-        &mut err,
+        &mut streams.input,
+        &mut streams.out,
+        &mut streams.err,
     );
-    Ok(Ended { outcome, out, err })
+    Ok(streams.ended(outcome))
 }
 
 /// The same over a link and an output that do not fail.

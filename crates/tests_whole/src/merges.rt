@@ -3,7 +3,6 @@
 use crate::machine::is_held;
 use crate::world::{On, Row, Then, World};
 use std::alloc::Global;
-use std::process::Abort;
 use std::test::Fail;
 use tw_server::Fate;
 
@@ -54,6 +53,13 @@ fn both_modify(lap_second: u64, lap_syncs: Then, desk_syncs: Then) -> [Row; 5] {
     ]
 }
 
+// Whether both machines hold the first task with this project after these lines.
+fn agree_on(alloc: Global, rows: &[Row], project: &str) -> Result<bool, Fail> {
+    let mut world = World::new(alloc, &[])?;
+    world.follow_all(&[&PAIR, rows])?;
+    Ok(world.agrees(1_000)? && world.has_at_lap("project", project)?)
+}
+
 // Each row is the lap's second, what its sync prints and then that of the desk, and the project that both hold.
 #[test]
 fn the_later_change_of_a_property_stays(rt: HostRuntime) -> Result<(), Fail> {
@@ -64,11 +70,8 @@ fn the_later_change_of_a_property_stays(rt: HostRuntime) -> Result<(), Fail> {
         (100, TWO_DROPPED, NOTHING, "Home"),
     ];
     for (second, lap_syncs, desk_syncs, project) in table {
-        let mut world = World::new(rt.alloc(), &[])?;
-        world.follow(&rt, &PAIR)?;
-        world.follow(&rt, &both_modify(second, lap_syncs, desk_syncs))?;
-        assert!(rt; world.agrees(1_000)?, "{second}");
-        assert!(rt; world.has_at_lap("project", project)?, "{second}");
+        let rows = both_modify(second, lap_syncs, desk_syncs);
+        assert!(rt; agree_on(rt.alloc(), &rows, project)?, "{second}");
     }
     Ok(())
 }
@@ -104,19 +107,17 @@ const LAP_FIRST: [Row; 3] = [
 ];
 
 // Removes the task of a pair at the desk and changes it on the lap, and syncs by these lines. Whether it is gone from both.
-fn is_removed(alloc: Global, rt: &impl Abort, syncs: &[Row]) -> Result<bool, Fail> {
+fn is_removed(alloc: Global, syncs: &[Row]) -> Result<bool, Fail> {
     let mut world = World::new(alloc, &[])?;
-    world.follow(rt, &PAIR)?;
-    world.follow(rt, &REMOVED)?;
-    world.follow(rt, syncs)?;
+    world.follow_all(&[&PAIR, &REMOVED, syncs])?;
     Ok(!is_held(alloc, &mut world.desk)? && !is_held(alloc, &mut world.lap)?)
 }
 
 #[test]
 fn a_removal_stays_whoever_syncs_first(rt: HostRuntime) -> Result<(), Fail> {
     let alloc = rt.alloc();
-    assert!(rt; is_removed(alloc, &rt, &DESK_FIRST)?);
-    assert!(rt; is_removed(alloc, &rt, &LAP_FIRST)?);
+    assert!(rt; is_removed(alloc, &DESK_FIRST)?);
+    assert!(rt; is_removed(alloc, &LAP_FIRST)?);
     Ok(())
 }
 
@@ -144,9 +145,8 @@ const UNFIT: [Row; 9] = [
     ),
 ];
 
-#[test]
-fn a_version_that_does_not_fit_meets_no_local_change(rt: HostRuntime) -> Result<(), Fail> {
-    let alloc = rt.alloc();
+// Whether the first task is still at the desk after these lines.
+fn is_at_desk(alloc: Global, rows: &[Row]) -> Result<bool, Fail> {
     let nothing: &[&str] = &[];
     let exchanges = [
         (nothing, Fate::Deliver),
@@ -158,7 +158,12 @@ fn a_version_that_does_not_fit_meets_no_local_change(rt: HostRuntime) -> Result<
         (&[CREATE], Fate::Deliver),
     ];
     let mut world = World::new(alloc, &exchanges)?;
-    world.follow(&rt, &UNFIT)?;
-    assert!(rt; !is_held(alloc, &mut world.desk)?);
+    world.follow(rows)?;
+    is_held(alloc, &mut world.desk)
+}
+
+#[test]
+fn a_version_that_does_not_fit_meets_no_local_change(rt: HostRuntime) -> Result<(), Fail> {
+    assert!(rt; !is_at_desk(rt.alloc(), &UNFIT)?);
     Ok(())
 }

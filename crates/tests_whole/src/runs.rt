@@ -112,18 +112,31 @@ fn with_adds(alloc: Global, adds: u64) -> Result<MemoryDisk, Fail> {
     Ok(disk)
 }
 
+// Whether an undo takes one add back, and leaves so many tasks.
+fn undoes(alloc: Global, disk: &mut MemoryDisk, left: u64) -> Result<bool, Fail> {
+    let counted = format!(in alloc; "{left}\n")?;
+    Ok(
+        prints(alloc, disk, "undo", "Undone 5 operations.\n")?
+            && prints(alloc, disk, "count", counted.as_str())?,
+    )
+}
+
+// Whether so many adds are taken back one after another, and then nothing more.
+fn undoes_all(alloc: Global, adds: u64) -> Result<bool, Fail> {
+    let mut disk = with_adds(alloc, adds)?;
+    for left in (0..adds).rev() {
+        if !undoes(alloc, &mut disk, left)? {
+            return Ok(false);
+        }
+    }
+    let ended = run(alloc, "undo", &mut disk)?;
+    Ok(ended.outcome.cause == Cause::NothingToUndo)
+}
+
 #[test]
 fn each_undo_takes_one_add_back(rt: HostRuntime) -> Result<(), Fail> {
-    let alloc = rt.alloc();
     for adds in 0..4 {
-        let mut disk = with_adds(alloc, adds)?;
-        for left in (0..adds).rev() {
-            let counted = format!(in alloc; "{left}\n")?;
-            assert!(rt; prints(alloc, &mut disk, "undo", "Undone 5 operations.\n")?);
-            assert!(rt; prints(alloc, &mut disk, "count", counted.as_str())?);
-        }
-        let ended = run(alloc, "undo", &mut disk)?;
-        assert!(rt; ended.outcome.cause == Cause::NothingToUndo);
+        assert!(rt; undoes_all(rt.alloc(), adds)?, "{adds}");
     }
     Ok(())
 }
@@ -179,6 +192,17 @@ fn line_of(alloc: Global, words: u8) -> Result<String, Fail> {
     Ok(line)
 }
 
+// Whether a line prints this, and the store holds the state.
+fn prints_over_state(
+    alloc: Global,
+    disk: &mut MemoryDisk,
+    line: &str,
+    printed: &str,
+) -> Result<bool, Fail> {
+    let ended = run_from(alloc, 2001, line, disk)?;
+    Ok(ended.out.bytes() == printed.as_bytes() && disk.bytes().first() == Some(&3))
+}
+
 // The first command writes the state in place of the 2,000 records.
 #[test]
 fn a_line_of_200_words_adds_to_2000_tasks(rt: HostRuntime) -> Result<(), Fail> {
@@ -192,9 +216,10 @@ fn a_line_of_200_words_adds_to_2000_tasks(rt: HostRuntime) -> Result<(), Fail> {
         ("undo", "Undone 5 operations.\n"),
         ("count", "2000\n"),
     ] {
-        let ended = run_from(alloc, 2001, line, &mut disk)?;
-        assert!(rt; ended.out.bytes() == printed.as_bytes());
-        assert!(rt; disk.bytes().first() == Some(&3));
+        assert!(rt;
+            prints_over_state(alloc, &mut disk, line, printed)?,
+            "{printed}"
+        );
     }
     Ok(())
 }

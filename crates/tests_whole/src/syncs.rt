@@ -28,26 +28,45 @@ const ADD: Row = (
 
 const COUNT: Row = (On::Desk, SECOND, "count", Then::Prints("1\n"));
 
+// Runs lines at the desk. Whether they leave its bytes as they were.
+fn leave_the_bytes(world: &mut World, rows: &[Row]) -> Result<bool, Fail> {
+    let before = world.desk.bytes().to_vec(world.alloc)?;
+    world.follow(rows)?;
+    Ok(world.desk.bytes() == before.as_slice())
+}
+
+// Whether these lines leave the bytes of a machine that was synced, and so many exchanges were made in the end.
+fn exchange(alloc: Global, rows: &[Row], exchanges: u64) -> Result<bool, Fail> {
+    let pushed = Then::Prints("Synced: 0 pulled, 0 dropped, 5 pushed.\n");
+    let mut world = World::new(alloc, &[])?;
+    world.follow(&[ADD, sync(pushed)])?;
+    Ok(leave_the_bytes(&mut world, rows)? && world.link.exchanges() == exchanges)
+}
+
 #[test]
 fn a_task_is_sent_once_and_a_second_sync_writes_nothing(rt: HostRuntime) -> Result<(), Fail> {
     let alloc = rt.alloc();
-    let mut world = World::new(alloc, &[])?;
-    let pushed = Then::Prints("Synced: 0 pulled, 0 dropped, 5 pushed.\n");
-    world.follow(&rt, &[ADD, sync(pushed)])?;
-    let synced = world.desk.bytes().to_vec(alloc)?;
-    let nothing = Then::Prints("Synced: 0 pulled, 0 dropped, 0 pushed.\n");
-    world.follow(&rt, &[sync(nothing)])?;
-    assert!(rt; world.desk.bytes() == synced.as_slice());
-    assert_eq!(rt; world.link.exchanges(), 3);
-    world.follow(&rt, &[(On::Desk, SECOND, "undo", Then::NothingToUndo)])?;
-    assert_eq!(rt; world.link.exchanges(), 3);
+    let nothing = sync(Then::Prints("Synced: 0 pulled, 0 dropped, 0 pushed.\n"));
+    let undo = (On::Desk, SECOND, "undo", Then::NothingToUndo);
+    assert!(rt; exchange(alloc, &[nothing], 3)?);
+    assert!(rt; exchange(alloc, &[nothing, undo], 3)?);
     Ok(())
+}
+
+// Whether a lost reply to an added task leaves the bytes, and these lines go on behind it.
+fn goes_on_behind_a_lost_reply(alloc: Global, rows: &[Row]) -> Result<bool, Fail> {
+    let nothing: &[&str] = &[];
+    let exchanges = [(nothing, Fate::Deliver), (nothing, Fate::LoseReply)];
+    let mut world = World::new(alloc, &exchanges)?;
+    world.follow(&[ADD])?;
+    let is_kept = leave_the_bytes(&mut world, &[sync(Then::LinkFault)])?;
+    world.follow(rows)?;
+    Ok(is_kept)
 }
 
 // The reply to what was sent is lost; what is done before the next sync, and what that prints and the tasks are.
 #[test]
 fn a_lost_reply_costs_nothing(rt: HostRuntime) -> Result<(), Fail> {
-    let alloc = rt.alloc();
     let undone = Then::Prints("Undone 5 operations.\n");
     let table = [
         (COUNT, "Synced: 1 pulled, 5 dropped, 0 pushed.\n"),
@@ -56,15 +75,9 @@ fn a_lost_reply_costs_nothing(rt: HostRuntime) -> Result<(), Fail> {
             "Synced: 1 pulled, 0 dropped, 0 pushed.\n",
         ),
     ];
-    let nothing: &[&str] = &[];
-    let exchanges = [(nothing, Fate::Deliver), (nothing, Fate::LoseReply)];
     for (between, synced) in table {
-        let mut world = World::new(alloc, &exchanges)?;
-        world.follow(&rt, &[ADD])?;
-        let added = world.desk.bytes().to_vec(alloc)?;
-        world.follow(&rt, &[sync(Then::LinkFault)])?;
-        assert!(rt; world.desk.bytes() == added.as_slice());
-        world.follow(&rt, &[between, sync(Then::Prints(synced)), COUNT])?;
+        let rows = [between, sync(Then::Prints(synced)), COUNT];
+        assert!(rt; goes_on_behind_a_lost_reply(rt.alloc(), &rows)?, "{synced}");
     }
     Ok(())
 }
@@ -74,42 +87,50 @@ fn fate_of(number: u8, lost: u8, fate: Fate) -> Fate {
     if number == lost { fate } else { Fate::Deliver }
 }
 
-// Another machine has added a version, so a sync asks for it, asks again, and sends: each of the three exchanges is lost, before
-// it acts and after it.
-#[test]
-fn machines_agree_once_a_sync_ends_whatever_was_lost(rt: HostRuntime) -> Result<(), Fail> {
-    let rows = [
+// Whether the machines agree in the end, where one exchange of the first sync is lost.
+fn agree_without(alloc: Global, lost: u8, fate: Fate) -> Result<bool, Fail> {
+    let exchanges = [
+        ([NOTHING].as_slice(), fate_of(0, lost, fate)),
+        (&[], fate_of(1, lost, fate)),
+        (&[], fate_of(2, lost, fate)),
+    ];
+    let mut world = World::new(alloc, &exchanges)?;
+    world.follow(&[
         ADD,
         sync(Then::LinkFault),
         sync(Then::Done),
         (On::Lap, SECOND, "sync", Then::Done),
         COUNT,
-    ];
+    ])?;
+    world.agrees(SECOND)
+}
+
+// Another machine has added a version, so a sync asks for it, asks again, and sends: each of the three exchanges is lost, before
+// it acts and after it.
+#[test]
+fn machines_agree_once_a_sync_ends_whatever_was_lost(rt: HostRuntime) -> Result<(), Fail> {
     for lost in 0..3 {
         for fate in [Fate::LoseRequest, Fate::LoseReply] {
-            let exchanges = [
-                ([NOTHING].as_slice(), fate_of(0, lost, fate)),
-                (&[], fate_of(1, lost, fate)),
-                (&[], fate_of(2, lost, fate)),
-            ];
-            let mut world = World::new(rt.alloc(), &exchanges)?;
-            world.follow(&rt, &rows)?;
-            assert!(rt; world.agrees(SECOND)?, "{lost}");
+            assert!(rt; agree_without(rt.alloc(), lost, fate)?, "{lost}");
         }
     }
     Ok(())
 }
 
-#[test]
-fn a_version_that_is_no_segment_is_named_and_leaves_all(rt: HostRuntime) -> Result<(), Fail> {
-    let alloc = rt.alloc();
+// Whether a sync names a version that is no segment, and leaves the desk as it was.
+fn is_bad_segment(alloc: Global) -> Result<bool, Fail> {
     let mut world = World::new(alloc, &[(&[BAD], Fate::Deliver)])?;
-    world.follow(&rt, &[ADD])?;
+    world.follow(&[ADD])?;
     let added = world.desk.bytes().to_vec(alloc)?;
     let ended = world.run(On::Desk, SECOND, "sync")?;
     let version = world.link.latest();
-    assert!(rt; ended.is(5, &Cause::BadSegment { version }));
-    assert!(rt; world.desk.bytes() == added.as_slice());
+    let is_told = ended.is(5, &Cause::BadSegment { version });
+    Ok(is_told && world.desk.bytes() == added.as_slice())
+}
+
+#[test]
+fn a_version_that_is_no_segment_is_named_and_leaves_all(rt: HostRuntime) -> Result<(), Fail> {
+    assert!(rt; is_bad_segment(rt.alloc())?);
     Ok(())
 }
 
@@ -126,18 +147,24 @@ fn conflicting(alloc: Global, conflicts: u8) -> Result<World, Fail> {
     World::new(alloc, &exchanges)
 }
 
+fn are_fifteen_pulled(alloc: Global) -> Result<bool, Fail> {
+    let synced = Then::Prints("Synced: 15 pulled, 0 dropped, 5 pushed.\n");
+    let mut world = conflicting(alloc, 15)?;
+    world.follow(&[ADD, sync(synced)])?;
+    Ok(world.link.exchanges() == 47)
+}
+
+fn is_busy_at_the_sixteenth(alloc: Global) -> Result<bool, Fail> {
+    let mut world = conflicting(alloc, 16)?;
+    world.follow(&[ADD])?;
+    let ended = world.run(On::Desk, SECOND, "sync")?;
+    let parent = world.link.latest();
+    Ok(ended.is(5, &Cause::Busy { parent }) && world.link.versions() == 16)
+}
+
 #[test]
 fn sixteen_versions_of_others_are_one_too_many(rt: HostRuntime) -> Result<(), Fail> {
-    let alloc = rt.alloc();
-    let mut fifteen = conflicting(alloc, 15)?;
-    let synced = Then::Prints("Synced: 15 pulled, 0 dropped, 5 pushed.\n");
-    fifteen.follow(&rt, &[ADD, sync(synced)])?;
-    assert_eq!(rt; fifteen.link.exchanges(), 47);
-    let mut sixteen = conflicting(alloc, 16)?;
-    sixteen.follow(&rt, &[ADD])?;
-    let ended = sixteen.run(On::Desk, SECOND, "sync")?;
-    let parent = sixteen.link.latest();
-    assert!(rt; ended.is(5, &Cause::Busy { parent }));
-    assert_eq!(rt; sixteen.link.versions(), 16);
+    assert!(rt; are_fifteen_pulled(rt.alloc())?);
+    assert!(rt; is_busy_at_the_sixteenth(rt.alloc())?);
     Ok(())
 }

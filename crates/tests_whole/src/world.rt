@@ -2,7 +2,6 @@
 
 use crate::machine::{Ended, Exchange, Given, has_property, link_over, machine, run_given};
 use std::alloc::Global;
-use std::process::Abort;
 use std::test::Fail;
 use tw_cli::Cause;
 use tw_server::MemoryLink;
@@ -48,12 +47,23 @@ impl Then {
 pub type Row = (On, u64, &'static str, Then);
 
 /// Two machines and the link to their server. Each run draws identifiers from 1 on.
-#[derive(Drop)]
 pub struct World {
-    alloc: Global,
+    pub alloc: Global,
     pub desk: MemoryDisk,
     pub lap: MemoryDisk,
     pub link: MemoryLink,
+}
+
+// It is written out, so that a caller does not prove again how each part is dropped.
+impl Drop for World {
+    fn drop(self) {
+        let World {
+            alloc: _,
+            desk: _,
+            lap: _,
+            link: _,
+        } = self;
+    }
 }
 
 impl World {
@@ -81,13 +91,28 @@ impl World {
         }
     }
 
-    /// Runs lines one after another, and compares how each ends.
-    pub fn follow(&mut self, rt: &impl Abort, rows: &[Row]) -> Result<(), Fail> {
+    /// Runs lines one after another, and fails with the first one that ends otherwise.
+    pub fn follow(&mut self, rows: &[Row]) -> Result<(), Fail> {
         for (on, second, line, then) in rows {
-            let ended = self.run(*on, *second, line)?;
-            assert!(rt; then.is_met(&ended), "{line} at {second}");
+            if !self.ends(*on, *second, line, *then)? {
+                return Err(Fail::new(line));
+            }
         }
         Ok(())
+    }
+
+    /// Runs some tables of lines one after another.
+    pub fn follow_all(&mut self, tables: &[&[Row]]) -> Result<(), Fail> {
+        for rows in tables {
+            self.follow(rows)?;
+        }
+        Ok(())
+    }
+
+    // Runs a line, and compares how it ends.
+    fn ends(&mut self, on: On, second: u64, line: &str, then: Then) -> Result<bool, Fail> {
+        let ended = self.run(on, second, line)?;
+        Ok(then.is_met(&ended))
     }
 
     /// Whether both machines print one export.

@@ -9,7 +9,6 @@ use tw_journal::JournalError;
 use tw_world::{Memory, Text};
 
 /// How a command of `timew` ended.
-#[derive(Debug, Drop)]
 pub enum Cause {
     /// It was carried out and printed.
     Done,
@@ -48,8 +47,39 @@ pub enum Cause {
     OutFault,
 }
 
+// It is written out, so that a caller does not prove again how each part is dropped.
+impl Drop for Cause {
+    fn drop(self) {
+        match self {
+            Cause::Done => {}
+            Cause::NotTracking => {}
+            Cause::NothingToUndo => {}
+            Cause::Edited { file: _file } => {}
+            Cause::BadWords {
+                word: _word,
+                kind: _kind,
+            } => {}
+            Cause::NoInterval { id: _id } => {}
+            Cause::NoOpen => {}
+            Cause::AlreadyOpen { id: _id } => {}
+            Cause::Range { word: _word } => {}
+            Cause::Overlap { id: _id } => {}
+            Cause::BadLine {
+                file: _file,
+                line: _line,
+            } => {}
+            Cause::DiskFault => {}
+            Cause::RecordTooLong { bytes: _bytes } => {}
+            Cause::Damaged { offset: _offset } => {}
+            Cause::FolderFault => {}
+            Cause::Memory => {}
+            Cause::OutFault => {}
+        }
+    }
+}
+
 /// How a command ended, with the status of the program.
-#[derive(Debug, Drop)]
+#[derive(Drop)]
 pub struct Outcome {
     pub status: u8,
     pub cause: Cause,

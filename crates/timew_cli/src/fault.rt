@@ -1,8 +1,9 @@
 // What is told of a command that did not end well.
-ghost use Rattle.std.specs.Prelude.{◌≡◌, ◌++◌, OnOk, OnErr};
+ghost use Rattle.std.specs.Prelude.{◌≡◌, ◌≤◌, ◌+◌, ◌++◌, codes, length, OnOk, OnErr};
 ghost use Rattle.tw_world.specs.Disk.{Rose};
 ghost use Rattle.tw_world.specs.Sink.{Got, GotPart, SinkKept};
 ghost use Rattle.timew_cli.specs.Fault.{GotLine, Told};
+ghost use Rattle.timew_cli.specs.Text.{numbered};
 
 use crate::cause::Cause;
 use crate::text::numbered;
@@ -36,6 +37,23 @@ fn put_named<E: Sink>(err: &mut E, front: &str, name: &str, back: &str)
     put(err, back);
 }
 
+// A number between two texts.
+fn put_numbered<E: Sink>(err: &mut E, front: &str, number: u64, back: &str)
+    requires { length front.now + length back.now ≤ 80 }
+    ensures { GotLine E.model err.old err.new (numbered front.now number back.now) }
+{
+    let line = numbered(front, number, back);
+    put(err, line.as_str());
+}
+
+// A line of a month file that is no interval.
+fn put_bad_line<E: Sink>(err: &mut E, file: &str, line: u64)
+    ensures { GotLine E.model err.old err.new (numbered (codes "timew: line ") line (codes " of ") ++ (file.now ++ codes " is no interval\n")) }
+{
+    let front = numbered("timew: line ", line, " of ");
+    put_named(err, front.as_str(), file, " is no interval\n")
+}
+
 /// Tells of a command that did not end well. A sink that fails changes nothing else.
 pub(crate) fn tell<E: Sink>(err: &mut E, cause: &Cause)
     ensures { Told E.model err.old err.new cause.now }
@@ -45,36 +63,19 @@ pub(crate) fn tell<E: Sink>(err: &mut E, cause: &Cause)
         Cause::NotTracking => put(err, "timew: no active tracking\n"),
         Cause::NothingToUndo => put(err, "timew: nothing to undo\n"),
         Cause::Edited { file } => put_named(err, "timew: ", file.as_str(), " was edited\n"),
-        Cause::BadWords { word, .. } => put(
-            err,
-            numbered("timew: bad word ", *word, "\n").as_str(),
-        ),
-        Cause::Range { word } => put(err, numbered("timew: bad word ", *word, "\n").as_str()),
-        Cause::NoInterval { id } => put(err, numbered("timew: no interval @", *id, "\n").as_str()),
+        Cause::BadWords { word, .. } => put_numbered(err, "timew: bad word ", *word, "\n"),
+        Cause::Range { word } => put_numbered(err, "timew: bad word ", *word, "\n"),
+        Cause::NoInterval { id } => put_numbered(err, "timew: no interval @", *id, "\n"),
         Cause::NoOpen => put(err, "timew: no interval is open\n"),
-        Cause::AlreadyOpen { id } => {
-            put(
-                err,
-                numbered("timew: @", *id, " is already open\n").as_str(),
-            )
-        }
-        Cause::Overlap { id } => put(err, numbered("timew: overlaps @", *id, "\n").as_str()),
-        Cause::BadLine { file, line } => {
-            let front = numbered("timew: line ", *line, " of ");
-            put_named(err, front.as_str(), file.as_str(), " is no interval\n")
-        }
+        Cause::AlreadyOpen { id } => put_numbered(err, "timew: @", *id, " is already open\n"),
+        Cause::Overlap { id } => put_numbered(err, "timew: overlaps @", *id, "\n"),
+        Cause::BadLine { file, line } => put_bad_line(err, file.as_str(), *line),
         Cause::DiskFault => put(err, "timew: the journal failed\n"),
         Cause::RecordTooLong { bytes } => {
-            put(
-                err,
-                numbered("timew: record of ", *bytes, " bytes is too long\n").as_str(),
-            )
+            put_numbered(err, "timew: record of ", *bytes, " bytes is too long\n")
         }
         Cause::Damaged { offset } => {
-            put(
-                err,
-                numbered("timew: the journal is damaged at ", *offset, "\n").as_str(),
-            )
+            put_numbered(err, "timew: the journal is damaged at ", *offset, "\n")
         }
         Cause::FolderFault => put(err, "timew: the folder failed\n"),
         Cause::Memory => put(err, "timew: out of memory\n"),

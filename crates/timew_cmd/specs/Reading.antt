@@ -123,6 +123,12 @@ tagging_in words = do
   tags ← some_tags (drop (leading_ids words) words)
   Ok (ids, tags)
 
+abbrev pub tag_in : Words → Result Command BadWord
+tag_in words = tagging_in words >>= λ t. Ok (Tag t.0 t.1)
+
+abbrev pub untag_in : Words → Result Command BadWord
+untag_in words = tagging_in words >>= λ t. Ok (Untag t.0 t.1)
+
 abbrev pub annotation_of : (id : Option ℕ) → Words → Result Command BadWord
 annotation_of id [] = missing
 annotation_of id (w ∷ words) = Ok (Annotate id (spaced (cell_text w.1) words))
@@ -134,6 +140,12 @@ annotate_by (Some id) w words = annotation_of (Some id) words
 abbrev pub annotate_in : Words → Result Command BadWord
 annotate_in [] = missing
 annotate_in (w ∷ words) = annotate_by (id_of w.1) w words
+
+abbrev pub delete_in : Words → Result Command BadWord
+delete_in words = some_ids words >>= λ ids. Ok (Delete ids)
+
+abbrev pub split_in : Words → Result Command BadWord
+split_in words = some_ids words >>= λ ids. Ok (Split ids)
 
 abbrev pub join_with : Bool → (first : ℕ) → Words → Result Command BadWord
 join_with adjust first [] = missing
@@ -151,6 +163,18 @@ abbrev pub move_in : Bool → (now : ℕ) → TimeZone → Words → Result Comm
 move_in adjust now zone [] = missing
 move_in adjust now zone (w ∷ words) = id_in w >>= λ id. move_to adjust now zone id words
 
+abbrev pub lengthen_in : Bool → Words → Result Command BadWord
+lengthen_in adjust words = resize_in words >>= λ r. Ok (Lengthen r.id r.word r.length adjust)
+
+abbrev pub shorten_in : Bool → Words → Result Command BadWord
+shorten_in adjust words = resize_in words >>= λ r. Ok (Shorten r.id r.word r.length adjust)
+
+abbrev pub export_in : (now : ℕ) → TimeZone → Words → Result Command BadWord
+export_in now zone words = range_in All now zone words >>= λ range. Ok (Export range)
+
+abbrev pub summary_in : (now : ℕ) → TimeZone → Words → Result Command BadWord
+summary_in now zone words = range_in Day now zone words >>= λ range. Ok (Summary range)
+
 -- the command of a name and the words behind it
 abbrev pub command_by : Name → Bool → (now : ℕ) → TimeZone → Words → Result Command BadWord
 command_by name.Start adjust now zone words = start_in adjust now zone words
@@ -158,18 +182,18 @@ command_by name.Stop adjust now zone words = stop_in now zone words
 command_by name.Cancel adjust now zone words = ended Cancel words
 command_by name.Continue adjust now zone words = continue_in adjust words
 command_by name.Track adjust now zone words = track_in adjust now zone words
-command_by name.Tag adjust now zone words = tagging_in words >>= λ t. Ok (Tag t.0 t.1)
-command_by name.Untag adjust now zone words = tagging_in words >>= λ t. Ok (Untag t.0 t.1)
+command_by name.Tag adjust now zone words = tag_in words
+command_by name.Untag adjust now zone words = untag_in words
 command_by name.Annotate adjust now zone words = annotate_in words
-command_by name.Delete adjust now zone words = some_ids words >>= λ ids. Ok (Delete ids)
-command_by name.Split adjust now zone words = some_ids words >>= λ ids. Ok (Split ids)
+command_by name.Delete adjust now zone words = delete_in words
+command_by name.Split adjust now zone words = split_in words
 command_by name.Join adjust now zone words = join_in adjust words
 command_by name.Move adjust now zone words = move_in adjust now zone words
-command_by name.Lengthen adjust now zone words = resize_in words >>= λ r. Ok (Lengthen r.id r.word r.length adjust)
-command_by name.Shorten adjust now zone words = resize_in words >>= λ r. Ok (Shorten r.id r.word r.length adjust)
+command_by name.Lengthen adjust now zone words = lengthen_in adjust words
+command_by name.Shorten adjust now zone words = shorten_in adjust words
 command_by name.Undo adjust now zone words = ended Undo words
-command_by name.Export adjust now zone words = range_in All now zone words >>= λ range. Ok (Export range)
-command_by name.Summary adjust now zone words = range_in Day now zone words >>= λ range. Ok (Summary range)
+command_by name.Export adjust now zone words = export_in now zone words
+command_by name.Summary adjust now zone words = summary_in now zone words
 
 abbrev pub command_named : Option Name → (now : ℕ) → TimeZone → Words → Result Command BadWord
 command_named None now zone words = refused 0 Value

@@ -17,7 +17,6 @@ pub enum Range {
 /// A command with its parts, as timew(1) has them. Moments are seconds since 1970; an id counts from the last interval,
 /// from 1, as the intervals stand before the command; a `word` is the number of the word that a refusal names.
 /// With `adjust` the other intervals make room for the one that is placed.
-#[derive(Drop)]
 pub enum Command {
     /// What is tracked now.
     Show,
@@ -104,4 +103,75 @@ pub enum Command {
     Export(Range),
     /// The intervals as a table.
     Summary(Range),
+}
+
+// It is written out, so that a caller does not prove again how each part is dropped.
+impl Drop for Command {
+    fn drop(self) {
+        match self {
+            Command::Show => {}
+            Command::Start {
+                word: _word,
+                moment: _moment,
+                tags: _tags,
+                adjust: _adjust,
+            } => {}
+            Command::Stop {
+                word: _word,
+                moment: _moment,
+            } => {}
+            Command::Cancel => {}
+            Command::Continue {
+                id: _id,
+                adjust: _adjust,
+            } => {}
+            Command::Track {
+                word: _word,
+                start: _start,
+                end: _end,
+                tags: _tags,
+                adjust: _adjust,
+            } => {}
+            Command::Tag {
+                ids: _ids,
+                tags: _tags,
+            } => {}
+            Command::Untag {
+                ids: _ids,
+                tags: _tags,
+            } => {}
+            Command::Annotate {
+                id: _id,
+                text: _text,
+            } => {}
+            Command::Delete { ids: _ids } => {}
+            Command::Split { ids: _ids } => {}
+            Command::Join {
+                first: _first,
+                second: _second,
+                adjust: _adjust,
+            } => {}
+            Command::Move {
+                id: _id,
+                word: _word,
+                start: _start,
+                adjust: _adjust,
+            } => {}
+            Command::Lengthen {
+                id: _id,
+                word: _word,
+                length: _length,
+                adjust: _adjust,
+            } => {}
+            Command::Shorten {
+                id: _id,
+                word: _word,
+                length: _length,
+                adjust: _adjust,
+            } => {}
+            Command::Undo => {}
+            Command::Export(_a) => {}
+            Command::Summary(_a) => {}
+        }
+    }
 }

@@ -2,16 +2,17 @@
 ghost use Rattle.std.specs.Prelude.{◌≡◌, ◌<◌, IfOk};
 ghost use Rattle.tw_time.specs.Civil.{limit};
 ghost use Rattle.timew_cmd.specs.Given.{IsGiven, AreTags};
-ghost use Rattle.timew_cmd.specs.Parts.{words_of};
-ghost use Rattle.timew_cmd.specs.Reading.{Gives, start_in, stop_in, continue_in, track_in, tagging_in, annotation_of, annotate_in, join_in, move_in};
+ghost use Rattle.timew_cmd.specs.Parts.{words_of, ended};
+ghost use Rattle.timew_cmd.specs.Reading.{Gives, start_in, stop_in, continue_in, track_in, tagging_in, annotation_of, annotate_in, join_in, move_in, tag_in, untag_in, delete_in, split_in, lengthen_in, shorten_in, export_in, summary_in};
 
-use crate::command::Command;
+use crate::command::{Command, Range};
 use crate::error::{BadWord, WordKind, WordsError};
 use crate::ids::Ids;
 use crate::parts::{
-    MISSING, ended, id_in, id_of, ids_in, leading_ids, moment_in, some_tags, spaced, tags_in,
+    MISSING, ended, id_in, id_of, ids_in, leading_ids, moment_in, some_ids, some_tags, spaced,
+    tags_in,
 };
-use crate::stretch::span_in;
+use crate::stretch::{range_in, resize_in, span_in};
 use crate::word::Word;
 use std::alloc::Global;
 use timew_store::Texts;
@@ -195,4 +196,99 @@ pub fn move_in(adjust: bool, words: &[Word], now: u64, zone: &Zone) -> Result<Co
         },
         words,
     )
+}
+
+/// What a part says of a command, as what the words say of it.
+pub fn as_words(part: Result<Command, BadWord>) -> Result<Command, WordsError>
+    requires { IfOk part IsGiven }
+    ensures value { Gives (λ command. command) result part }
+    ensures given { IfOk result IsGiven }
+{
+    match part {
+        Ok(command) => Ok(command),
+        Err(bad) => Err(WordsError::Bad(bad)),
+    }
+}
+
+/// A command of one word.
+pub fn alone(command: Command, words: &[Word]) -> Result<Command, WordsError>
+    requires { IsGiven command }
+    ensures value { Gives (λ command. command) result (ended command (words_of words.now)) }
+    ensures given { IfOk result IsGiven }
+{
+    as_words(ended(command, words))
+}
+
+pub fn tag_in(alloc: Global, words: &[Word]) -> Result<Command, WordsError>
+    ensures value { Gives (λ command. command) result (tag_in (words_of words.now)) }
+    ensures given { IfOk result IsGiven }
+{
+    let (ids, tags) = tagging_in(alloc, words)?;
+    Ok(Command::Tag { ids, tags })
+}
+
+pub fn untag_in(alloc: Global, words: &[Word]) -> Result<Command, WordsError>
+    ensures value { Gives (λ command. command) result (untag_in (words_of words.now)) }
+    ensures given { IfOk result IsGiven }
+{
+    let (ids, tags) = tagging_in(alloc, words)?;
+    Ok(Command::Untag { ids, tags })
+}
+
+pub fn delete_in(alloc: Global, words: &[Word]) -> Result<Command, WordsError>
+    ensures value { Gives (λ command. command) result (delete_in (words_of words.now)) }
+    ensures given { IfOk result IsGiven }
+{
+    let ids = some_ids(alloc, words)?;
+    Ok(Command::Delete { ids })
+}
+
+pub fn split_in(alloc: Global, words: &[Word]) -> Result<Command, WordsError>
+    ensures value { Gives (λ command. command) result (split_in (words_of words.now)) }
+    ensures given { IfOk result IsGiven }
+{
+    let ids = some_ids(alloc, words)?;
+    Ok(Command::Split { ids })
+}
+
+pub fn lengthen_in(adjust: bool, words: &[Word]) -> Result<Command, BadWord>
+    ensures value { result ≡ lengthen_in adjust (words_of words.now) }
+    ensures given { IfOk result IsGiven }
+{
+    let resize = resize_in(words)?;
+    Ok(Command::Lengthen {
+        id: resize.id,
+        word: resize.word,
+        length: resize.length,
+        adjust,
+    })
+}
+
+pub fn shorten_in(adjust: bool, words: &[Word]) -> Result<Command, BadWord>
+    ensures value { result ≡ shorten_in adjust (words_of words.now) }
+    ensures given { IfOk result IsGiven }
+{
+    let resize = resize_in(words)?;
+    Ok(Command::Shorten {
+        id: resize.id,
+        word: resize.word,
+        length: resize.length,
+        adjust,
+    })
+}
+
+pub fn export_in(words: &[Word], now: u64, zone: &Zone) -> Result<Command, BadWord>
+    requires { now < limit }
+    ensures value { result ≡ export_in now zone.now (words_of words.now) }
+    ensures given { IfOk result IsGiven }
+{
+    Ok(Command::Export(range_in(Range::All, words, now, zone)?))
+}
+
+pub fn summary_in(words: &[Word], now: u64, zone: &Zone) -> Result<Command, BadWord>
+    requires { now < limit }
+    ensures value { result ≡ summary_in now zone.now (words_of words.now) }
+    ensures given { IfOk result IsGiven }
+{
+    Ok(Command::Summary(range_in(Range::Day, words, now, zone)?))
 }

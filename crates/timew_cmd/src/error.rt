@@ -3,7 +3,7 @@ use std::alloc::{AllocError, AllocFailed};
 use tw_world::Memory;
 
 /// Which part of a command a word fails to be.
-#[derive(Clone, Copy, Debug, PartialEq, Eq, Drop)]
+#[derive(Clone, Copy, PartialEq, Eq, Drop)]
 pub enum WordKind {
     /// It has no meaning there.
     Value,
@@ -16,14 +16,14 @@ pub enum WordKind {
 }
 
 /// A word that is wrong, by its number.
-#[derive(Clone, Copy, Debug, PartialEq, Eq, Drop)]
+#[derive(Clone, Copy, PartialEq, Eq, Drop)]
 pub struct BadWord {
     pub word: u64,
     pub kind: WordKind,
 }
 
 /// Why a command is refused. Nothing has changed then.
-#[derive(Clone, Copy, Debug, PartialEq, Eq, Drop)]
+#[derive(Clone, Copy, PartialEq, Eq, Drop)]
 pub enum TimewError {
     /// The interval that is placed overlaps others, of which this has the least id.
     Overlap { id: u64 },
@@ -51,7 +51,7 @@ impl From<Memory> for TimewError {
 }
 
 /// Why words give no command.
-#[derive(Clone, Copy, Debug, PartialEq, Eq, Drop)]
+#[derive(Clone, Copy, PartialEq, Eq, Drop)]
 pub enum WordsError {
     /// This word is the first that is wrong.
     Bad(BadWord),

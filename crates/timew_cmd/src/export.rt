@@ -1,9 +1,12 @@
 // The JSON of intervals.
-ghost use Rattle.std.specs.Prelude.{◌≡◌, ◌<◌, ◌++◌, ◌∷◌, [], cond, codes, IfSome, IfOk, OnOk, map};
-ghost use Rattle.json.specs.Token.{string};
+ghost use Rattle.std.specs.Prelude.{◌≡◌, ◌<◌, ◌++◌, ◌∷◌, [], cond, codes, IfSome, IfOk, OnOk, map, filter};
+ghost use Rattle.std.specs.Fmt.{decimal};
+ghost use Rattle.json.specs.Token.{key, number, string};
 ghost use Rattle.tw_time.specs.Basic.{basic};
-ghost use Rattle.timew_store.specs.Interval.{limit, IsRow};
-ghost use Rattle.timew_cmd.specs.Exported.{annotation_tokens, end_tokens, tags_tokens, row_text, export};
+ghost use Rattle.timew_store.specs.Interval.{limit, AreRows, IsRow};
+ghost use Rattle.timew_cmd.specs.Exported.{annotation_tokens, end_tokens, tags_tokens, row_tokens, row_text, lines, export};
+ghost use Rattle.timew_cmd.specs.Planned.{numbered};
+ghost use Rattle.timew_cmd.specs.Ranges.{is_within};
 
 use crate::range::is_within;
 use json::Writer;
@@ -25,23 +28,38 @@ pub fn export_text(
 ) -> Result<Vec<u8>, Memory>
     ensures { IfOk result (λ text. text.items ≡ export rows.now from to now) }
 {
-    let rows = rows.as_slice();
     let mut text = Vec::new(alloc);
     text.extend_from_slice(b"[\n")?;
+    put_rows(alloc, &mut text, rows.as_slice(), from, to, now)?;
+    text.extend_from_slice(b"]\n")?;
+    Ok(text)
+}
+
+// Puts the objects of the intervals in a range behind a text, each on a line of its own.
+fn put_rows(
+    alloc: Global,
+    text: &mut Vec<u8>,
+    rows: &[Interval],
+    from: u64,
+    to: u64,
+    now: u64,
+) -> Result<(), Memory>
+    requires { AreRows rows.now }
+    ensures { OnOk result (text.new.items ≡ text.old.items ++ lines (map row_text (filter (λ r. is_within from to now r.1) (numbered rows.now)))) }
+{
     let mut object = Vec::new(alloc);
     let mut is_first = true;
     for (k, row) in rows.iter().enumerate() {
         if is_within(from, to, now, row) {
             object = object_of(object, (rows.len() - k) as u64, row)?;
-            put_object(&mut text, is_first, &object)?;
+            put_object(text, is_first, &object)?;
             is_first = false;
         }
     }
     if !is_first {
         text.push(b'\n')?;
     }
-    text.extend_from_slice(b"]\n")?;
-    Ok(text)
+    Ok(())
 }
 
 // Puts an object behind a text, parted from the one before.
@@ -64,16 +82,43 @@ fn object_of(before: Vec<u8>, id: u64, row: &Interval) -> Result<Vec<u8>, Memory
     let mut room = before;
     room.clear();
     let mut writer = Writer::new(room);
+    match put_row(&mut writer, id, row) {
+        Ok(()) => Ok(writer.into_inner()),
+        Err(error) => Err(error),
+    }
+}
+
+fn put_row(writer: &mut Writer, id: u64, row: &Interval) -> Result<(), Memory>
+    requires { IsRow row.now }
+    ensures written { OnOk result (writer.new.tokens ≡ writer.old.tokens ++ row_tokens (id, row.now)) }
+    ensures before { writer.new.before ≡ writer.old.before }
+{
     writer.begin_object()?;
-    put_annotation(&mut writer, row.annotation.as_str())?;
-    put_end(&mut writer, row.end)?;
+    put_annotation(writer, row.annotation.as_str())?;
+    put_end(writer, row.end)?;
+    put_number(writer, id)?;
+    put_start(writer, row.start)?;
+    put_tags(writer, &row.tags)?;
+    writer.end_object()?;
+    Ok(())
+}
+
+fn put_number(writer: &mut Writer, id: u64) -> Result<(), Memory>
+    ensures written { OnOk result (writer.new.tokens ≡ writer.old.tokens ++ key (codes "id") ∷ number (decimal id) ∷ []) }
+    ensures before { writer.new.before ≡ writer.old.before }
+{
     writer.key("id")?;
     writer.u64(id)?;
+    Ok(())
+}
+
+fn put_start(writer: &mut Writer, at: u64) -> Result<(), Memory>
+    requires { at < limit }
+    ensures written { OnOk result (writer.new.tokens ≡ writer.old.tokens ++ key (codes "start") ∷ string (basic at) ∷ []) }
+    ensures before { writer.new.before ≡ writer.old.before }
+{
     writer.key("start")?;
-    put_moment(&mut writer, row.start)?;
-    put_tags(&mut writer, &row.tags)?;
-    writer.end_object()?;
-    Ok(writer.into_inner())
+    put_moment(writer, at)
 }
 
 fn put_annotation(writer: &mut Writer, text: &str) -> Result<(), Memory>

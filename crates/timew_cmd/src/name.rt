@@ -6,7 +6,7 @@ ghost use Rattle.timew_cmd.specs.Reading.{names, places};
 use tw_time::look_up;
 
 /// A command of timew(1), by its name.
-#[derive(Clone, Copy, Debug, PartialEq, Eq)]
+#[derive(Clone, Copy)]
 pub enum Name {
     Start,
     Stop,

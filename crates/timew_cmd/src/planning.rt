@@ -1,7 +1,9 @@
 // The intervals after a command.
-ghost use Rattle.std.specs.Prelude.{◌<◌, ◌≤◌, ◌+◌, length, Ok, IfOk};
+ghost use Rattle.std.specs.Prelude.{◌<◌, ◌≤◌, ◌+◌, List, Result, length, IfOk};
+ghost use Rattle.timew_store.specs.declared.interval.Interval.{Interval};
 ghost use Rattle.timew_store.specs.Edit.{edited, IsEditOf};
 ghost use Rattle.timew_store.specs.Interval.{AreRows};
+ghost use Rattle.timew_cmd.specs.declared.error.TimewError.{TimewError};
 ghost use Rattle.timew_cmd.specs.Given.{IsGiven};
 ghost use Rattle.timew_cmd.specs.Planned.{Answers, planned};
 
@@ -60,34 +62,34 @@ fn plan_rows(
             tags,
             adjust,
         } => track(alloc, *word, *start, *end, tags, *adjust, rows),
-        Command::Tag { ids, tags } => whole(rows, tag(alloc, ids.as_slice(), tags, rows)?),
-        Command::Untag { ids, tags } => whole(rows, untag(alloc, ids.as_slice(), tags, rows)?),
-        Command::Annotate { id, text } => whole(rows, annotate(alloc, *id, text, rows)?),
-        Command::Delete { ids } => whole(rows, delete(alloc, ids.as_slice(), rows)?),
-        Command::Split { ids } => whole(rows, split(alloc, ids.as_slice(), rows, now)?),
+        Command::Tag { ids, tags } => whole(rows, tag(alloc, ids.as_slice(), tags, rows)),
+        Command::Untag { ids, tags } => whole(rows, untag(alloc, ids.as_slice(), tags, rows)),
+        Command::Annotate { id, text } => whole(rows, annotate(alloc, *id, text, rows)),
+        Command::Delete { ids } => whole(rows, delete(alloc, ids.as_slice(), rows)),
+        Command::Split { ids } => whole(rows, split(alloc, ids.as_slice(), rows, now)),
         Command::Join {
             first,
             second,
             adjust,
-        } => whole(rows, join(alloc, *first, *second, *adjust, rows)?),
+        } => whole(rows, join(alloc, *first, *second, *adjust, rows)),
         Command::Move {
             id,
             word,
             start,
             adjust,
-        } => whole(rows, move_to(alloc, *id, *word, *start, *adjust, rows)?),
+        } => whole(rows, move_to(alloc, *id, *word, *start, *adjust, rows)),
         Command::Lengthen {
             id,
             word,
             length,
             adjust,
-        } => whole(rows, lengthen(alloc, *id, *word, length, *adjust, rows)?),
+        } => whole(rows, lengthen(alloc, *id, *word, length, *adjust, rows)),
         Command::Shorten {
             id,
             word,
             length,
             adjust,
-        } => whole(rows, shorten(alloc, *id, *word, length, *adjust, rows)?),
+        } => whole(rows, shorten(alloc, *id, *word, length, *adjust, rows)),
         Command::Show | Command::Undo | Command::Export(_) | Command::Summary(_) => Ok(Edit {
             at: 0,
             count: 0,
@@ -96,10 +98,13 @@ fn plan_rows(
     }
 }
 
-// The edit that makes these rows of the ones before.
-fn whole(rows: &[Interval], next: Vec<Interval>) -> Result<Edit, TimewError>
-    ensures next { Answers (λ e. edited e rows.now) result (Ok next.items) }
+// The edit that makes the rows that were answered of the ones before.
+fn whole(rows: &[Interval], next: Result<Vec<Interval>, TimewError>) -> Result<Edit, TimewError>
+    ensures next { (planned : Result (List Interval) TimewError) → Answers (λ v. v.items) next planned → Answers (λ e. edited e rows.now) result planned }
     ensures inside { IfOk result (λ e. e.at + e.count ≤ length rows.now) }
 {
-    Ok(Edit::between(rows, next)?)
+    match next {
+        Ok(next) => Ok(Edit::between(rows, next)?),
+        Err(error) => Err(error),
+    }
 }

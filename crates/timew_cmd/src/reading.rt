@@ -5,14 +5,13 @@ ghost use Rattle.timew_cmd.specs.Given.{IsGiven};
 ghost use Rattle.timew_cmd.specs.Parts.{words_of};
 ghost use Rattle.timew_cmd.specs.Reading.{Gives, command_of, command_named, command_by};
 
-use crate::command::{Command, Range};
+use crate::command::Command;
 use crate::command_parts::{
-    annotate_in, continue_in, join_in, move_in, start_in, stop_in, tagging_in, track_in,
+    alone, annotate_in, as_words, continue_in, delete_in, export_in, join_in, lengthen_in, move_in,
+    shorten_in, split_in, start_in, stop_in, summary_in, tag_in, track_in, untag_in,
 };
 use crate::error::{BadWord, WordKind, WordsError};
 use crate::name::{Name, name_of};
-use crate::parts::{ended, some_ids};
-use crate::stretch::{range_in, resize_in};
 use crate::word::{Word, adjusts, unadjusted, words_behind};
 use std::alloc::Global;
 use tw_time::Zone;
@@ -77,47 +76,21 @@ fn command_by(
 {
     match name {
         Name::Start => start_in(alloc, adjust, words, now, zone),
-        Name::Stop => Ok(stop_in(words, now, zone)?),
-        Name::Cancel => Ok(ended(Command::Cancel, words)?),
-        Name::Continue => Ok(continue_in(adjust, words)?),
+        Name::Stop => as_words(stop_in(words, now, zone)),
+        Name::Cancel => alone(Command::Cancel, words),
+        Name::Continue => as_words(continue_in(adjust, words)),
         Name::Track => track_in(alloc, adjust, words, now, zone),
-        Name::Tag => {
-            let (ids, tags) = tagging_in(alloc, words)?;
-            Ok(Command::Tag { ids, tags })
-        }
-        Name::Untag => {
-            let (ids, tags) = tagging_in(alloc, words)?;
-            Ok(Command::Untag { ids, tags })
-        }
+        Name::Tag => tag_in(alloc, words),
+        Name::Untag => untag_in(alloc, words),
         Name::Annotate => annotate_in(alloc, words),
-        Name::Delete => Ok(Command::Delete {
-            ids: some_ids(alloc, words)?,
-        }),
-        Name::Split => Ok(Command::Split {
-            ids: some_ids(alloc, words)?,
-        }),
-        Name::Join => Ok(join_in(adjust, words)?),
-        Name::Move => Ok(move_in(adjust, words, now, zone)?),
-        Name::Lengthen => {
-            let resize = resize_in(words)?;
-            Ok(Command::Lengthen {
-                id: resize.id,
-                word: resize.word,
-                length: resize.length,
-                adjust,
-            })
-        }
-        Name::Shorten => {
-            let resize = resize_in(words)?;
-            Ok(Command::Shorten {
-                id: resize.id,
-                word: resize.word,
-                length: resize.length,
-                adjust,
-            })
-        }
-        Name::Undo => Ok(ended(Command::Undo, words)?),
-        Name::Export => Ok(Command::Export(range_in(Range::All, words, now, zone)?)),
-        Name::Summary => Ok(Command::Summary(range_in(Range::Day, words, now, zone)?)),
+        Name::Delete => delete_in(alloc, words),
+        Name::Split => split_in(alloc, words),
+        Name::Join => as_words(join_in(adjust, words)),
+        Name::Move => as_words(move_in(adjust, words, now, zone)),
+        Name::Lengthen => as_words(lengthen_in(adjust, words)),
+        Name::Shorten => as_words(shorten_in(adjust, words)),
+        Name::Undo => alone(Command::Undo, words),
+        Name::Export => as_words(export_in(words, now, zone)),
+        Name::Summary => as_words(summary_in(words, now, zone)),
     }
 }

@@ -1,5 +1,5 @@
 // The table of intervals.
-ghost use Rattle.std.specs.Prelude.{◌≡◌, ◌<◌, ◌++◌, true, map, filter, codes, IfOk};
+ghost use Rattle.std.specs.Prelude.{◌≡◌, ◌<◌, ◌++◌, ◌∷◌, [], true, map, filter, codes, IfOk, OnOk};
 ghost use Rattle.tw_table.specs.Table.{row_texts, table};
 ghost use Rattle.timew_store.specs.Interval.{limit, AreRows, IsRow};
 ghost use Rattle.timew_cmd.specs.Planned.{numbered};
@@ -113,10 +113,23 @@ fn cells(
     ensures { IfOk result (λ line. row_texts line ≡ cells from to now zone.now (id, row.now)) }
 {
     let mut line = Vec::with_capacity(alloc, 5)?;
-    line.push(format!(in alloc; "{id}")?)?;
-    line.push(shown_text(alloc, row.start.max(from), zone)?)?;
-    line.push(shown_text(alloc, measured(now, row).min(to), zone)?)?;
-    line.push(length_text(alloc, seconds_within(from, to, now, row))?)?;
-    line.push(tags_text(alloc, &row.tags)?)?;
+    add(&mut line, format!(in alloc; "{id}")?)?;
+    add(&mut line, shown_text(alloc, row.start.max(from), zone)?)?;
+    add(
+        &mut line,
+        shown_text(alloc, measured(now, row).min(to), zone)?,
+    )?;
+    add(
+        &mut line,
+        length_text(alloc, seconds_within(from, to, now, row))?,
+    )?;
+    add(&mut line, tags_text(alloc, &row.tags)?)?;
     Ok(line)
+}
+
+fn add(line: &mut Vec<String>, text: String) -> Result<(), Memory>
+    ensures { OnOk result (line.new.items ≡ line.old.items ++ text ∷ []) }
+{
+    line.push(text)?;
+    Ok(())
 }

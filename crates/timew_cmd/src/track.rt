@@ -2,7 +2,7 @@
 ghost use Rattle.std.specs.Prelude.{◌≡◌, ◌≤◌, ◌+◌, ◌++◌, ◌∷◌, [], Some, length, take, IfOk};
 ghost use Rattle.timew_store.specs.Edit.{edited};
 ghost use Rattle.timew_store.specs.Placing.{spanning};
-ghost use Rattle.timew_cmd.specs.Planned.{Answers, is_past, open_of, with_ended, begins_after, begun, stopped, cancelled, continued, tracked};
+ghost use Rattle.timew_cmd.specs.Planned.{Answers, is_past, open_of, open_from, with_ended, begins_after, place, begun, stopped, cancelled, continued, tracked};
 
 use crate::error::TimewError;
 use crate::kept::{open_of, place_behind, place_within, row_at};
@@ -67,15 +67,35 @@ pub fn begin(
     if begins_after(now, rows) {
         return Err(TimewError::Range { word: 0 });
     }
-    let at = moment_or(now, moment);
-    let new = Interval {
-        start: at,
-        end: None,
-        tags: tags.copy(alloc)?,
-        annotation: Text::from_str(alloc, "")?,
-    };
+    begin_at(alloc, moment_or(now, moment), tags, adjust, rows)
+}
+
+// Ends the open interval at a moment, if it has begun then, and begins one there.
+fn begin_at(
+    alloc: Global,
+    at: u64,
+    tags: &Texts,
+    adjust: bool,
+    rows: &[Interval],
+) -> Result<Edit, TimewError>
+    ensures begun { Answers (λ e. edited e rows.now) result (place adjust (open_from at tags.now) [] (with_ended at rows.now (open_of rows.now))) }
+    ensures inside { IfOk result (λ e. e.at + e.count ≤ length rows.now) }
+{
+    let new = tagged(alloc, at, None, tags)?;
     let (kept, last) = end_open(alloc, at, rows)?;
     place_behind(alloc, adjust, new, rows, kept, last)
+}
+
+// An interval with tags and no annotation.
+fn tagged(alloc: Global, start: u64, end: Option<u64>, tags: &Texts) -> Result<Interval, Memory>
+    ensures { IfOk result (λ r. r ≡ record { start = start; end = end; tags = tags.now; annotation = [] }) }
+{
+    Ok(Interval {
+        start,
+        end,
+        tags: tags.copy(alloc)?,
+        annotation: Text::from_str(alloc, "")?,
+    })
 }
 
 pub fn stop(alloc: Global, word: u64, at: u64, rows: &[Interval]) -> Result<Edit, TimewError>
@@ -141,11 +161,6 @@ pub fn track(
     if start >= end {
         return Err(TimewError::Range { word });
     }
-    let new = Interval {
-        start,
-        end: Some(end),
-        tags: tags.copy(alloc)?,
-        annotation: Text::from_str(alloc, "")?,
-    };
+    let new = tagged(alloc, start, Some(end), tags)?;
     place_within(alloc, adjust, new, rows)
 }

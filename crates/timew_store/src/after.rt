@@ -1,7 +1,7 @@
 // What month files are after a change.
 ghost use Rattle.std.specs.Prelude.{◌≡◌, IfOk};
-ghost use Rattle.timew_store.specs.Gathered.{files_of};
-ghost use Rattle.timew_store.specs.Kept.{bytes_after, names_after, files_after};
+ghost use Rattle.timew_store.specs.Gathered.{file_of, files_of};
+ghost use Rattle.timew_store.specs.Kept.{bytes_in, bytes_after, names_after, files_after};
 ghost use Rattle.timew_store.specs.Writing.{changes_of};
 
 use crate::changes::{bytes_in, names_of};
@@ -39,6 +39,21 @@ fn names_after(
     Ok(names)
 }
 
+// The file with a name after a change.
+fn file_after(
+    alloc: Global,
+    kept: &Vec<MonthFile>,
+    changes: &Vec<NewFile>,
+    name: &Text,
+) -> Result<MonthFile, Memory>
+    ensures { IfOk result (λ file. file_of file ≡ (name.now, bytes_after (changes_of changes.now.items) name.now (bytes_in (files_of kept.now.items) name.now))) }
+{
+    let before = bytes_in(kept, name);
+    let bytes = bytes_after(changes, name, before).to_vec(alloc)?;
+    let name = name.copy(alloc)?;
+    Ok(MonthFile { name, bytes })
+}
+
 /// The month files after a change, in byte order of their names.
 pub(crate) fn files_after(
     alloc: Global,
@@ -50,10 +65,7 @@ pub(crate) fn files_after(
     let names = names_after(alloc, kept, changes)?;
     let mut files = Vec::with_capacity(alloc, names.len())?;
     for name in &names {
-        let before = bytes_in(kept, name);
-        let bytes = bytes_after(changes, name, before).to_vec(alloc)?;
-        let name = name.copy(alloc)?;
-        files.push(MonthFile { name, bytes })?;
+        files.push(file_after(alloc, kept, changes, name)?)?;
     }
     Ok(files)
 }

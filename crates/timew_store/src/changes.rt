@@ -1,5 +1,5 @@
 // What becomes of the month files when intervals are to stand in them.
-ghost use Rattle.std.specs.Prelude.{◌≡◌, ◌++◌, ◌∷◌, [], ℕ, List, true, Ok, OnOk, IfOk, IfSome};
+ghost use Rattle.std.specs.Prelude.{◌≡◌, ◌++◌, ◌∷◌, [], ℕ, List, cond, true, Ok, OnOk, IfOk, IfSome};
 ghost use Rattle.std.specs.List.{AllByRecursion};
 ghost use Rattle.tw_world.specs.Folder.{Files, same_bytes, add_name};
 ghost use Rattle.timew_store.specs.Body.{AreMonths};
@@ -16,6 +16,7 @@ ghost use Rattle.timew_store.specs.Writing.{changes_of};
 use crate::edit::Edit;
 use crate::exact::after;
 use crate::files::MonthFile;
+use crate::interval::push_copy;
 use crate::kept::Months;
 use crate::tail::add_tag;
 use crate::texts::{MonthText, texts_of};
@@ -35,7 +36,7 @@ pub(crate) fn names_of(alloc: Global, files: &Vec<MonthFile>) -> Result<Vec<Text
 {
     let mut names = Vec::with_capacity(alloc, files.len())?;
     for file in files {
-        names.push(file.name.copy(alloc)?)?;
+        push_copy(alloc, &mut names, &file.name)?;
     }
     Ok(names)
 }
@@ -67,16 +68,24 @@ pub(crate) fn bytes_in<'a>(files: &'a Vec<MonthFile>, name: &Text) -> &'a [u8]
     &[]
 }
 
+// Puts a text behind others, where it is one for this name.
+fn put_text(out: &mut Vec<u8>, text: &MonthText, name: &Text) -> Result<(), Memory>
+    ensures { OnOk result (out.new.items ≡ out.old.items ++ cond (same_bytes (text_of text.now).0 name.now) (text_of text.now).1 []) }
+{
+    if text.name.as_str() == name.as_str() {
+        out.extend_from_slice(text.kept)?;
+        out.extend_from_slice(&text.new)?;
+    }
+    Ok(())
+}
+
 // The text for a name.
 fn text_in(alloc: Global, texts: &Vec<MonthText>, name: &Text) -> Result<Vec<u8>, Memory>
     ensures { IfOk result (λ bytes. bytes.items ≡ text_in (texts_of texts.now.items) name.now) }
 {
     let mut bytes = Vec::new(alloc);
     for text in texts {
-        if text.name.as_str() == name.as_str() {
-            bytes.extend_from_slice(text.kept)?;
-            bytes.extend_from_slice(&text.new)?;
-        }
+        put_text(&mut bytes, text, name)?;
     }
     Ok(bytes)
 }

@@ -2,11 +2,11 @@
 
 use crate::rows::RowsError;
 use std::alloc::AllocFailed;
-use tw_journal::{AppendError, JournalError, OpenError, ReadError};
+use tw_journal::{JournalError, OpenError, ReadError};
 use tw_world::{FolderError, Memory, Text};
 
 /// Why a folder and a journal are not used together.
-#[derive(Clone, Copy, Debug, PartialEq, Eq, Drop)]
+#[derive(Clone, Copy, Drop)]
 pub enum StoreError {
     /// The folder failed.
     Folder,
@@ -51,18 +51,6 @@ impl From<ReadError> for StoreError {
     }
 }
 
-impl From<AppendError> for StoreError {
-    ghost use Rattle.std.specs.Prelude.{◌≡◌};
-    ghost use Rattle.tw_journal.specs.Errors.{append_in_all};
-    ghost use Rattle.timew_store.specs.declared.error.StoreError.TheVariants.{Journal as OfJournal};
-
-    ghost from_gives = { λ error e. e ≡ OfJournal (append_in_all error) };
-
-    fn from(error: AppendError) -> StoreError {
-        StoreError::Journal(JournalError::from(error))
-    }
-}
-
 impl From<FolderError> for StoreError {
     ghost use Rattle.std.specs.Prelude.{◌≡◌};
     ghost use Rattle.timew_store.specs.Writing.{error_of};
@@ -89,7 +77,7 @@ impl<T: Drop> From<AllocFailed<T>> for StoreError {
 }
 
 /// Why a store is not loaded.
-#[derive(Debug, Drop)]
+#[derive(Drop)]
 pub enum LoadError {
     /// The folder failed.
     Folder,
@@ -131,7 +119,7 @@ impl From<RowsError> for LoadError {
 }
 
 /// Why a change is not taken back.
-#[derive(Debug, Drop)]
+#[derive(Drop)]
 pub enum UndoError {
     /// The folder failed. The record stands, and the next load finishes the undo.
     Folder,

@@ -72,8 +72,8 @@ pub(crate) fn tail_of(alloc: Global, bytes: &[u8]) -> Result<Option<Tail>, Memor
 {
     match bytes {
         [] => Ok(Some(Tail {
-            tags: Texts::new(alloc),
             annotation: Text::from_str(alloc, "")?,
+            tags: Texts::new(alloc),
             is_exact: true,
         })),
         [b' ', b'#', b' ', rest @ ..] => marked(alloc, rest),

@@ -7,7 +7,7 @@ use std::alloc::{AllocError, AllocFailed};
 use tw_world::Memory;
 
 /// Why a body is not read.
-#[derive(Clone, Copy, Debug, PartialEq, Eq, Drop)]
+#[derive(Clone, Copy, Drop)]
 pub enum ReadError {
     Memory,
     Malformed,

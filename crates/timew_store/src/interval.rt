@@ -108,10 +108,10 @@ impl Texts {
         let mut texts = Vec::new(alloc);
         match &self.few {
             Few::Empty => {}
-            Few::One(text) => texts.push(text.copy(alloc)?)?,
+            Few::One(text) => push_copy(alloc, &mut texts, text)?,
             Few::Two(text, other) => {
-                texts.push(text.copy(alloc)?)?;
-                texts.push(other.copy(alloc)?)?;
+                push_copy(alloc, &mut texts, text)?;
+                push_copy(alloc, &mut texts, other)?;
             }
             Few::More(more) => return copy_texts(alloc, more),
         }
@@ -236,10 +236,19 @@ fn without_all(alloc: Global, tags: &Vec<Text>, others: &Vec<Text>) -> Result<Ve
     let mut kept = Vec::new(alloc);
     for tag in tags {
         if !is_one_of(tag, others) {
-            kept.push(tag.copy(alloc)?)?;
+            push_copy(alloc, &mut kept, tag)?;
         }
     }
     Ok(kept)
+}
+
+/// Puts a copy of a text behind others.
+pub(crate) fn push_copy(alloc: Global, texts: &mut Vec<Text>, text: &Text) -> Result<(), Memory>
+    ensures { OnOk result (texts.new.items ≡ texts.old.items ++ text.now ∷ []) }
+{
+    let copy = text.copy(alloc)?;
+    texts.push(copy)?;
+    Ok(())
 }
 
 fn copy_texts(alloc: Global, texts: &Vec<Text>) -> Result<Vec<Text>, Memory>
@@ -247,7 +256,7 @@ fn copy_texts(alloc: Global, texts: &Vec<Text>) -> Result<Vec<Text>, Memory>
 {
     let mut copies = Vec::with_capacity(alloc, texts.len())?;
     for text in texts {
-        copies.push(text.copy(alloc)?)?;
+        push_copy(alloc, &mut copies, text)?;
     }
     Ok(copies)
 }

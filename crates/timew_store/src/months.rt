@@ -1,8 +1,8 @@
 // The month files of intervals.
-ghost use Rattle.std.specs.Prelude.{◌≡◌, ◌<◌, ◌≤◌, ◌≤ℤ◌, ◌++◌, pos, true, unsigned_abs, IfSome, IfOk, OnOk};
+ghost use Rattle.std.specs.Prelude.{◌≡◌, ◌<◌, ◌≤◌, ◌≤ℤ◌, ◌++◌, pos, true, unsigned_abs, IfOk, OnOk};
 ghost use Rattle.tw_time.specs.Forms.{digit_at};
 ghost use Rattle.timew_store.specs.Body.{is_month_name};
-ghost use Rattle.timew_store.specs.Interval.{AreRows};
+ghost use Rattle.timew_store.specs.Interval.{IsRow, AreRows};
 ghost use Rattle.timew_store.specs.Months.{month_name, month_text, name_of, row_text};
 
 use crate::interval::Interval;
@@ -53,8 +53,7 @@ fn name_of(year: u16, month: u8) -> [u8; 12]
 
 // Writes the line of an interval, where it starts in the month.
 fn put_row_of(out: &mut Vec<u8>, row: &Interval, name: &[u8]) -> Result<(), Memory>
-    requires start { row.now.start < 253_370_764_800 }
-    requires end { IfSome row.now.end (λ at. at < 253_370_764_800) }
+    requires { IsRow row.now }
     ensures { OnOk result (out.new.items ≡ out.old.items ++ row_text name.now row.now) }
 {
     if month_name(row.start).as_slice() == name {

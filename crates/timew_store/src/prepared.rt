@@ -31,11 +31,35 @@ pub(crate) struct Prepared {
 }
 
 /// What becomes of the month files by an edit, the body of its record, and the month files afterwards.
-#[derive(Drop)]
 pub(crate) struct PreparedEdit {
     pub changes: Vec<NewFile>,
     pub body: Vec<u8>,
     pub files: Vec<MonthFile>,
+}
+
+// It is written out, so that a caller does not prove again how each part is dropped.
+impl Drop for PreparedEdit {
+    fn drop(self) {
+        let PreparedEdit {
+            changes: _,
+            body: _,
+            files: _,
+        } = self;
+    }
+}
+
+impl PreparedEdit {
+    /// The month files alone.
+    pub fn into_files(self) -> Vec<MonthFile>
+        ensures { result ≡ self.files }
+    {
+        let PreparedEdit {
+            changes: _,
+            body: _,
+            files,
+        } = self;
+        files
+    }
 }
 
 /// Prepares that the intervals after an edit stand in the month files.

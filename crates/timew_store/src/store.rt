@@ -35,12 +35,22 @@ use tw_world::{Disk, Folder};
 ///
 /// A change stands in the journal before the files are replaced, so that loading finishes one that was cut off.
 /// After a fault of the folder or of the journal the store is to be loaded again.
-#[derive(Drop)]
 pub struct Store {
     pub(crate) journal: Journal,
     pub(crate) months: Months,
     // The months before the last undo: they go with the store, since to let them go takes time with each interval.
     before: Option<Months>,
+}
+
+// It is written out, so that a caller does not prove again how each part is dropped.
+impl Drop for Store {
+    fn drop(self) {
+        let Store {
+            journal: _,
+            months: _,
+            before: _,
+        } = self;
+    }
 }
 
 impl Store {
@@ -108,7 +118,7 @@ impl Store {
             }
         };
         if prepared.changes.len() == 0 {
-            self.months = months_after(alloc, prepared.files, rows, edit);
+            self.months = months_after(alloc, prepared.into_files(), rows, edit);
             return Ok(());
         }
         match write_change(
@@ -119,7 +129,7 @@ impl Store {
             &prepared.body,
         ) {
             Ok(()) => {
-                self.months = months_after(alloc, prepared.files, rows, edit);
+                self.months = months_after(alloc, prepared.into_files(), rows, edit);
                 Ok(())
             }
             Err(error) => {

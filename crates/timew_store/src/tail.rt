@@ -12,7 +12,7 @@ use std::cmp::Ordering;
 use tw_world::{Memory, Text};
 
 /// What a reader has come to.
-#[derive(Clone, Copy, Debug, PartialEq, Eq)]
+#[derive(Clone, Copy)]
 pub enum Mode {
     // a tag or the sign of an annotation is to come
     Ahead,

@@ -11,7 +11,7 @@ ghost use Rattle.timew_store.specs.Held.{magic, replaced, IsPartly, IsAtRest, he
 ghost use Rattle.timew_store.specs.Writing.{changes_of, AreFileNames, IsReadyFor, WriteRefused};
 
 use crate::error::StoreError;
-use tw_journal::Journal;
+use tw_journal::{Journal, JournalError};
 use tw_world::{Disk, Folder, FolderError, Text};
 
 /// What a change makes of one month file.
@@ -57,7 +57,7 @@ pub(crate) fn write_change<F: Folder, D: Disk>(
     ensures disk { tells.Kept D.model disk.old disk.new }
 {
     if let Err(error) = journal.append(disk, body) {
-        return Err(StoreError::from(error));
+        return Err(StoreError::Journal(JournalError::from(error)));
     }
     if let Err(_) = replace_all(folder, files) {
         return Err(StoreError::Folder);

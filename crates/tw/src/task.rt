@@ -10,6 +10,7 @@ use std::alloc::Global;
 use std::io::ErrorKind;
 use tw_cli::{link_address, needs_store, task_run};
 use tw_files::{Busy, Stream, StreamSource, open_disk};
+use tw_http::Link;
 use tw_time::Zone;
 use tw_world::{Disk, FailingDisk, IdWords, Moment};
 
@@ -18,13 +19,11 @@ use tw_world::{Disk, FailingDisk, IdWords, Moment};
 pub fn run_task(rt: &HostRuntime, alloc: Global, words: &Vec<String>) -> Result<u8, StartError> {
     let zone = zone(rt)?;
     let settings = settings(rt, alloc)?;
-    let folder = folder(rt, alloc, &settings)?;
-    let path = journal_path(alloc, folder.as_str())?;
+    let path = path_of(rt, alloc, &settings)?;
     let now = moment(rt)?;
     let mut ids = IdWords::from_seed(seed(rt)?);
-    let mut broken = FailingDisk::new();
-    if !needs_store(alloc, words, &settings, now, &zone)? {
-        return run_over(
+    if needs_store(alloc, words, &settings, now, &zone)? {
+        over_store(
             rt,
             alloc,
             words,
@@ -32,22 +31,52 @@ pub fn run_task(rt: &HostRuntime, alloc: Global, words: &Vec<String>) -> Result<
             now,
             &zone,
             &mut ids,
-            &mut broken,
-        );
+            path.as_str(),
+        )
+    } else {
+        run_over(
+            rt,
+            alloc,
+            words,
+            &settings,
+            now,
+            &zone,
+            &mut ids,
+            &mut FailingDisk::new(),
+        )
     }
+}
+
+// The path of the journal.
+fn path_of(rt: &HostRuntime, alloc: Global, settings: &Vec<u8>) -> Result<String, StartError> {
+    let folder = folder(rt, alloc, settings)?;
+    journal_path(alloc, folder.as_str())
+}
+
+// Carries the words out over the journal at a path.
+fn over_store(
+    rt: &HostRuntime,
+    alloc: Global,
+    words: &Vec<String>,
+    settings: &Vec<u8>,
+    now: Moment,
+    zone: &Zone,
+    ids: &mut IdWords,
+    path: &str,
+) -> Result<u8, StartError> {
     let mut system = rt;
-    match open_disk(&mut system, path.as_str(), Busy::Wait) {
-        Ok(mut disk) => run_over(rt, alloc, words, &settings, now, &zone, &mut ids, &mut disk),
+    match open_disk(&mut system, path, Busy::Wait) {
+        Ok(mut disk) => run_over(rt, alloc, words, settings, now, zone, ids, &mut disk),
         Err(error) if error.kind() == ErrorKind::OutOfMemory => Err(StartError::Memory),
         Err(_) => run_over(
             rt,
             alloc,
             words,
-            &settings,
+            settings,
             now,
-            &zone,
-            &mut ids,
-            &mut broken,
+            zone,
+            ids,
+            &mut FailingDisk::new(),
         ),
     }
 }
@@ -63,25 +92,36 @@ fn run_over<D: Disk>(
     ids: &mut IdWords,
     disk: &mut D,
 ) -> Result<u8, StartError> {
-    let mut input = StreamSource::new(rt.stdin());
-    let mut out = Stream::new(rt.stdout());
-    let mut err = Stream::new(rt.stderr());
-    let outcome = match link_address(alloc, words, settings) {
+    match link_address(alloc, words, settings) {
         Ok(Some(address)) => {
             let mut link = TcpLink::new(rt, address);
-            task_run(
-                alloc, words, settings, now, zone, ids, disk, &mut link, &mut input, &mut out,
-                &mut err,
-            )
+            Ok(run_with(rt, alloc, words, settings, now, zone, ids, disk, &mut link))
         }
         Ok(None) => {
             let mut link = FailingLink::new();
-            task_run(
-                alloc, words, settings, now, zone, ids, disk, &mut link, &mut input, &mut out,
-                &mut err,
-            )
+            Ok(run_with(rt, alloc, words, settings, now, zone, ids, disk, &mut link))
         }
-        Err(_) => return Err(StartError::Memory),
-    };
-    Ok(outcome.status)
+        Err(_) => Err(StartError::Memory),
+    }
+}
+
+// Carries the words out over a disk and a link.
+fn run_with<D: Disk, L: Link>(
+    rt: &HostRuntime,
+    alloc: Global,
+    words: &Vec<String>,
+    settings: &Vec<u8>,
+    now: Moment,
+    zone: &Zone,
+    ids: &mut IdWords,
+    disk: &mut D,
+    link: &mut L,
+) -> u8 {
+    let mut input = StreamSource::new(rt.stdin());
+    let mut out = Stream::new(rt.stdout());
+    let mut err = Stream::new(rt.stderr());
+    task_run(
+        alloc, words, settings, now, zone, ids, disk, link, &mut input, &mut out, &mut err,
+    )
+    .status
 }

@@ -17,10 +17,10 @@ pub fn run_timew(rt: &HostRuntime, alloc: Global, words: &Vec<String>) -> Result
     let zone = zone(rt)?;
     let now = moment(rt)?;
     let database = database_of(rt, alloc)?;
-    match read_words(alloc, words, now, &zone) {
-        Ok(_) => over_journal(rt, alloc, words, now, &zone, database.as_str()),
-        Err(WordsError::Memory) => Err(StartError::Memory),
-        Err(WordsError::Bad(_)) => Ok(run_over(
+    if are_good(alloc, words, now, &zone)? {
+        over_journal(rt, alloc, words, now, &zone, database.as_str())
+    } else {
+        Ok(run_over(
             rt,
             alloc,
             words,
@@ -28,7 +28,21 @@ pub fn run_timew(rt: &HostRuntime, alloc: Global, words: &Vec<String>) -> Result
             &zone,
             &mut FailingFolder::new(),
             &mut FailingDisk::new(),
-        )),
+        ))
+    }
+}
+
+// Whether the words ask for something.
+fn are_good(
+    alloc: Global,
+    words: &Vec<String>,
+    now: Moment,
+    zone: &Zone,
+) -> Result<bool, StartError> {
+    match read_words(alloc, words, now, zone) {
+        Ok(_) => Ok(true),
+        Err(WordsError::Memory) => Err(StartError::Memory),
+        Err(WordsError::Bad(_)) => Ok(false),
     }
 }
 

@@ -1,5 +1,5 @@
 // What a command line asks for.
-ghost use Rattle.std.specs.Prelude.{◌≡◌, IfOk};
+ghost use Rattle.std.specs.Prelude.{◌≡◌, IfOk, Ok};
 ghost use Rattle.tw_cli.specs.Asked.{job_by, asked_by, needs_store, IsAsked};
 
 use std::alloc::Global;
@@ -101,9 +101,18 @@ pub fn needs_store(
     ensures { IfOk result (λ needs. needs ≡ needs_store (asked_by words.now settings.now now zone.entry)) }
 {
     match asked(alloc, words, settings, now, zone) {
-        Ok(Job::Here(_) | Job::Sync(_)) => Ok(true),
-        Ok(Job::Generate(_)) => Ok(false),
+        Ok(job) => Ok(is_for_store(&job)),
         Err(LineError::Words(WordError::Memory)) => Err(Memory),
         Err(_) => Ok(false),
+    }
+}
+
+// Whether the store is needed for what is to be done.
+fn is_for_store(job: &Job<'_>) -> bool
+    ensures { result ≡ needs_store (Ok job.now) }
+{
+    match job {
+        Job::Here(_) | Job::Sync(_) => true,
+        Job::Generate(_) => false,
     }
 }

@@ -15,7 +15,7 @@ const MAX_INPUT: usize = 67_108_864;
 const PIECE: usize = 8192;
 
 /// Why the input of a command is not taken.
-#[derive(Clone, Copy, Debug, PartialEq, Eq, Drop)]
+#[derive(Clone, Copy, Drop)]
 pub(crate) enum InputError {
     /// The input failed.
     Fault,
@@ -104,5 +104,7 @@ pub(crate) fn command_of(request: &Request<'_>) -> Command
 pub(crate) fn with_input<'a>(request: Request<'a>, input: Input) -> Request<'a>
     ensures { result ≡ with_input request.entry input }
 {
-    Request { input, ..request }
+    let mut request = request;
+    request.input = input;
+    request
 }

@@ -1,11 +1,13 @@
 // What a command is to do, and what it is to print.
+ghost use Rattle.std.specs.Prelude.{◌≡◌};
+
 use crate::marks::Mark;
 use tw_model::Change;
 use tw_report::Report;
 use uuid::Uuid;
 
 /// What was done to tasks.
-#[derive(Clone, Copy, Debug, PartialEq, Eq, Drop)]
+#[derive(Clone, Copy, Drop)]
 pub(crate) enum Deed {
     Modified,
     Annotated,
@@ -62,8 +64,24 @@ pub(crate) enum Show {
 }
 
 /// What a command is to do, and what it is to print.
-#[derive(Drop)]
 pub(crate) struct Plan {
     pub work: Work,
     pub show: Show,
+}
+
+// It is written out, so that a caller does not prove again how each part is dropped.
+impl Drop for Plan {
+    fn drop(self) {
+        let Plan { work: _, show: _ } = self;
+    }
+}
+
+impl Plan {
+    /// What it is to do, and what it is to print.
+    pub(crate) fn into_parts(self) -> (Work, Show)
+        ensures { result ≡ (self.work, self.show) }
+    {
+        let Plan { work, show } = self;
+        (work, show)
+    }
 }

@@ -15,7 +15,7 @@ use crate::circles::{first_circle, is_judged};
 use crate::commands::plan_of;
 use crate::commands::report::reported;
 use crate::marks::{Mark, mask_changes};
-use crate::plan::{Plan, Show, Work};
+use crate::plan::{Show, Work};
 use crate::refusal::Refusal;
 use crate::request::Request;
 use crate::texts::{counted_text, created_text, logged_text, template_text, undone_text};
@@ -157,8 +157,8 @@ pub fn decide(
     ensures want { OnErr result (MayHaveDrawn request.now ids.old ids.new (held_state replica)) }
 {
     let pending = replica.pending().len();
-    let Plan { work, show } = match plan_of(alloc, request, ids, &replica)? {
-        Ok(plan) => plan,
+    let (work, show) = match plan_of(alloc, request, ids, &replica)? {
+        Ok(plan) => plan.into_parts(),
         Err(refusal) => return Ok(Err(refusal)),
     };
     let prepared = match prepare(alloc, replica, work, request.at)? {

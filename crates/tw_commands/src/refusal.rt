@@ -4,7 +4,7 @@ use tw_world::Text;
 use uuid::Uuid;
 
 /// Why a command does nothing, in a replica that is open.
-#[derive(Debug, PartialEq, Eq, Drop)]
+#[derive(PartialEq, Eq, Drop)]
 pub enum Refusal {
     /// It needs a task, and acts on none of those that are selected.
     NoMatch,

@@ -15,7 +15,6 @@ use uuid::Uuid;
 
 /// What is asked for: the line, the filter of its words, the settings with the line's overrides, the moment and the zone at which all
 /// is read, and the input that `import` reads.
-#[derive(Drop)]
 pub struct Request<'a> {
     pub line: Line,
     pub filter: Filter,
@@ -23,6 +22,20 @@ pub struct Request<'a> {
     pub at: Moment,
     pub zone: &'a Zone,
     pub input: Input,
+}
+
+// It is written out, so that a caller does not prove again how each part is dropped.
+impl Drop for Request<'_> {
+    fn drop(self) {
+        let Request {
+            line: _,
+            filter: _,
+            settings: _,
+            at: _,
+            zone: _,
+            input: _,
+        } = self;
+    }
 }
 
 /// What a request looks at.

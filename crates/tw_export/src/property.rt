@@ -1,5 +1,5 @@
 // A property's member.
-ghost use Rattle.std.specs.Prelude.{◌≡◌, ◌<◌, ◌++◌, ◌∷◌, [], Some, option_map, OnOk};
+ghost use Rattle.std.specs.Prelude.{◌≡◌, ◌<◌, ◌++◌, ◌∷◌, [], Some, option_map, map, OnOk};
 ghost use Rattle.std.specs.Fmt.{decimal};
 ghost use Rattle.std.specs.Option.{option_copied};
 ghost use Rattle.json.specs.Token.{string};
@@ -76,24 +76,45 @@ pub(crate) fn dependency_of(name: &str, value: &str) -> Option<Uuid>
     }
 }
 
+// The names that the export keeps for itself.
+const OWN_NAMES: [&str; 6] = ["annotations", "depends", "id", "tags", "urgency", "uuid"];
+
+// The properties whose values are moments.
+const MOMENT_NAMES: [&str; 8] = [
+    "due",
+    "end",
+    "entry",
+    "modified",
+    "scheduled",
+    "start",
+    "until",
+    "wait",
+];
+
+// Whether a name is one of these.
+fn is_among(names: &[&str], name: &str) -> bool
+    ensures { result ≡ is_among (map (λ n. n.now) names.now) name.now }
+{
+    for other in names {
+        if name == *other {
+            return true;
+        }
+    }
+    false
+}
+
 // Whether the export keeps a name for itself.
 fn is_own_name(name: &str) -> bool
     ensures { result ≡ is_among own_names name.now }
 {
-    match name {
-        "annotations" | "depends" | "id" | "tags" | "urgency" | "uuid" => true,
-        _ => false,
-    }
+    is_among(&OWN_NAMES, name)
 }
 
 // Whether the values of a property are moments.
 fn is_moment_name(name: &str) -> bool
     ensures { result ≡ is_among moment_names name.now }
 {
-    match name {
-        "due" | "end" | "entry" | "modified" | "scheduled" | "start" | "until" | "wait" => true,
-        _ => false,
-    }
+    is_among(&MOMENT_NAMES, name)
 }
 
 #[tactic(auto, unfolding(crate::specs::Export::value_token))]

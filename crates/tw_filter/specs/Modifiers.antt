@@ -1,71 +1,101 @@
 -- What a word `name.modifier:value` asks: task(1), under "attribute modifiers".
-use Rattle.std.specs.Prelude.{ℕ, ◌||◌, Bool, true, false, cond, List, Option, Some, None, Result, Err, codes}
+use Rattle.std.specs.Prelude.{ℕ, Bool, true, false, cond, List, [], ◌∷◌, Option, Some, None, Result, Err, codes}
 use Rattle.tw_time.specs.Moments.{TimeZone}
-use Rattle.tw_model.specs.Maps.{same_bytes}
-use Rattle.tw_filter.specs.Values.{◌>>=◌, asks, presence, priority_term, status_value, moment_value}
+use Rattle.tw_time.specs.Tables.{look_up}
+use Rattle.tw_filter.specs.Values.{◌>>=◌, asks, presence, priority_term, status_term, moment_value}
 use Rattle.tw_filter.specs.declared.bad_word.WordKind.{WordKind}
 use Rattle.tw_filter.specs.declared.bad_word.WordKind.TheVariants as bad
 use Rattle.tw_filter.specs.declared.term.Test.{Test}
-use Rattle.tw_filter.specs.declared.term.Test.TheVariants.{Has, Is, Contains, Begins, Ends, HasWord, At, Before, After, HasStatus}
+use Rattle.tw_filter.specs.declared.term.Test.TheVariants.{Has, Is, Contains, Begins, Ends, HasWord, At, Before, After}
 use Rattle.tw_filter.specs.declared.term.Term.{Term}
 use Rattle.tw_filter.specs.declared.attribute.Attribute.{Attribute}
 use Rattle.tw_filter.specs.declared.attribute.Attribute.TheVariants as kind
+use Rattle.tw_filter.specs.declared.modifier.Comparison.{Comparison}
+use Rattle.tw_filter.specs.declared.modifier.Comparison.TheVariants as comparison
 use Rattle.tw_filter.specs.declared.modifier.Modifier.{Modifier}
 use Rattle.tw_filter.specs.declared.modifier.Modifier.TheVariants as by
 
+-- the modifiers, by their names
+abbrev pub modifiers : List (List ℕ × Modifier)
+modifiers =
+    (codes "none", by.Present false)
+    ∷ (codes "any", by.Present true)
+    ∷ (codes "is", by.Equal true)
+    ∷ (codes "equals", by.Equal true)
+    ∷ (codes "isnt", by.Equal false)
+    ∷ (codes "not", by.Equal false)
+    ∷ (codes "before", by.Before)
+    ∷ (codes "below", by.Before)
+    ∷ (codes "after", by.After)
+    ∷ (codes "above", by.After)
+    ∷ (codes "has", by.Compares comparison.Contains true)
+    ∷ (codes "contains", by.Compares comparison.Contains true)
+    ∷ (codes "hasnt", by.Compares comparison.Contains false)
+    ∷ (codes "startswith", by.Compares comparison.Begins true)
+    ∷ (codes "left", by.Compares comparison.Begins true)
+    ∷ (codes "endswith", by.Compares comparison.Ends true)
+    ∷ (codes "right", by.Compares comparison.Ends true)
+    ∷ (codes "word", by.Compares comparison.HasWord true)
+    ∷ (codes "noword", by.Compares comparison.HasWord false)
+    ∷ []
+
 -- a modifier, by its name
 unfoldable pub modifier_named : List ℕ → Option Modifier
-modifier_named name =
-    cond (same_bytes name (codes "none")) (Some (by.Present false))
-    (cond (same_bytes name (codes "any")) (Some (by.Present true))
-    (cond (same_bytes name (codes "is") || same_bytes name (codes "equals")) (Some (by.Equal true))
-    (cond (same_bytes name (codes "isnt") || same_bytes name (codes "not")) (Some (by.Equal false))
-    (cond (same_bytes name (codes "before") || same_bytes name (codes "below")) (Some by.Before)
-    (cond (same_bytes name (codes "after") || same_bytes name (codes "above")) (Some by.After)
-    (cond (same_bytes name (codes "has") || same_bytes name (codes "contains")) (Some (by.Contains true))
-    (cond (same_bytes name (codes "hasnt")) (Some (by.Contains false))
-    (cond (same_bytes name (codes "startswith") || same_bytes name (codes "left")) (Some by.Begins)
-    (cond (same_bytes name (codes "endswith") || same_bytes name (codes "right")) (Some by.Ends)
-    (cond (same_bytes name (codes "word")) (Some (by.Word true))
-    (cond (same_bytes name (codes "noword")) (Some (by.Word false))
-    None)))))))))))
+modifier_named name = look_up name modifiers
+
+-- a moment that the property is, or is not
+abbrev pub moment_term : Bool → (name value : List ℕ) → ℕ → TimeZone → Result Term WordKind
+moment_term wanted name value now tz = moment_value value now tz >>= λ at. asks wanted (At name at)
 
 -- `name.is:value` or `name.isnt:value`
 unfoldable pub equal : Bool → Attribute → (name value : List ℕ) → ℕ → TimeZone → Result Term WordKind
 equal wanted kind.Words name value now tz = asks wanted (Is name value)
 equal wanted kind.Project name value now tz = asks wanted (Is name value)
 equal wanted kind.Priority name value now tz = priority_term wanted name value
-equal wanted kind.Moment name value now tz = moment_value value now tz >>= λ at. asks wanted (At name at)
-equal wanted kind.Status name value now tz = status_value value >>= λ s. asks wanted (HasStatus s)
+equal wanted kind.Moment name value now tz = moment_term wanted name value now tz
+equal wanted kind.Status name value now tz = status_term wanted value
 equal wanted _ name value now tz = Err bad.Modifier
 
--- a modifier of texts alone
-abbrev pub of_text : Attribute → Bool → Test → Result Term WordKind
-of_text kind.Words wanted test = asks wanted test
-of_text kind.Project wanted test = asks wanted test
-of_text kind.Priority wanted test = asks wanted test
-of_text _ wanted test = Err bad.Modifier
+-- whether the values of an attribute are texts
+abbrev pub has_texts : Attribute → Bool
+has_texts kind.Words = true
+has_texts kind.Project = true
+has_texts kind.Priority = true
+has_texts _ = false
 
--- `name.before:value` and `name.after:value`, of moments alone
-unfoldable pub before : Attribute → (name value : List ℕ) → ℕ → TimeZone → Result Term WordKind
-before kind.Moment name value now tz = moment_value value now tz >>= λ at. asks true (Before name at)
-before _ name value now tz = Err bad.Modifier
+abbrev pub compared : Comparison → (name value : List ℕ) → Test
+compared comparison.Contains name value = Contains name value
+compared comparison.Begins name value = Begins name value
+compared comparison.Ends name value = Ends name value
+compared comparison.HasWord name value = HasWord name value
 
-unfoldable pub after : Attribute → (name value : List ℕ) → ℕ → TimeZone → Result Term WordKind
-after kind.Moment name value now tz = moment_value value now tz >>= λ at. asks true (After name at)
-after _ name value now tz = Err bad.Modifier
+-- a comparison of texts alone
+abbrev pub of_text : Attribute → Comparison → Bool → (name value : List ℕ) → Result Term WordKind
+of_text attribute how wanted name value = cond (has_texts attribute) (asks wanted (compared how name value)) (Err bad.Modifier)
+
+-- the moment with which an attribute is compared, of moments alone
+abbrev pub bound : Attribute → List ℕ → ℕ → TimeZone → Result ℕ WordKind
+bound kind.Moment value now tz = moment_value value now tz
+bound _ value now tz = Err bad.Modifier
+
+-- `name.before:value` and `name.after:value`
+abbrev pub before : Attribute → (name value : List ℕ) → ℕ → TimeZone → Result Term WordKind
+before attribute name value now tz = bound attribute value now tz >>= λ at. asks true (Before name at)
+
+abbrev pub after : Attribute → (name value : List ℕ) → ℕ → TimeZone → Result Term WordKind
+after attribute name value now tz = bound attribute value now tz >>= λ at. asks true (After name at)
 
 -- `name.modifier:value`, of an attribute that takes modifiers
-unfoldable pub modified : Option Modifier → Attribute → (name value : List ℕ) → ℕ → TimeZone → Result Term WordKind
+unfoldable pub modified_by : Modifier → Attribute → (name value : List ℕ) → ℕ → TimeZone → Result Term WordKind
+modified_by (by.Present wanted) attribute name value now tz = asks wanted (presence attribute name)
+modified_by (by.Equal wanted) attribute name value now tz = equal wanted attribute name value now tz
+modified_by by.Before attribute name value now tz = before attribute name value now tz
+modified_by by.After attribute name value now tz = after attribute name value now tz
+modified_by (by.Compares how wanted) attribute name value now tz = of_text attribute how wanted name value
+
+abbrev pub modified : Option Modifier → Attribute → (name value : List ℕ) → ℕ → TimeZone → Result Term WordKind
 modified None attribute name value now tz = Err bad.Modifier
-modified (Some (by.Present wanted)) attribute name value now tz = asks wanted (presence attribute name)
-modified (Some (by.Equal wanted)) attribute name value now tz = equal wanted attribute name value now tz
-modified (Some by.Before) attribute name value now tz = before attribute name value now tz
-modified (Some by.After) attribute name value now tz = after attribute name value now tz
-modified (Some (by.Contains wanted)) attribute name value now tz = of_text attribute wanted (Contains name value)
-modified (Some by.Begins) attribute name value now tz = of_text attribute true (Begins name value)
-modified (Some by.Ends) attribute name value now tz = of_text attribute true (Ends name value)
-modified (Some (by.Word wanted)) attribute name value now tz = of_text attribute wanted (HasWord name value)
+modified (Some modifier) attribute name value now tz = modified_by modifier attribute name value now tz
 
 -- a parent is asked for by `any` and `none` alone
 abbrev pub of_parent : List ℕ → Option Modifier → Result Term WordKind

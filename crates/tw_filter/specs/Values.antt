@@ -2,7 +2,7 @@
 use Rattle.std.specs.Prelude.{ℕ, ◌==◌, ◌||◌, Bool, true, false, cond, length, List, [], ◌∷◌, Option, Some, None, option_map, Result, Ok, Err, codes}
 use Rattle.std.specs.Option.{ok_or}
 use Rattle.tw_time.specs.Moments.{Date, TimeZone}
-use Rattle.tw_model.specs.Maps.{same_bytes}
+use Rattle.tw_time.specs.Tables.{look_up}
 use Rattle.tw_time.specs.Moments.{moment}
 use Rattle.tw_time.specs.Civil.{shown_date, day_of_date}
 use Rattle.tw_time.specs.declared.clock.Day.{Day}
@@ -28,15 +28,19 @@ abbrev pub ◌>>=◌ : {A B : Type 0} → Result A WordKind → (A → Result B 
 abbrev pub asks : Bool → Test → Result Term WordKind
 asks wanted test = Ok (record { test = test; wanted = wanted })
 
+-- the words of statuses
+abbrev pub statuses : List (List ℕ × Status)
+statuses =
+    (codes "pending", status.Pending)
+    ∷ (codes "waiting", status.Waiting)
+    ∷ (codes "completed", status.Completed)
+    ∷ (codes "deleted", status.Deleted)
+    ∷ (codes "recurring", status.Recurring)
+    ∷ []
+
 -- the status of a word
 unfoldable pub status_named : List ℕ → Option Status
-status_named word =
-    cond (same_bytes word (codes "pending")) (Some status.Pending)
-    (cond (same_bytes word (codes "waiting")) (Some status.Waiting)
-    (cond (same_bytes word (codes "completed")) (Some status.Completed)
-    (cond (same_bytes word (codes "deleted")) (Some status.Deleted)
-    (cond (same_bytes word (codes "recurring")) (Some status.Recurring)
-    None))))
+status_named word = look_up word statuses
 
 -- the test of an attribute's presence
 abbrev pub presence : Attribute → List ℕ → Test
@@ -80,19 +84,29 @@ dependency_term value = by_uuid (uuid_of_36 value)
     by_uuid (Some u) = asks true (DependsOn u)
     by_uuid None = ok_or (number_in value) bad.Value >>= λ n. asks true (DependsOnNumber n)
 
+abbrev pub status_term : Bool → List ℕ → Result Term WordKind
+status_term wanted value = status_value value >>= λ s. asks wanted (HasStatus s)
+
+abbrev pub uuid_term : List ℕ → Result Term WordKind
+uuid_term value = uuid_value value >>= λ u. asks true (IsUuid u)
+
+-- a moment of the day that the value tells
+abbrev pub day_term : (name value : List ℕ) → ℕ → TimeZone → Result Term WordKind
+day_term name value now tz = do
+  at ← moment_value value now tz
+  day ← day_value at tz
+  asks true (OnDay name day)
+
 -- `name:value`, where the value is not empty
 unfoldable pub valued : Attribute → (name value : List ℕ) → ℕ → TimeZone → Result Term WordKind
 valued kind.Words name value now tz = asks true (Is name value)
 valued kind.Project name value now tz = asks true (IsWithin name value)
 valued kind.Priority name value now tz = priority_term true name value
-valued kind.Moment name value now tz = do
-  at ← moment_value value now tz
-  day ← day_value at tz
-  asks true (OnDay name day)
-valued kind.Status name value now tz = status_value value >>= λ s. asks true (HasStatus s)
+valued kind.Moment name value now tz = day_term name value now tz
+valued kind.Status name value now tz = status_term true value
 valued kind.Recur name value now tz = Err bad.Value
 valued kind.Depends name value now tz = dependency_term value
-valued kind.Uuid name value now tz = uuid_value value >>= λ u. asks true (IsUuid u)
+valued kind.Uuid name value now tz = uuid_term value
 valued kind.Parent name value now tz = Err bad.Attribute
 valued kind.Other name value now tz = Err bad.Attribute
 

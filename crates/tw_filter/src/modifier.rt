@@ -1,50 +1,81 @@
 // What a word `name.modifier:value` asks.
-ghost use Rattle.std.specs.Prelude.{◌≡◌, ◌<◌};
+ghost use Rattle.std.specs.Prelude.{◌≡◌, ◌<◌, IfOk};
 ghost use Rattle.tw_time.specs.Civil.{limit};
 ghost use Rattle.tw_filter.specs.Gives.{GivesTerm};
-ghost use Rattle.tw_filter.specs.Modifiers.{modifier_named, equal, of_text, before, after, modified, of_parent, modified_term};
+ghost use Rattle.tw_filter.specs.Modifiers.{modifier_named, moment_term, equal, has_texts, compared, of_text, bound, before, after, modified_by, modified, of_parent, modified_term};
 
 use crate::attribute::Attribute;
 use crate::bad_word::{TermError, WordKind};
 use crate::term::{Term, Test, asks};
-use crate::value::{is_text, moment_value, presence, priority_term, status_value};
+use crate::value::{is_text, moment_value, presence, priority_term, status_term};
 use std::alloc::Global;
-use tw_time::Zone;
-use tw_world::Text;
+use tw_time::{Zone, look_up};
+use tw_world::{Memory, Text};
+
+/// How a text is compared with another.
+#[derive(Clone, Copy)]
+pub(crate) enum Comparison {
+    Contains,
+    Begins,
+    Ends,
+    HasWord,
+}
 
 /// How a value is compared.
-#[derive(Clone, Copy, Debug, PartialEq, Eq)]
+#[derive(Clone, Copy)]
 pub(crate) enum Modifier {
     Present(bool),
     Equal(bool),
     Before,
     After,
-    Contains(bool),
-    Begins,
-    Ends,
-    Word(bool),
+    Compares(Comparison, bool),
 }
+
+// The modifiers, by their names.
+const MODIFIERS: [(&str, Modifier); 19] = [
+    ("none", Modifier::Present(false)),
+    ("any", Modifier::Present(true)),
+    ("is", Modifier::Equal(true)),
+    ("equals", Modifier::Equal(true)),
+    ("isnt", Modifier::Equal(false)),
+    ("not", Modifier::Equal(false)),
+    ("before", Modifier::Before),
+    ("below", Modifier::Before),
+    ("after", Modifier::After),
+    ("above", Modifier::After),
+    ("has", Modifier::Compares(Comparison::Contains, true)),
+    ("contains", Modifier::Compares(Comparison::Contains, true)),
+    ("hasnt", Modifier::Compares(Comparison::Contains, false)),
+    ("startswith", Modifier::Compares(Comparison::Begins, true)),
+    ("left", Modifier::Compares(Comparison::Begins, true)),
+    ("endswith", Modifier::Compares(Comparison::Ends, true)),
+    ("right", Modifier::Compares(Comparison::Ends, true)),
+    ("word", Modifier::Compares(Comparison::HasWord, true)),
+    ("noword", Modifier::Compares(Comparison::HasWord, false)),
+];
 
 // A modifier, by its name.
 #[tactic(auto, unfolding(crate::specs::Modifiers::modifier_named))]
 fn modifier_named(name: &str) -> Option<Modifier>
     ensures { result ≡ modifier_named name.now }
 {
-    match name {
-        "none" => Some(Modifier::Present(false)),
-        "any" => Some(Modifier::Present(true)),
-        "is" | "equals" => Some(Modifier::Equal(true)),
-        "isnt" | "not" => Some(Modifier::Equal(false)),
-        "before" | "below" => Some(Modifier::Before),
-        "after" | "above" => Some(Modifier::After),
-        "has" | "contains" => Some(Modifier::Contains(true)),
-        "hasnt" => Some(Modifier::Contains(false)),
-        "startswith" | "left" => Some(Modifier::Begins),
-        "endswith" | "right" => Some(Modifier::Ends),
-        "word" => Some(Modifier::Word(true)),
-        "noword" => Some(Modifier::Word(false)),
-        _ => None,
-    }
+    look_up(name.as_bytes(), &MODIFIERS)
+}
+
+// `name.is:value` or `name.isnt:value`, of a moment.
+fn moment_term(
+    alloc: Global,
+    wanted: bool,
+    name: &str,
+    value: &str,
+    now: u64,
+    zone: &Zone,
+) -> Result<Term, TermError>
+    requires { now < limit }
+    ensures { GivesTerm result (moment_term wanted name.now value.now now zone.now) }
+{
+    let at = moment_value(value, now, zone)?;
+    asks(wanted, Test::At(Text::from_str(alloc, name)?, at))
 }
 
 // `name.is:value` or `name.isnt:value`.
@@ -64,30 +95,64 @@ fn equal(
     match attribute {
         Attribute::Words | Attribute::Project => is_text(alloc, wanted, name, value),
         Attribute::Priority => priority_term(alloc, wanted, name, value),
-        Attribute::Moment => {
-            let at = moment_value(value, now, zone)?;
-            asks(wanted, Test::At(Text::from_str(alloc, name)?, at))
-        }
-        Attribute::Status => {
-            let status = status_value(value)?;
-            asks(wanted, Test::HasStatus(status))
-        }
+        Attribute::Moment => moment_term(alloc, wanted, name, value, now, zone),
+        Attribute::Status => status_term(wanted, value),
         _ => Err(TermError::Bad(WordKind::Modifier)),
     }
 }
 
-// A modifier of texts alone.
-fn of_text(attribute: Attribute, wanted: bool, test: Test) -> Result<Term, TermError>
-    ensures { GivesTerm result (of_text attribute wanted test) }
+// Whether the values of an attribute are texts.
+fn has_texts(attribute: Attribute) -> bool
+    ensures { result ≡ has_texts attribute }
 {
     match attribute {
-        Attribute::Words | Attribute::Project | Attribute::Priority => asks(wanted, test),
-        _ => Err(TermError::Bad(WordKind::Modifier)),
+        Attribute::Words | Attribute::Project | Attribute::Priority => true,
+        _ => false,
     }
 }
 
-// `name.before:value`, of moments alone.
-#[tactic(auto, unfolding(crate::specs::Modifiers::before))]
+fn compared(alloc: Global, how: Comparison, name: &str, value: &str) -> Result<Test, Memory>
+    ensures { IfOk result (λ test. test ≡ compared how name.now value.now) }
+{
+    let name = Text::from_str(alloc, name)?;
+    let value = Text::from_str(alloc, value)?;
+    match how {
+        Comparison::Contains => Ok(Test::Contains(name, value)),
+        Comparison::Begins => Ok(Test::Begins(name, value)),
+        Comparison::Ends => Ok(Test::Ends(name, value)),
+        Comparison::HasWord => Ok(Test::HasWord(name, value)),
+    }
+}
+
+// A comparison of texts alone.
+fn of_text(
+    alloc: Global,
+    attribute: Attribute,
+    how: Comparison,
+    wanted: bool,
+    name: &str,
+    value: &str,
+) -> Result<Term, TermError>
+    ensures { GivesTerm result (of_text attribute how wanted name.now value.now) }
+{
+    if !has_texts(attribute) {
+        return Err(TermError::Bad(WordKind::Modifier));
+    }
+    asks(wanted, compared(alloc, how, name, value)?)
+}
+
+// The moment with which an attribute is compared, of moments alone.
+fn bound(attribute: Attribute, value: &str, now: u64, zone: &Zone) -> Result<u64, WordKind>
+    requires { now < limit }
+    ensures { result ≡ bound attribute value.now now zone.now }
+{
+    match attribute {
+        Attribute::Moment => moment_value(value, now, zone),
+        _ => Err(WordKind::Modifier),
+    }
+}
+
+// `name.before:value`.
 fn before(
     alloc: Global,
     attribute: Attribute,
@@ -99,15 +164,11 @@ fn before(
     requires { now < limit }
     ensures { GivesTerm result (before attribute name.now value.now now zone.now) }
 {
-    if attribute != Attribute::Moment {
-        return Err(TermError::Bad(WordKind::Modifier));
-    }
-    let at = moment_value(value, now, zone)?;
+    let at = bound(attribute, value, now, zone)?;
     asks(true, Test::Before(Text::from_str(alloc, name)?, at))
 }
 
-// `name.after:value`, of moments alone.
-#[tactic(auto, unfolding(crate::specs::Modifiers::after))]
+// `name.after:value`.
 fn after(
     alloc: Global,
     attribute: Attribute,
@@ -119,15 +180,33 @@ fn after(
     requires { now < limit }
     ensures { GivesTerm result (after attribute name.now value.now now zone.now) }
 {
-    if attribute != Attribute::Moment {
-        return Err(TermError::Bad(WordKind::Modifier));
-    }
-    let at = moment_value(value, now, zone)?;
+    let at = bound(attribute, value, now, zone)?;
     asks(true, Test::After(Text::from_str(alloc, name)?, at))
 }
 
 // `name.modifier:value`, of an attribute that takes modifiers.
-#[tactic(auto, unfolding(crate::specs::Modifiers::modified))]
+#[tactic(auto, unfolding(crate::specs::Modifiers::modified_by))]
+fn modified_by(
+    alloc: Global,
+    modifier: Modifier,
+    attribute: Attribute,
+    name: &str,
+    value: &str,
+    now: u64,
+    zone: &Zone,
+) -> Result<Term, TermError>
+    requires { now < limit }
+    ensures { GivesTerm result (modified_by modifier attribute name.now value.now now zone.now) }
+{
+    match modifier {
+        Modifier::Present(wanted) => asks(wanted, presence(alloc, attribute, name)?),
+        Modifier::Equal(wanted) => equal(alloc, wanted, attribute, name, value, now, zone),
+        Modifier::Before => before(alloc, attribute, name, value, now, zone),
+        Modifier::After => after(alloc, attribute, name, value, now, zone),
+        Modifier::Compares(how, wanted) => of_text(alloc, attribute, how, wanted, name, value),
+    }
+}
+
 fn modified(
     alloc: Global,
     modifier: Option<Modifier>,
@@ -140,34 +219,9 @@ fn modified(
     requires { now < limit }
     ensures { GivesTerm result (modified modifier attribute name.now value.now now zone.now) }
 {
-    let Some(modifier) = modifier else {
-        return Err(TermError::Bad(WordKind::Modifier));
-    };
     match modifier {
-        Modifier::Present(wanted) => asks(wanted, presence(alloc, attribute, name)?),
-        Modifier::Equal(wanted) => equal(alloc, wanted, attribute, name, value, now, zone),
-        Modifier::Before => before(alloc, attribute, name, value, now, zone),
-        Modifier::After => after(alloc, attribute, name, value, now, zone),
-        Modifier::Contains(wanted) => {
-            let name = Text::from_str(alloc, name)?;
-            let value = Text::from_str(alloc, value)?;
-            of_text(attribute, wanted, Test::Contains(name, value))
-        }
-        Modifier::Begins => {
-            let name = Text::from_str(alloc, name)?;
-            let value = Text::from_str(alloc, value)?;
-            of_text(attribute, true, Test::Begins(name, value))
-        }
-        Modifier::Ends => {
-            let name = Text::from_str(alloc, name)?;
-            let value = Text::from_str(alloc, value)?;
-            of_text(attribute, true, Test::Ends(name, value))
-        }
-        Modifier::Word(wanted) => {
-            let name = Text::from_str(alloc, name)?;
-            let value = Text::from_str(alloc, value)?;
-            of_text(attribute, wanted, Test::HasWord(name, value))
-        }
+        Some(modifier) => modified_by(alloc, modifier, attribute, name, value, now, zone),
+        None => Err(TermError::Bad(WordKind::Modifier)),
     }
 }
 

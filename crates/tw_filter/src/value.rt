@@ -1,32 +1,34 @@
 // What a word `name:value` asks.
-ghost use Rattle.std.specs.Prelude.{◌≡◌, ◌<◌, IfOk};
+ghost use Rattle.std.specs.Prelude.{◌≡◌, ◌<◌, IfOk, true};
 ghost use Rattle.tw_time.specs.Civil.{limit};
 ghost use Rattle.tw_filter.specs.Gives.{GivesTerm};
-ghost use Rattle.tw_filter.specs.Values.{status_named, asks, presence, priority_term, status_value, uuid_value, moment_value, day_value, dependency_term, valued, unvalued, plain_term};
+ghost use Rattle.tw_filter.specs.Values.{status_named, asks, presence, priority_term, status_value, status_term, uuid_value, uuid_term, moment_value, day_value, day_term, dependency_term, valued, unvalued, plain_term};
 
 use crate::attribute::{Attribute, is_priority};
 use crate::bad_word::{TermError, WordKind};
 use crate::name::{number_in, uuid_of_36};
 use crate::term::{Term, Test, asks};
 use std::alloc::Global;
-use tw_time::{Day, Zone, day_of, read_moment};
+use tw_time::{Day, Zone, day_of, look_up, read_moment};
 use tw_urgency::Status;
 use tw_world::{Memory, Text};
 use uuid::Uuid;
+
+// The words of statuses.
+const STATUSES: [(&str, Status); 5] = [
+    ("pending", Status::Pending),
+    ("waiting", Status::Waiting),
+    ("completed", Status::Completed),
+    ("deleted", Status::Deleted),
+    ("recurring", Status::Recurring),
+];
 
 // The status of a word.
 #[tactic(auto, unfolding(crate::specs::Values::status_named))]
 fn status_named(word: &str) -> Option<Status>
     ensures { result ≡ status_named word.now }
 {
-    match word {
-        "pending" => Some(Status::Pending),
-        "waiting" => Some(Status::Waiting),
-        "completed" => Some(Status::Completed),
-        "deleted" => Some(Status::Deleted),
-        "recurring" => Some(Status::Recurring),
-        _ => None,
-    }
+    look_up(word.as_bytes(), &STATUSES)
 }
 
 // The test of an attribute's presence.
@@ -71,16 +73,31 @@ pub(crate) fn is_text(
     asks(wanted, Test::Is(name, value))
 }
 
-pub(crate) fn status_value(value: &str) -> Result<Status, WordKind>
+fn status_value(value: &str) -> Result<Status, WordKind>
     ensures { result ≡ status_value value.now }
 {
     status_named(value).ok_or(WordKind::Value)
+}
+
+/// A status that the task has, or has not.
+pub(crate) fn status_term(wanted: bool, value: &str) -> Result<Term, TermError>
+    ensures { GivesTerm result (status_term wanted value.now) }
+{
+    let status = status_value(value)?;
+    asks(wanted, Test::HasStatus(status))
 }
 
 fn uuid_value(value: &str) -> Result<Uuid, WordKind>
     ensures { result ≡ uuid_value value.now }
 {
     uuid_of_36(value).ok_or(WordKind::Value)
+}
+
+fn uuid_term(value: &str) -> Result<Term, TermError>
+    ensures { GivesTerm result (uuid_term value.now) }
+{
+    let uuid = uuid_value(value)?;
+    asks(true, Test::IsUuid(uuid))
 }
 
 pub(crate) fn moment_value(value: &str, now: u64, zone: &Zone) -> Result<u64, WordKind>
@@ -113,6 +130,31 @@ fn dependency_term(value: &str) -> Result<Term, TermError>
     asks(true, Test::DependsOnNumber(number))
 }
 
+// A moment of the day that the value tells.
+fn day_term(
+    alloc: Global,
+    name: &str,
+    value: &str,
+    now: u64,
+    zone: &Zone,
+) -> Result<Term, TermError>
+    requires { now < limit }
+    ensures { GivesTerm result (day_term name.now value.now now zone.now) }
+{
+    let at = moment_value(value, now, zone)?;
+    let day = day_value(at, zone)?;
+    asks(true, Test::OnDay(Text::from_str(alloc, name)?, day))
+}
+
+// A project, or one below it.
+fn project_term(alloc: Global, name: &str, value: &str) -> Result<Term, TermError>
+    ensures { GivesTerm result (asks true (Test.IsWithin name.now value.now)) }
+{
+    let name = Text::from_str(alloc, name)?;
+    let value = Text::from_str(alloc, value)?;
+    asks(true, Test::IsWithin(name, value))
+}
+
 // `name:value`, where the value is not empty.
 #[tactic(auto, unfolding(crate::specs::Values::valued))]
 fn valued(
@@ -128,27 +170,13 @@ fn valued(
 {
     match attribute {
         Attribute::Words => is_text(alloc, true, name, value),
-        Attribute::Project => {
-            let name = Text::from_str(alloc, name)?;
-            let value = Text::from_str(alloc, value)?;
-            asks(true, Test::IsWithin(name, value))
-        }
+        Attribute::Project => project_term(alloc, name, value),
         Attribute::Priority => priority_term(alloc, true, name, value),
-        Attribute::Moment => {
-            let at = moment_value(value, now, zone)?;
-            let day = day_value(at, zone)?;
-            asks(true, Test::OnDay(Text::from_str(alloc, name)?, day))
-        }
-        Attribute::Status => {
-            let status = status_value(value)?;
-            asks(true, Test::HasStatus(status))
-        }
+        Attribute::Moment => day_term(alloc, name, value, now, zone),
+        Attribute::Status => status_term(true, value),
         Attribute::Recur => Err(TermError::Bad(WordKind::Value)),
         Attribute::Depends => dependency_term(value),
-        Attribute::Uuid => {
-            let uuid = uuid_value(value)?;
-            asks(true, Test::IsUuid(uuid))
-        }
+        Attribute::Uuid => uuid_term(value),
         Attribute::Parent | Attribute::Other => Err(TermError::Bad(WordKind::Attribute)),
     }
 }

@@ -91,7 +91,6 @@ fn uuid_of(fields: &BTreeMap<Text, Held>) -> Option<Uuid>
 }
 
 // Puts the values of fields into a task, and gives the lists among them. Each field is let go of as it is taken.
-#[tactic(auto, using(crate::proofs::Each::with_each_push))]
 fn put_values(
     alloc: Global,
     draft: &mut Draft,
@@ -102,11 +101,7 @@ fn put_values(
 {
     let mut lists = Vec::new(alloc);
     for (name, held) in fields {
-        match held {
-            Held::Value(value) => draft.put_text(name, value)?,
-            Held::Items(items) => lists.push(items)?,
-            _ => {}
-        }
+        held.put_into(name, draft, &mut lists)?;
     }
     Ok(lists)
 }

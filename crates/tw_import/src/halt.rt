@@ -3,7 +3,7 @@ use crate::front::NoJson;
 use tw_world::Memory;
 
 /// Why reading stops.
-#[derive(Clone, Copy, Debug, PartialEq, Eq)]
+#[derive(Clone, Copy)]
 pub(crate) enum Halt {
     NotJson,
     Memory,

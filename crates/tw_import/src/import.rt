@@ -78,8 +78,7 @@ pub fn read_import(alloc: Global, bytes: &[u8], now: Moment) -> Result<Vec<Impor
     ensures { IsImported result (import_of bytes.now now.seconds) }
 {
     match read_bytes(alloc, bytes, now.seconds) {
-        Ok(Found::Tasks(tasks)) => Ok(tasks),
-        Ok(Found::Not(index, name)) => Err(ImportError::Task { index, name }),
+        Ok(found) => found.into_tasks(),
         Err(Halt::NotJson) => Err(ImportError::NotJson),
         Err(Halt::Memory) => Err(ImportError::Memory),
     }

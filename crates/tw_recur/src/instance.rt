@@ -99,8 +99,32 @@ fn uuid_text(task: &mut TaskMap, alloc: Global, name: &str, uuid: Uuid) -> Resul
     )
 }
 
-/// The task of instance `i` of a parent, which is due at a moment.
+// Makes a copy of a parent the task of its instance `i`.
 #[tactic(auto, unfolding(crate::specs::Instances::instance))]
+fn become_instance(
+    alloc: Global,
+    task: &mut TaskMap,
+    parent: Uuid,
+    now: u64,
+    base: u64,
+    i: u64,
+    at: u64,
+) -> Result<(), Memory>
+    requires { at < MOMENT_LIMIT }
+    ensures { OnOk result (task.new ≡ instance parent task.old now base i at) }
+{
+    task.set(alloc, "mask", None)?;
+    set_text(alloc, task, "status", "pending")?;
+    set_number(alloc, task, "entry", now)?;
+    set_number(alloc, task, "modified", now)?;
+    set_number(alloc, task, "due", at)?;
+    set_number(alloc, task, "imask", i)?;
+    uuid_text(task, alloc, "parent", parent)?;
+    move_in(alloc, base, at, "wait", task)?;
+    move_in(alloc, base, at, "scheduled", task)
+}
+
+/// The task of instance `i` of a parent, which is due at a moment.
 pub(crate) fn instance(
     alloc: Global,
     parent: Uuid,
@@ -114,14 +138,6 @@ pub(crate) fn instance(
     ensures { IfOk result (λ m. m ≡ instance parent task.now now base i at) }
 {
     let mut made = task.copy(alloc)?;
-    made.set(alloc, "mask", None)?;
-    set_text(alloc, &mut made, "status", "pending")?;
-    set_number(alloc, &mut made, "entry", now)?;
-    set_number(alloc, &mut made, "modified", now)?;
-    set_number(alloc, &mut made, "due", at)?;
-    set_number(alloc, &mut made, "imask", i)?;
-    uuid_text(&mut made, alloc, "parent", parent)?;
-    move_in(alloc, base, at, "wait", &mut made)?;
-    move_in(alloc, base, at, "scheduled", &mut made)?;
+    become_instance(alloc, &mut made, parent, now, base, i, at)?;
     Ok(made)
 }

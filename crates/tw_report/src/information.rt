@@ -27,16 +27,30 @@ pub fn information_text(
     ensures { IfOk result (λ text. text.items ≡ information_text rows.now.items (sight_of view.entry.now weights.now)) }
 {
     let look = look_at(alloc, view, weights, rows.len(), true)?;
-    let chosen = chosen_of(alloc, rows)?;
     let mut text = Vec::new(alloc);
+    push_tasks(alloc, &mut text, rows, &look)?;
+    Ok(text)
+}
+
+// What is known of the rows' tasks, behind a text.
+fn push_tasks(
+    alloc: Global,
+    text: &mut Vec<u8>,
+    rows: &Vec<Uuid>,
+    look: &Look<'_>,
+) -> Result<(), Memory>
+    requires { IsLook look.now }
+    ensures { OnOk result (text.new.items ≡ text.old.items ++ information_text rows.now.items (sight_in look.now)) }
+{
+    let chosen = chosen_of(alloc, rows)?;
     let mut is_first = true;
     for (uuid, task) in look.view.tasks.iter() {
         if chosen.contains(uuid) {
-            push_task(alloc, &mut text, is_first, &look, *uuid, task)?;
+            push_task(alloc, text, is_first, look, *uuid, task)?;
             is_first = false;
         }
     }
-    Ok(text)
+    Ok(())
 }
 
 fn push_str(text: &mut Vec<u8>, more: &str) -> Result<(), Memory>

@@ -17,7 +17,6 @@ use tw_world::Memory;
 use uuid::Uuid;
 
 /// A view, and what is found in it for many tasks at once, where that is worth it.
-#[derive(Drop)]
 pub(crate) struct Look<'a> {
     pub(crate) view: &'a View<'a>,
     pub(crate) weights: &'a Coefficients,
@@ -25,6 +24,18 @@ pub(crate) struct Look<'a> {
     pub(crate) ids: Option<BTreeMap<Uuid, u64>>,
     /// The tasks that are blocking.
     pub(crate) blocking: Option<BTreeSet<Uuid>>,
+}
+
+// It is written out, so that a caller does not prove again how each part is dropped.
+impl Drop for Look<'_> {
+    fn drop(self) {
+        let Look {
+            view: _,
+            weights: _,
+            ids: _,
+            blocking: _,
+        } = self;
+    }
 }
 
 // A task's number is found by one look at each place; for more rows than these, all numbers are found at once.

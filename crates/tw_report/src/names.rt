@@ -1,7 +1,8 @@
 // The names that tasks have, and how often they occur.
 ghost use Rattle.std.specs.Prelude.{◌≡◌, IfOk, OnOk};
 ghost use Rattle.std.specs.Option.{option_copied};
-ghost use Rattle.tw_report.specs.Texts.{tag_in, count_name, count_project, count_tags, projects_text, tags_text};
+ghost use Rattle.tw_filter.specs.Chosen.{chosen};
+ghost use Rattle.tw_report.specs.Texts.{tag_in, count_name, count_project, count_tags, count_all, projects_text, tags_text};
 
 use crate::count::Counts;
 use std::alloc::Global;
@@ -15,13 +16,8 @@ use uuid::Uuid;
 pub fn projects_text(alloc: Global, rows: &Vec<Uuid>, view: &View<'_>) -> Result<Vec<u8>, Memory>
     ensures { IfOk result (λ text. text.items ≡ projects_text rows.now.items view.entry.now.tasks.now) }
 {
-    let chosen = chosen_of(alloc, rows)?;
     let mut counts = Counts::new(alloc);
-    for (uuid, task) in view.tasks.iter() {
-        if chosen.contains(uuid) {
-            count_project(alloc, &mut counts, task)?;
-        }
-    }
+    count_projects_of(alloc, &mut counts, rows, view)?;
     counts.lines(alloc)
 }
 
@@ -30,14 +26,43 @@ pub fn projects_text(alloc: Global, rows: &Vec<Uuid>, view: &View<'_>) -> Result
 pub fn tags_text(alloc: Global, rows: &Vec<Uuid>, view: &View<'_>) -> Result<Vec<u8>, Memory>
     ensures { IfOk result (λ text. text.items ≡ tags_text rows.now.items view.entry.now.tasks.now) }
 {
-    let chosen = chosen_of(alloc, rows)?;
     let mut counts = Counts::new(alloc);
+    count_tags_of(alloc, &mut counts, rows, view)?;
+    counts.lines(alloc)
+}
+
+fn count_projects_of(
+    alloc: Global,
+    counts: &mut Counts,
+    rows: &Vec<Uuid>,
+    view: &View<'_>,
+) -> Result<(), Memory>
+    ensures { OnOk result (counts.new ≡ count_all count_project counts.old (chosen rows.now.items view.entry.now.tasks.now)) }
+{
+    let chosen = chosen_of(alloc, rows)?;
     for (uuid, task) in view.tasks.iter() {
         if chosen.contains(uuid) {
-            count_tags(alloc, &mut counts, task)?;
+            count_project(alloc, counts, task)?;
         }
     }
-    counts.lines(alloc)
+    Ok(())
+}
+
+fn count_tags_of(
+    alloc: Global,
+    counts: &mut Counts,
+    rows: &Vec<Uuid>,
+    view: &View<'_>,
+) -> Result<(), Memory>
+    ensures { OnOk result (counts.new ≡ count_all count_tags counts.old (chosen rows.now.items view.entry.now.tasks.now)) }
+{
+    let chosen = chosen_of(alloc, rows)?;
+    for (uuid, task) in view.tasks.iter() {
+        if chosen.contains(uuid) {
+            count_tags(alloc, counts, task)?;
+        }
+    }
+    Ok(())
 }
 
 fn count_project(alloc: Global, counts: &mut Counts, task: &TaskMap) -> Result<(), Memory>

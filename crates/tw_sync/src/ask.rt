@@ -32,7 +32,7 @@ pub(crate) enum ChildAnswer {
 }
 
 /// What became of a version that was sent.
-#[derive(Clone, Copy, Debug, PartialEq, Eq, Drop)]
+#[derive(Clone, Copy, Drop)]
 pub(crate) enum AddAnswer {
     /// It stands in the chain under this id, which is not nil.
     Added { id: Uuid },

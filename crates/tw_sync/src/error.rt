@@ -13,7 +13,7 @@ use tw_world::Memory;
 use uuid::Uuid;
 
 /// What is wrong with a reply of the server (TaskChampion book, "HTTP Representation").
-#[derive(Clone, Copy, Debug, PartialEq, Eq, Drop)]
+#[derive(Clone, Copy, PartialEq, Eq, Drop)]
 pub enum ReplyKind {
     /// The reply ends inside its head or its body.
     Cut,
@@ -36,7 +36,7 @@ pub enum ReplyKind {
 /// Why a sync was refused. Only a fault of the disk changes the replica: it closes it.
 ///
 /// After `Link`, `Memory` and `Journal` the server may have added one version; the next sync pulls it.
-#[derive(Clone, Copy, Debug, PartialEq, Eq, Drop)]
+#[derive(Clone, Copy, PartialEq, Eq, Drop)]
 pub enum SyncError {
     /// The record of the sync was not written.
     Journal(AppendError),
@@ -61,7 +61,7 @@ pub enum SyncError {
 }
 
 /// Why a question has no answer.
-#[derive(Clone, Copy, Debug, PartialEq, Eq, Drop)]
+#[derive(Clone, Copy, Drop)]
 pub enum AskError {
     /// The way to the server failed.
     Link,
@@ -72,7 +72,7 @@ pub enum AskError {
 }
 
 /// Why a version is not taken.
-#[derive(Clone, Copy, Debug, PartialEq, Eq, Drop)]
+#[derive(Clone, Copy, Drop)]
 pub enum TakeError {
     /// Its segment can't be read.
     Segment { version: Uuid },
@@ -83,7 +83,7 @@ pub enum TakeError {
 }
 
 /// Why what is left is not sent.
-#[derive(Clone, Copy, Debug, PartialEq, Eq, Drop)]
+#[derive(Clone, Copy, Drop)]
 pub enum SendError {
     /// Its segment has that many bytes, which is more than 16,777,216.
     TooLong { bytes: u64 },

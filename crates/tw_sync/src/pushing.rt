@@ -16,7 +16,7 @@ use tw_segment::{SegmentError, write_segment};
 use uuid::Uuid;
 
 /// What became of what was left.
-#[derive(Clone, Copy, Debug, PartialEq, Eq, Drop)]
+#[derive(Clone, Copy, Drop)]
 pub(crate) enum Sent {
     /// It stands in the chain: so many operations.
     Added { operations: u64 },

@@ -3,7 +3,7 @@ use uuid::Uuid;
 
 /// What a sync did (TaskChampion book, "Synchronization Model"). Counts are of versions and of operations
 /// as replicas exchange them, so undo points count nowhere.
-#[derive(Clone, Copy, Debug, PartialEq, Eq, Drop)]
+#[derive(Clone, Copy, PartialEq, Eq, Drop)]
 pub struct SyncReport {
     /// How many versions of others were pulled.
     pub pulled: u64,

@@ -7,7 +7,7 @@ use std::alloc::Global;
 use tw_world::Memory;
 
 /// A column of a table.
-#[derive(Clone, Copy, Debug, PartialEq, Eq)]
+#[derive(Clone, Copy)]
 pub struct Column {
     /// What stands above its cells. It is printed as it is, and a control character counts as one column.
     pub heading: &'static str,

@@ -88,17 +88,37 @@ const ROWS: [(&str, &str, bool); 27] = [
     ),
 ];
 
+// Whether a line prints this, and writes a record or none.
+fn is_shown(
+    alloc: Global,
+    line: &str,
+    wanted: &str,
+    writes: bool,
+    ids: &mut IdWords,
+    disk: &mut MemoryDisk,
+) -> Result<bool, Fail> {
+    let before = disk.bytes().len();
+    let is_printed = prints(alloc, line, wanted, ids, disk)?;
+    Ok(is_printed && (disk.bytes().len() > before) == writes)
+}
+
+fn rows_so_far(alloc: Global, ids: &mut IdWords, disk: &mut MemoryDisk) -> Result<usize, Fail> {
+    for (number, (line, wanted, writes)) in ROWS.iter().enumerate() {
+        if !is_shown(alloc, line, wanted, *writes, ids, disk)? {
+            return Ok(number);
+        }
+    }
+    Ok(ROWS.len())
+}
+
 #[test]
 fn what_is_shown_is_of_the_tasks_and_numbers_after(rt: HostRuntime) -> Result<(), Fail> {
     let alloc = rt.alloc();
     let mut disk = empty_disk(alloc)?;
     let _ = opened(alloc, &mut disk)?;
-    let mut ids = ids_from(1);
-    for (line, wanted, writes) in ROWS {
-        let before = disk.bytes().len();
-        let printed = carried(alloc, line, NOW, &mut ids, &mut disk)?;
-        assert_eq!(rt; printed.as_str(), wanted, "{line}");
-        assert_eq!(rt; disk.bytes().len() > before, writes, "{line}");
-    }
+    assert_eq!(rt;
+        rows_so_far(alloc, &mut ids_from(1), &mut disk)?,
+        ROWS.len()
+    );
     Ok(())
 }

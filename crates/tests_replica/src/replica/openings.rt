@@ -38,26 +38,33 @@ fn is_replaced(bytes: &[u8], file: &[u8], place: [u8; 2]) -> bool {
         && state.get(52..) == ADDED.get(24..)
 }
 
-// Each row is the form of a file, how many commits of nothing stand in it before the one that adds a task, and where the state is put
-// in place of them: not for 999 records, and not in a file that is a row.
+// Whether a file that is opened holds the added task, and its bytes are as they were, or the state stands in place of its records.
+fn is_opened(
+    alloc: Global,
+    form: &[u8],
+    nothing: u32,
+    place: Option<[u8; 2]>,
+) -> Result<bool, ReplicaError> {
+    let file = file_of(alloc, form, nothing)?;
+    let (held, _, bytes) = opened(alloc, &file)?;
+    let stands = match place {
+        Some(place) => is_replaced(&bytes, &file, place),
+        None => bytes.as_slice() == file.as_slice(),
+    };
+    Ok(stands && held == (1, 3, Some(1)))
+}
+
+// Whether the records of files are replaced by the state where they are a thousand, and in no file that is a row.
+fn are_replaced(alloc: Global) -> Result<bool, ReplicaError> {
+    let kept = is_opened(alloc, &MADE, 998, None)?;
+    let replaced = is_opened(alloc, &MADE, 999, Some([0x2b, 0x5c]))?;
+    let row = is_opened(alloc, &ADDED[..13], 999, None)?;
+    Ok(kept && replaced && row)
+}
+
 #[test]
 fn a_thousand_records_are_replaced_by_the_state(rt: HostRuntime) -> Result<(), Fail> {
-    let alloc = rt.alloc();
-    let table: [(&[u8], u32, Option<[u8; 2]>); 3] = [
-        (&MADE, 998, None),
-        (&MADE, 999, Some([0x2b, 0x5c])),
-        (&ADDED[..13], 999, None),
-    ];
-    for (form, nothing, place) in table {
-        let file = file_of(alloc, form, nothing)?;
-        let (held, _, bytes) = opened(alloc, &file)?;
-        assert!(rt; held == (1, 3, Some(1)), "{nothing}");
-        let stands = match place {
-            Some(place) => is_replaced(&bytes, &file, place),
-            None => bytes.as_slice() == file.as_slice(),
-        };
-        assert!(rt; stands, "{nothing}");
-    }
+    assert!(rt; are_replaced(rt.alloc())?);
     Ok(())
 }
 
@@ -79,14 +86,29 @@ fn is_whole(alloc: Global, disk: &MemoryDisk, call: u64, pick: u8) -> Result<boo
     Ok(held == (1, 3, Some(1)) && base == Uuid::nil() && bytes.first() == Some(&3))
 }
 
-#[test]
-fn a_crash_while_records_are_replaced_leaves_the_same_state(rt: HostRuntime) -> Result<(), Fail> {
-    let alloc = rt.alloc();
-    let disk = replaced(alloc)?;
-    for call in 0..=disk.calls() {
-        for pick in 0..4 {
-            assert!(rt; is_whole(alloc, &disk, call, pick)?, "{call} {pick}");
+// Whether whatever a crash in this call leaves is whole.
+fn are_whole(alloc: Global, disk: &MemoryDisk, call: u64) -> Result<bool, ReplicaError> {
+    for pick in 0..4 {
+        if !is_whole(alloc, disk, call, pick)? {
+            return Ok(false);
         }
     }
+    Ok(true)
+}
+
+// Whether whatever a crash in any call leaves is whole.
+fn is_always_whole(alloc: Global) -> Result<bool, ReplicaError> {
+    let disk = replaced(alloc)?;
+    for call in 0..=disk.calls() {
+        if !are_whole(alloc, &disk, call)? {
+            return Ok(false);
+        }
+    }
+    Ok(true)
+}
+
+#[test]
+fn a_crash_while_records_are_replaced_leaves_the_same_state(rt: HostRuntime) -> Result<(), Fail> {
+    assert!(rt; is_always_whole(rt.alloc())?);
     Ok(())
 }

@@ -61,21 +61,28 @@ fn written(alloc: Global, status: &str, renumber: bool) -> Result<(usize, usize)
     Ok((places, disk.bytes().len()))
 }
 
+// Whether each of these statuses leads to so many places, and to so many bytes behind those of the file.
+fn are_written(alloc: Global, rows: &[(&str, bool, usize, usize)]) -> Result<bool, ReplicaError> {
+    for (status, renumber, places, bytes) in rows {
+        let (found, len) = written(alloc, status, *renumber)?;
+        if found != *places || len.checked_sub(94) != Some(*bytes) {
+            return Ok(false);
+        }
+    }
+    Ok(true)
+}
+
 // Each row is a status that the pending task gets, whether the places are packed, how many there are then, and how many
 // bytes its record has with its gate and length.
 #[test]
 fn a_step_that_changes_nothing_writes_nothing(rt: HostRuntime) -> Result<(), Fail> {
-    let alloc = rt.alloc();
     let table = [
         ("pending", false, 1, 0),
         ("pending", true, 1, 11),
         ("completed", false, 1, 77),
         ("completed", true, 0, 77),
     ];
-    for (status, renumber, places, bytes) in table {
-        let found = written(alloc, status, renumber)?;
-        assert!(rt; found == (places, 94 + bytes), "{status}");
-    }
+    assert!(rt; are_written(rt.alloc(), &table)?);
     Ok(())
 }
 
@@ -102,7 +109,8 @@ fn refusal(alloc: Global) -> Result<Option<TakeBackError>, ReplicaError> {
 
 #[test]
 fn the_last_group_is_taken_back_in_memory(rt: HostRuntime) -> Result<(), Fail> {
-    assert!(rt; is_taken_back(rt.alloc())?);
-    assert!(rt; refusal(rt.alloc())? == Some(TakeBackError::NothingToUndo));
+    let alloc = rt.alloc();
+    assert!(rt; is_taken_back(alloc)?);
+    assert!(rt; refusal(alloc)? == Some(TakeBackError::NothingToUndo));
     Ok(())
 }

@@ -4,15 +4,25 @@ ghost use Rattle.tw_world.specs.Folder.{is_file_name};
 use super::folder_of;
 use std::alloc::Global;
 use std::test::Fail;
-use timew_store::{Edit, Intervals, LoadError, Store, StoreError, UndoError, read_month};
+use timew_store::{Edit, Interval, Intervals, LoadError, Store, StoreError, UndoError, read_month};
 use tw_world::{Folder, MemoryDisk, MemoryFolder};
 
 // A folder of month files, and the journal of their changes.
-#[derive(Drop)]
 struct Kept {
     alloc: Global,
     folder: MemoryFolder,
     disk: MemoryDisk,
+}
+
+// It is written out, so that a caller does not prove again how each part is dropped.
+impl Drop for Kept {
+    fn drop(self) {
+        let Kept {
+            alloc: _,
+            folder: _,
+            disk: _,
+        } = self;
+    }
 }
 
 // These files, over an empty journal. The calls of the folder with these numbers fail.
@@ -26,7 +36,17 @@ fn keeping(alloc: Global, files: &[(&str, &str)], fails: &[u64]) -> Result<Kept,
     })
 }
 
+// The intervals of lines, where they are in order.
+fn rows_of(alloc: Global, lines: &str) -> Option<Vec<Interval>> {
+    let rows = read_month(alloc, lines.as_bytes()).ok()?;
+    Some(Intervals::in_order(rows)?.into_rows())
+}
+
 impl Kept {
+    fn load(&mut self) -> Option<Store> {
+        Store::load(self.alloc, &mut self.folder, &mut self.disk).ok()
+    }
+
     // How many intervals are loaded, or the first bad line.
     fn loaded(&mut self) -> Result<String, Fail> {
         let alloc = self.alloc;
@@ -41,33 +61,63 @@ impl Kept {
     }
 
     // Loads a store and lets the intervals of lines stand in it.
-    fn changed(&mut self, lines: &str) -> Result<Result<(), StoreError>, Fail> {
+    fn changed(&mut self, lines: &str) -> Option<Result<(), StoreError>> {
         let alloc = self.alloc;
-        let rows = read_month(alloc, lines.as_bytes()).or(Err("a bad line"))?;
-        let next = Intervals::in_order(rows).ok_or("out of order")?.into_rows();
-        let store = Store::load(alloc, &mut self.folder, &mut self.disk);
-        let mut store = store.or(Err("no store"))?;
-        let edit = Edit::between(store.intervals().as_slice(), next)?;
-        Ok(store.change(alloc, &mut self.folder, &mut self.disk, edit))
+        let next = rows_of(alloc, lines)?;
+        let mut store = self.load()?;
+        let edit = Edit::between(store.intervals().as_slice(), next).ok()?;
+        Some(store.change(alloc, &mut self.folder, &mut self.disk, edit))
+    }
+
+    // Whether the intervals of lines come to stand in the store.
+    fn change(&mut self, lines: &str) -> bool {
+        match self.changed(lines) {
+            Some(changed) => changed.is_ok(),
+            None => false,
+        }
     }
 
     // Loads a store and takes its last change back.
     fn undone(&mut self) -> Result<String, Fail> {
         let alloc = self.alloc;
-        let store = Store::load(alloc, &mut self.folder, &mut self.disk);
-        let mut store = store.or(Err("no store"))?;
+        let mut store = self.load().ok_or("no store")?;
         told(alloc, store.undo(alloc, &mut self.folder, &mut self.disk))
     }
 
+    // Whether an undo says this.
+    fn undo_says(&mut self, want: &str) -> Result<bool, Fail> {
+        Ok(self.undone()?.as_str() == want)
+    }
+
     // Whether a file holds this, or is not there.
-    fn holds(&mut self, name: &str, want: &str) -> Result<bool, Fail>
+    fn holds(&mut self, name: &str, want: &str) -> bool
         requires { is_file_name name.now ≡ true }
     {
-        let file = self.folder.read(self.alloc, name);
-        Ok(match file.or(Err("no folder"))? {
-            Some(bytes) => bytes.as_slice() == want.as_bytes(),
-            None => want.is_empty(),
-        })
+        match self.folder.read(self.alloc, name) {
+            Ok(Some(bytes)) => bytes.as_slice() == want.as_bytes(),
+            Ok(None) => want.is_empty(),
+            Err(_) => false,
+        }
+    }
+
+    // Whether these lines stand in January one after another.
+    fn change_in_turn(&mut self, turns: &[&str]) -> bool {
+        for lines in turns {
+            if !self.change(lines) || !self.holds("2026-01.data", lines) {
+                return false;
+            }
+        }
+        true
+    }
+
+    // Whether undos leave these lines in January one after another.
+    fn undo_in_turn(&mut self, turns: &[&str]) -> Result<bool, Fail> {
+        for lines in turns {
+            if !self.undo_says("undone")? || !self.holds("2026-01.data", lines) {
+                return Ok(false);
+            }
+        }
+        Ok(true)
     }
 }
 
@@ -81,31 +131,43 @@ fn told(alloc: Global, undone: Result<(), UndoError>) -> Result<String, Fail> {
     })
 }
 
+// January, February, and what loading them gives.
+const MONTHS: [(&str, &str, &str); 4] = [
+    (
+        "inc 20260105T090000Z - 20260105T090005Z\n",
+        "inc 20260201T000000Z\n",
+        "2",
+    ),
+    ("", "", "0"),
+    (
+        "inc 20260105T090000Z\n",
+        "inc 20260201T000000Z\n",
+        "2026-02.data 1",
+    ),
+    ("inc x", "inc y", "2026-01.data 1"),
+];
+
+fn loaded_from(alloc: Global, january: &str, february: &str) -> Result<String, Fail> {
+    let files = [
+        ("2026-02.data", february),
+        ("2026-01.data", january),
+        ("notes", "inc z"),
+    ];
+    keeping(alloc, &files, &[])?.loaded()
+}
+
+fn are_loaded(alloc: Global) -> Result<bool, Fail> {
+    for (january, february, want) in &MONTHS {
+        if loaded_from(alloc, january, february)?.as_str() != *want {
+            return Ok(false);
+        }
+    }
+    Ok(true)
+}
+
 #[test]
 fn a_store_holds_the_month_files(rt: HostRuntime) -> Result<(), Fail> {
-    let alloc = rt.alloc();
-    let table = [
-        (
-            "inc 20260105T090000Z - 20260105T090005Z\n",
-            "inc 20260201T000000Z\n",
-            "2",
-        ),
-        ("", "", "0"),
-        (
-            "inc 20260105T090000Z\n",
-            "inc 20260201T000000Z\n",
-            "2026-02.data 1",
-        ),
-        ("inc x", "inc y", "2026-01.data 1"),
-    ];
-    for (january, february, want) in table {
-        let files = [
-            ("2026-02.data", february),
-            ("2026-01.data", january),
-            ("notes", "inc z"),
-        ];
-        assert_eq!(rt; keeping(alloc, &files, &[])?.loaded()?.as_str(), want);
-    }
+    assert!(rt; are_loaded(rt.alloc())?);
     Ok(())
 }
 
@@ -113,59 +175,77 @@ const FIRST: &str = "inc 20260105T090000Z - 20260105T090005Z # code\n";
 
 const SECOND: &str = "inc 20260105T090000Z\n";
 
+// A change to what stands there already is none to take back.
 #[test]
 fn changes_are_taken_back_one_after_another(rt: HostRuntime) -> Result<(), Fail> {
     let mut kept = keeping(rt.alloc(), &[], &[])?;
-    for lines in [FIRST, SECOND, ""] {
-        assert!(rt; kept.changed(lines)?.is_ok());
-        assert!(rt; kept.holds("2026-01.data", lines)?);
-    }
-    for lines in [SECOND, FIRST, ""] {
-        assert_eq!(rt; kept.undone()?.as_str(), "undone");
-        assert!(rt; kept.holds("2026-01.data", lines)?);
-    }
-    assert_eq!(rt; kept.undone()?.as_str(), "nothing");
+    assert!(rt; kept.change_in_turn(&[FIRST, FIRST, SECOND, ""]));
+    assert!(rt; kept.undo_in_turn(&[SECOND, FIRST, ""])? && kept.undo_says("nothing")?);
     Ok(())
 }
 
-// What an undo says where a hand has written these files since the change.
+const OLD: &str = "inc 20260105T070000Z - 20260105T080000Z\n";
+
+const NEW: &str = "inc 20260105T090000Z - 20260105T090005Z\n";
+
+// January and February as a hand has written them since a change, and what an undo says.
+const EDITED: [(&str, &str, &str); 3] = [
+    (
+        "inc 20260105T090000Z - 20260105T090006Z\n",
+        "",
+        "2026-01.data was edited",
+    ),
+    (NEW, "inc 20260201T000000Z - 20260201T000001Z\n", "undone"),
+    (
+        NEW,
+        "inc 20260105T073000Z - 20260105T080000Z\n",
+        "2026-02.data 1",
+    ),
+];
+
+// Whether an undo over these files, whose change was another, says this.
+fn says_over(alloc: Global, january: &str, february: &str, want: &str) -> Result<bool, Fail> {
+    let mut kept = keeping(alloc, &[("2026-01.data", OLD)], &[])?;
+    let is_changed = kept.change(NEW);
+    let files = [("2026-01.data", january), ("2026-02.data", february)];
+    kept.folder = folder_of(alloc, &files, &[])?;
+    Ok(is_changed && kept.undo_says(want)?)
+}
+
+fn all_say(alloc: Global) -> Result<bool, Fail> {
+    for (january, february, want) in &EDITED {
+        if !says_over(alloc, january, february, want)? {
+            return Ok(false);
+        }
+    }
+    Ok(true)
+}
+
 #[test]
 fn an_undo_looks_at_the_files(rt: HostRuntime) -> Result<(), Fail> {
-    let alloc = rt.alloc();
-    let old = "inc 20260105T070000Z - 20260105T080000Z\n";
-    let new = "inc 20260105T090000Z - 20260105T090005Z\n";
-    let table = [
-        (
-            "inc 20260105T090000Z - 20260105T090006Z\n",
-            "",
-            "2026-01.data was edited",
-        ),
-        (new, "inc 20260201T000000Z - 20260201T000001Z\n", "undone"),
-        (
-            new,
-            "inc 20260105T073000Z - 20260105T080000Z\n",
-            "2026-02.data 1",
-        ),
-    ];
-    for (january, february, want) in table {
-        let mut kept = keeping(alloc, &[("2026-01.data", old)], &[])?;
-        assert!(rt; kept.changed(new)?.is_ok());
-        let files = [("2026-01.data", january), ("2026-02.data", february)];
-        kept.folder = folder_of(alloc, &files, &[])?;
-        assert_eq!(rt; kept.undone()?.as_str(), want);
-    }
+    assert!(rt; all_say(rt.alloc())?);
     Ok(())
+}
+
+impl Kept {
+    // Whether the folder fails at a change of two months, of which the second is not written.
+    fn fails_between(&mut self) -> bool {
+        let lines = "inc 20260105T090000Z - 20260105T090005Z\ninc 20260201T000000Z\n";
+        let fails = match self.changed(lines) {
+            Some(Err(StoreError::Folder)) => true,
+            _ => false,
+        };
+        fails && self.holds("2026-02.data", "")
+    }
 }
 
 // The folder fails at the second of two files: the next load replaces it.
 #[test]
 fn a_change_of_two_files_is_finished(rt: HostRuntime) -> Result<(), Fail> {
     let mut kept = keeping(rt.alloc(), &[], &[2])?;
-    let lines = "inc 20260105T090000Z - 20260105T090005Z\ninc 20260201T000000Z\n";
-    assert!(rt; kept.changed(lines)? == Err(StoreError::Folder));
-    assert!(rt; kept.holds("2026-02.data", "")?);
-    assert_eq!(rt; kept.loaded()?.as_str(), "2");
-    assert!(rt; kept.holds("2026-02.data", "inc 20260201T000000Z\n")?);
+    let fails = kept.fails_between();
+    let is_loaded = kept.loaded()?.as_str() == "2";
+    assert!(rt; fails && is_loaded && kept.holds("2026-02.data", "inc 20260201T000000Z\n"));
     Ok(())
 }
 
@@ -176,7 +256,6 @@ const CHANGE: &[u8] =
 #[test]
 fn a_body_is_its_fields(rt: HostRuntime) -> Result<(), Fail> {
     let mut kept = keeping(rt.alloc(), &[], &[])?;
-    assert!(rt; kept.changed("inc 20260201T000000Z\n")?.is_ok());
-    assert!(rt; kept.disk.bytes().ends_with(CHANGE));
+    assert!(rt; kept.change("inc 20260201T000000Z\n") && kept.disk.bytes().ends_with(CHANGE));
     Ok(())
 }

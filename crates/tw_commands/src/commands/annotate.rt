@@ -15,14 +15,9 @@ pub(crate) fn annotation_at(alloc: Global, second: u128) -> Result<String, Memor
     Ok(format!(in alloc; "annotation_{}", second)?)
 }
 
-/// What `annotate` makes of a task (task(1), "annotate").
-pub(crate) fn annotate(
-    alloc: Global,
-    now: Moment,
-    text: &str,
-    task: &TaskMap,
-) -> Result<Effect, Memory>
-    ensures { IfOk result (λ effect. effect ≡ spec.annotate now text.now task.now) }
+// The property of the first second from this moment on that has no annotation.
+fn free_property(alloc: Global, now: Moment, task: &TaskMap) -> Result<String, Memory>
+    ensures { IfOk result (λ name. string_bytes name ≡ spec.annotation_at (spec.free_second (map.len task.now) task.now now.seconds)) }
 {
     let mut more = task.len();
     let mut second = now.seconds as u128;
@@ -32,6 +27,19 @@ pub(crate) fn annotate(
         second += 1;
         name = annotation_at(alloc, second)?;
     }
+    Ok(name)
+}
+
+/// What `annotate` makes of a task (task(1), "annotate").
+pub(crate) fn annotate(
+    alloc: Global,
+    now: Moment,
+    text: &str,
+    task: &TaskMap,
+) -> Result<Effect, Memory>
+    ensures { IfOk result (λ effect. effect ≡ spec.annotate now text.now task.now) }
+{
+    let name = free_property(alloc, now, task)?;
     let mut after = task.copy(alloc)?;
     after.set(alloc, name.as_str(), Some(text))?;
     Ok(Effect::Becomes(after))

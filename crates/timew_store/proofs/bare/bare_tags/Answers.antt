@@ -19,7 +19,7 @@ returns-in-None c =
     let next = c.in-Some-first_tag.second.now in
     let first : IsFirstTag tag (Some rest) bytes = subst (λ (o : Option (List ℕ)). IsFirstTag tag o bytes) (ap (option_map (λ b. b.now)) c.in-Some-rest.is) c.in-Some.ensures in
     let second : IsFirstTag next None rest = subst (λ (o : Option (List ℕ)). IsFirstTag next o rest) (ap (option_map (λ b. b.now)) c.in-None.is) c.in-Some-first_tag.ensures in
-    let held = sym c.in_ok-first_text.ensures ∙ sym c.first_text.view_is in
+    let held = sym c.in_ok-first_text.ensures in
     let made : tag ∷ next ∷ [] ≡ c.two-tags.result = (λ i. held i ∷ sym c.in_ok-from_str.ensures i ∷ []) ∙ sym c.two-tags.ensures in
     subst (λ (ts : List (List ℕ)). AreWritten ts bytes) made (two_written bytes tag rest next first second (sym c.is_before.ensures ∙ c.if-not-is_before.false))
 
@@ -32,7 +32,7 @@ returns-in-Some-rest-2 c =
     let more = c.in-Some-rest-2.rest.now in
     let first : IsFirstTag tag (Some rest) bytes = subst (λ (o : Option (List ℕ)). IsFirstTag tag o bytes) (ap (option_map (λ b. b.now)) c.in-Some-rest.is) c.in-Some.ensures in
     let second : IsFirstTag next (Some more) rest = subst (λ (o : Option (List ℕ)). IsFirstTag next o rest) (ap (option_map (λ b. b.now)) c.in-Some-rest-2.is) c.in-Some-first_tag.ensures in
-    let held = sym c.in_ok-first_text.ensures ∙ sym c.first_text.view_is in
+    let held = sym c.in_ok-first_text.ensures in
     let made : tag ∷ next ∷ [] ≡ c.two-tags.result = (λ i. held i ∷ sym c.in_ok-from_str.ensures i ∷ []) ∙ sym c.two-tags.ensures in
     c.more_tags.ensures bytes
     (subst (λ (ts : List (List ℕ)). AreTaken ts more bytes) made (two_taken bytes tag rest next more first second (sym c.is_before.ensures ∙ c.if-not-is_before.false)))

@@ -28,7 +28,7 @@ returns-then-len-eq0-clause-changed g c = λ bodies history on.
     let none : length c.in_ok-prepared.prepared.changes.items ≡ 0 = search rules in
     moved_nowhere g.F.Folder.model g.D.Disk.model old c.args.folder.now c.args.disk.now bodies history on (edited c.args.edit (rows_kept old)) changes (is.changes files on.months) _ (none_changed c.in_ok-prepared.prepared.changes.items none) refl
     (edit_holds files changes old.months c.months_after.result c.args.edit c.in_ok-prepared.prepared.files.items c.in-Ok.rows.items (c.in-Ok.ensures.rows ∙ ap (λ (m : Months). m.rows) c.replace-files.ensures.value)
-    (ap (λ v. v.items) c.months_after.ensures.files) c.months_after.ensures.rows (is.files files on.months) (is.rows files on.months))
+    (ap (λ v. v.items) (c.months_after.ensures.files ∙ c.into_files.ensures)) c.months_after.ensures.rows (is.files files on.months) (is.rows files on.months))
 
 pub returns-then-len-eq0-clause-any_moment : goal.returns-then-len-eq0-clause-any_moment
 returns-then-len-eq0-clause-any_moment g c = λ bodies history on. stays_here g.F.Folder.model g.D.Disk.model c.args.self.now.journal c.args.folder.now c.args.disk.now bodies history _ on.rest
@@ -51,7 +51,7 @@ returns-in-Ok-write_change-clause-changed g c = λ bodies history on.
     let some : length c.in_ok-prepared.prepared.changes.items ≡ 0 → ⊥ = search rules in
     moved_on m n old c.args.folder.now c.args.disk.now bodies history on next changes are _ c.write_change.new.folder c.write_change.new.disk body (some_changed c.in_ok-prepared.prepared.changes.items some) body_is
     (edit_holds files changes old.months c.months_after-in-Ok-write_change.result c.args.edit c.in_ok-prepared.prepared.files.items c.in-Ok.rows.items (c.in-Ok.ensures.rows ∙ ap (λ (m : Months). m.rows) c.replace-files.ensures.value)
-    (ap (λ v. v.items) c.months_after-in-Ok-write_change.ensures.files) c.months_after-in-Ok-write_change.ensures.rows (is.files files on.months) (is.rows files on.months))
+    (ap (λ v. v.items) (c.months_after-in-Ok-write_change.ensures.files ∙ c.into_files-in-Ok-write_change.ensures)) c.months_after-in-Ok-write_change.ensures.rows (is.files files on.months) (is.rows files on.months))
     (c.in-Ok-write_change.ensures.replaced on.rest.tells)
     (c.in-Ok-write_change.ensures.done bodies history _ (change_ready m n old c.args.folder.now c.args.disk.now bodies history on next changes are body body_is is.named))
 
