@@ -2,6 +2,7 @@ mod filters;
 mod modifiers;
 
 use std::alloc::Global;
+use std::collections::BTreeSet;
 use std::test::Fail;
 use tw_filter::{
     BadWord, Filter, FilterError, Looks, View, WordKind, chosen_of, number_in, read_filter, select,
@@ -149,13 +150,13 @@ fn are_names(words: &Vec<String>, plain: u64) -> bool {
     !words.is_empty() && words.len() as u64 <= plain
 }
 
-// The tasks that are selected. Words that only name tasks look at no others.
+// The tasks that are selected, where so many were looked at as are meant: words that only name tasks look at no others.
 fn selected(
     alloc: Global,
     filter: &Filter,
     names_alone: bool,
     view: &View<'_>,
-) -> Result<Vec<Uuid>, Fail> {
+) -> Result<Option<Vec<Uuid>>, Memory> {
     let mut looks = Looks::new();
     let uuids = select(alloc, filter, view, &mut looks)?;
     let looked = if names_alone {
@@ -163,10 +164,33 @@ fn selected(
     } else {
         u128::from(view.tasks.len())
     };
-    if looks.taken() != looked {
-        return Err("another count of looks")?;
+    if looks.taken() == looked {
+        Ok(Some(uuids))
+    } else {
+        Ok(None)
     }
-    Ok(uuids)
+}
+
+// The last digits of the tasks for which a filter holds alone.
+fn digits_alone(alloc: Global, filter: &Filter, view: &View<'_>) -> Result<String, Fail> {
+    let mut digits = String::new(alloc);
+    for (number, _) in TASKS {
+        if holds_alone(filter, view, uuid_ending(number)) {
+            digits.push(char::from_digit(u32::from(number), 10).ok_or("no digit")?)?;
+        }
+    }
+    Ok(digits)
+}
+
+// Whether each task is among the chosen where the filter holds for it alone.
+fn are_those_alone(chosen: &BTreeSet<Uuid>, filter: &Filter, view: &View<'_>) -> bool {
+    for (number, _) in TASKS {
+        let uuid = uuid_ending(number);
+        if holds_alone(filter, view, uuid) != chosen.contains(&uuid) {
+            return false;
+        }
+    }
+    true
 }
 
 // The last digits of the tasks that are selected, each of which is held alone too.
@@ -176,17 +200,14 @@ fn digits_of(
     names_alone: bool,
     view: &View<'_>,
 ) -> Result<String, Fail> {
-    let uuids = selected(alloc, filter, names_alone, view)?;
+    let uuids = selected(alloc, filter, names_alone, view)?.ok_or("another count of looks")?;
     let chosen = chosen_of(alloc, &uuids)?;
-    let mut digits = String::new(alloc);
-    for (number, _) in TASKS {
-        let holds = holds_alone(filter, view, uuid_ending(number));
-        if holds != chosen.contains(&uuid_ending(number)) {
-            return Err("another answer alone")?;
-        }
-        if holds {
-            digits.push(char::from_digit(u32::from(number), 10).ok_or("no digit")?)?;
-        }
+    if !are_those_alone(&chosen, filter, view) {
+        return Err("another answer alone")?;
+    }
+    let digits = digits_alone(alloc, filter, view)?;
+    if digits.len() != uuids.len() {
+        return Err("a uuid without a task")?;
     }
     Ok(digits)
 }
@@ -226,38 +247,71 @@ fn answer_to(
     }
 }
 
-// The answer to a row, and the one that is wanted.
-fn row_of<'a>(
+// The zone's rule, the words and the answer of a row.
+fn parts_of(row: &str) -> Option<(&str, &str, &str)> {
+    let mut fields = row.split('|');
+    Some((fields.next()?, fields.next()?, fields.next()?))
+}
+
+// The answer to words of a row.
+fn answer_in(
     alloc: Global,
-    row: &'a str,
+    rule: &str,
+    words: &str,
     tasks: &Tasks,
     numbers: &Vec<Option<Uuid>>,
-) -> Result<(String, &'a str), Fail> {
-    let mut fields = row.split('|');
-    let zone = Zone::read(fields.next().ok_or("no zone")?).or(Err("no zone"))?;
-    let (words, plain) = words_of(alloc, fields.next().ok_or("no words")?)?;
-    let want = fields.next().ok_or("no answer")?;
+) -> Result<String, Fail> {
+    let zone = Zone::read(rule).or(Err("no zone"))?;
+    let (words, plain) = words_of(alloc, words)?;
     let view = View {
         tasks,
         numbers,
         now: now(),
         zone: &zone,
     };
-    Ok((answer_to(alloc, &words, plain, &view)?, want))
+    answer_to(alloc, &words, plain, &view)
+}
+
+fn is_answered(
+    alloc: Global,
+    row: &str,
+    tasks: &Tasks,
+    numbers: &Vec<Option<Uuid>>,
+) -> Result<bool, Fail> {
+    match parts_of(row) {
+        Some((rule, words, want)) => {
+            Ok(answer_in(alloc, rule, words, tasks, numbers)?.as_str() == want)
+        }
+        None => Ok(false),
+    }
+}
+
+// The first of these rows that is answered otherwise.
+fn other_of(
+    alloc: Global,
+    rows: &'static str,
+    tasks: &Tasks,
+    numbers: &Vec<Option<Uuid>>,
+) -> Result<Option<&'static str>, Fail> {
+    for row in rows.split('\n') {
+        if !is_answered(alloc, row, tasks, numbers)? {
+            return Ok(Some(row));
+        }
+    }
+    Ok(None)
+}
+
+fn other_answer(alloc: Global, rows: &'static str) -> Result<Option<&'static str>, Fail> {
+    let tasks = made_tasks(alloc)?;
+    let numbers = made_places(alloc)?;
+    other_of(alloc, rows, &tasks, &numbers)
 }
 
 #[test]
 fn words_and_filters_select_what_another_reading_does(rt: HostRuntime) -> Result<(), Fail> {
     let alloc = rt.alloc();
-    let tasks = made_tasks(alloc)?;
-    let numbers = made_places(alloc)?;
-    for row in modifiers::WORDS
-        .split('\n')
-        .chain(filters::FILTERS.split('\n'))
-    {
-        let (got, want) = row_of(alloc, row, &tasks, &numbers)?;
-        assert_eq!(rt; got.as_str(), want, "at {row}");
-    }
+    assert_eq!(rt; other_answer(alloc, modifiers::WORDS)?, None);
+    assert_eq!(rt; other_answer(alloc, filters::FILTERS)?, None);
     Ok(())
 }
 
@@ -300,16 +354,31 @@ fn answer_in_utc(alloc: Global, words: &Vec<String>) -> Result<String, Fail> {
     answer_to(alloc, words, words.len() as u64, &view)
 }
 
+fn are_answered(alloc: Global, words: &Vec<String>, want: &str) -> Result<bool, Fail> {
+    Ok(answer_in_utc(alloc, words)?.as_str() == want)
+}
+
+// Whether words of five thousand tasks are answered, and those that end in a mark.
+fn is_long_answered(alloc: Global) -> Result<bool, Fail> {
+    let whole = are_answered(alloc, &many(alloc, &[])?, "1234579")?;
+    let broken = are_answered(alloc, &many(alloc, &["or"])?, "End 10001")?;
+    Ok(whole && broken)
+}
+
+// The first depth that is answered otherwise.
+fn other_depth(alloc: Global) -> Result<Option<u64>, Fail> {
+    for (depth, want) in [(1, "3"), (100, "3"), (101, "Bracket 100")] {
+        if !are_answered(alloc, &nested(alloc, depth)?, want)? {
+            return Ok(Some(depth));
+        }
+    }
+    Ok(None)
+}
+
 #[test]
 fn ten_thousand_words_and_a_hundred_brackets_are_read(rt: HostRuntime) -> Result<(), Fail> {
     let alloc = rt.alloc();
-    for (behind, want) in [([].as_slice(), "1234579"), (&["or"], "End 10001")] {
-        let words = many(alloc, behind)?;
-        assert_eq!(rt; answer_in_utc(alloc, &words)?.as_str(), want);
-    }
-    for (depth, want) in [(1, "3"), (100, "3"), (101, "Bracket 100")] {
-        let words = nested(alloc, depth)?;
-        assert_eq!(rt; answer_in_utc(alloc, &words)?.as_str(), want, "at {depth}");
-    }
+    assert!(rt; is_long_answered(alloc)?);
+    assert_eq!(rt; other_depth(alloc)?, None);
     Ok(())
 }

@@ -268,6 +268,8 @@ pub const WORDS: &str = "|description:milk|8
 |2|
 |6|
 |8|6
+|5|
+|1-8|12369
 |9|
 |0|
 |01|3
