@@ -1,5 +1,4 @@
 pub mod Newlines
-pub mod Tables
 pub mod Slashes
 pub mod Spaces
 pub mod Utf8

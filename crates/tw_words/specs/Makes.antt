@@ -3,9 +3,9 @@ use Rattle.std.specs.Prelude.{◌≡◌, ◌+◌, drop, Bool, ℕ, Result, Ok, E
 use Rattle.tw_filter.specs.declared.bad_word.WordKind.{WordKind}
 use Rattle.tw_filter.specs.Holds.{Scene}
 use Rattle.tw_words.specs.Changed.{Draft, with_words}
-use Rattle.tw_words.specs.Modifications.{number_at}
+use Rattle.tw_words.specs.Gives.{Refuses as RefusesWords}
 use Rattle.tw_words.specs.Lines.{Parts}
-use Rattle.tw_words.specs.declared.word_error.WordError.TheVariants as error
+use Rattle.tw_words.specs.declared.word_error.WordError.{WordError}
 use Rattle.tw_words.specs.declared.kind_error.KindError.{KindError}
 use Rattle.tw_words.specs.declared.kind_error.KindError.TheVariants.{Bad, Memory}
 
@@ -18,8 +18,12 @@ abbrev pub Makes : {X : Type 0} → Result (Unit {0}) KindError → Result X Wor
 Makes (Ok done) wanted made = wanted ≡ Ok made
 Makes (Err e) wanted made = Refuses e wanted
 
+-- what words make is what is wanted, unless memory ran out
+abbrev pub MakesAll : {X : Type 0} → Result (Unit {0}) WordError → Result X WordError → (made : X) → Type 0
+MakesAll (Ok done) wanted made = wanted ≡ Ok made
+MakesAll (Err e) wanted made = RefusesWords e wanted
+
 -- a word of a line was taken, so that those behind it are to be taken, or it is the first that is wrong, or memory ran out
-abbrev pub Takes : Scene → (sole : Bool) → Parts → ℕ → Result (Unit {0}) KindError → (old new : Draft) → Type 0
+abbrev pub Takes : Scene → (sole : Bool) → Parts → ℕ → Result (Unit {0}) WordError → (old new : Draft) → Type 0
 Takes scene sole line n (Ok done) old new = with_words scene sole line old n (drop n line.words) ≡ with_words scene sole line new (n + 1) (drop (n + 1) line.words)
-Takes scene sole line n (Err (Bad kind)) old new = with_words scene sole line old n (drop n line.words) ≡ Err (error.Bad (record { word = number_at line n; kind = kind }))
-Takes scene sole line n (Err Memory) old new = Unit {0}
+Takes scene sole line n (Err e) old new = RefusesWords e (with_words scene sole line old n (drop n line.words))

@@ -5,6 +5,7 @@ use Rattle.tw_time.specs.Moments.{TimeZone}
 use Rattle.tw_model.specs.Maps.{same_bytes}
 use Rattle.tw_time.specs.Moments.{moment}
 use Rattle.tw_time.specs.Lengths.{duration}
+use Rattle.tw_time.specs.Tables.{look_up}
 use Rattle.tw_time.specs.declared.error.DateError.{DateError}
 use Rattle.tw_time.specs.declared.length.Length.{Length}
 use Rattle.tw_filter.specs.Attributes.{is_priority, pair_in}
@@ -28,17 +29,33 @@ use Rattle.tw_words.specs.declared.named_task.Named.TheVariants.{Task, Number}
 
 -- ---- words
 
--- the field that words set by a name; a new task alone may recur
+-- the fields, by their names
+abbrev pub fields : List (List ℕ × Field)
+fields =
+    (codes "description", field.Description)
+    ∷ (codes "project", field.Project)
+    ∷ (codes "priority", field.Priority)
+    ∷ (codes "due", field.Moment)
+    ∷ (codes "wait", field.Moment)
+    ∷ (codes "scheduled", field.Moment)
+    ∷ (codes "until", field.Moment)
+    ∷ (codes "entry", field.Moment)
+    ∷ (codes "depends", field.Depends)
+    ∷ (codes "recur", field.Recur)
+    ∷ []
+
+abbrev pub is_recur : Field → Bool
+is_recur field.Recur = true
+is_recur _ = false
+
+-- a new task alone may recur
+abbrev pub set_by : Bool → Option Field → Option Field
+set_by adding None = None
+set_by adding (Some f) = cond (is_recur f && not adding) None (Some f)
+
+-- the field that words set by a name
 unfoldable pub field_named : Bool → List ℕ → Option Field
-field_named adding name =
-    cond (same_bytes name (codes "description")) (Some field.Description)
-    (cond (same_bytes name (codes "project")) (Some field.Project)
-    (cond (same_bytes name (codes "priority")) (Some field.Priority)
-    (cond (same_bytes name (codes "due") || same_bytes name (codes "wait") || same_bytes name (codes "scheduled") || same_bytes name (codes "until")
-    || same_bytes name (codes "entry")) (Some field.Moment)
-    (cond (same_bytes name (codes "depends")) (Some field.Depends)
-    (cond (adding && same_bytes name (codes "recur")) (Some field.Recur)
-    None)))))
+field_named adding name = set_by adding (look_up name fields)
 
 abbrev pub named_number : Option ℕ → Option Named
 named_number None = None

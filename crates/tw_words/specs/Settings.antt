@@ -51,11 +51,20 @@ known =
 unfoldable pub is_include : List ℕ → Bool
 is_include name = same_bytes name (codes "include") || starts_with nat_eq name (codes "include ")
 
--- a word for on or off
+-- the words for on and off
+abbrev pub switches : List (List ℕ × Bool)
+switches =
+    (codes "on", true)
+    ∷ (codes "yes", true)
+    ∷ (codes "1", true)
+    ∷ (codes "off", false)
+    ∷ (codes "no", false)
+    ∷ (codes "0", false)
+    ∷ []
+
+-- whether a text is one of them
 unfoldable pub is_switch : List ℕ → Bool
-is_switch value =
-    same_bytes value (codes "on") || same_bytes value (codes "yes") || same_bytes value (codes "1")
-    || same_bytes value (codes "off") || same_bytes value (codes "no") || same_bytes value (codes "0")
+is_switch value = is_some (look_up value switches)
 
 abbrev pub from_1_to : ℕ → Option ℕ → Bool
 from_1_to most None = false

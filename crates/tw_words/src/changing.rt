@@ -1,9 +1,10 @@
 // What modification words make of a task: task(1), under "MODIFICATIONS".
 ghost use Rattle.std.specs.Prelude.{◌≡◌, ◌<◌, ◌+◌, length};
 ghost use Rattle.tw_filter.specs.Holds.{scene_of};
-ghost use Rattle.tw_words.specs.Changed.{changed};
+ghost use Rattle.tw_words.specs.Changed.{with_words, changed};
+ghost use Rattle.tw_words.specs.Modifications.{rest_words};
 ghost use Rattle.tw_words.specs.Gives.{Gives};
-ghost use Rattle.tw_words.specs.Makes.{Takes};
+ghost use Rattle.tw_words.specs.Makes.{MakesAll, Takes};
 
 use crate::draft::Draft;
 use crate::kind_error::KindError;
@@ -23,12 +24,35 @@ fn take_word(
     view: &View<'_>,
     sole: bool,
     n: u64,
-) -> Result<(), KindError>
+) -> Result<(), WordError>
     requires { n < length line.now.words }
     ensures { Takes (scene_of view.entry.now) sole line.now n result draft.old draft.new }
 {
     let adding = is_add(line.command);
-    draft.take(alloc, view, adding, sole, is_plain(line, n), line.word(n))
+    match draft.take(alloc, view, adding, sole, is_plain(line, n), line.word(n)) {
+        Ok(()) => Ok(()),
+        Err(KindError::Bad(kind)) => Err(WordError::Bad(BadWord {
+            word: number_at(line, n),
+            kind,
+        })),
+        Err(KindError::Memory) => Err(WordError::Memory),
+    }
+}
+
+// Takes the words behind the command's word.
+fn take_rest(
+    alloc: Global,
+    draft: &mut Draft,
+    line: &Line,
+    view: &View<'_>,
+    sole: bool,
+) -> Result<(), WordError>
+    ensures { MakesAll result (with_words (scene_of view.entry.now) sole line.now draft.old line.now.rest_from (rest_words line.now)) draft.new }
+{
+    for n in line.rest_from..line.words.len() as u64 {
+        take_word(alloc, draft, line, view, sole, n)?;
+    }
+    Ok(())
 }
 
 /// What the modification words of a line make of a task, or the first word that is wrong: task(1), under "MODIFICATIONS". The words are
@@ -44,19 +68,7 @@ pub fn changed(
 ) -> Result<TaskMap, WordError>
     ensures { Gives (λ task. task) result (changed (scene_of view.entry.now) line.now map.now) }
 {
-    let sole = tally_of(line).texts == 1;
     let mut draft = Draft::new(map.copy(alloc)?);
-    for n in line.rest_from..line.words.len() as u64 {
-        match take_word(alloc, &mut draft, line, view, sole, n) {
-            Ok(()) => {}
-            Err(KindError::Bad(kind)) => {
-                return Err(WordError::Bad(BadWord {
-                    word: number_at(line, n),
-                    kind,
-                }));
-            }
-            Err(KindError::Memory) => return Err(WordError::Memory),
-        }
-    }
+    take_rest(alloc, &mut draft, line, view, tally_of(line).texts == 1)?;
     Ok(draft.made(alloc)?)
 }

@@ -5,7 +5,7 @@ ghost use Rattle.tw_words.specs.Commands.{command_named, filtering_of, rest_of};
 use tw_time::look_up;
 
 /// A command: task(1), under "READ SUBCOMMANDS", "WRITE SUBCOMMANDS" and "MISCELLANEOUS SUBCOMMANDS".
-#[derive(Clone, Copy, Debug, PartialEq, Eq, Drop)]
+#[derive(Clone, Copy, PartialEq, Eq, Drop)]
 pub enum Command {
     /// Adds a task.
     Add,
@@ -70,7 +70,7 @@ pub enum Command {
 }
 
 /// Whether a command has a filter: task(1), under "FILTER".
-#[derive(Clone, Copy, Debug, PartialEq, Eq, Drop)]
+#[derive(Clone, Copy, Drop)]
 pub enum Filtering {
     /// No word may stand before the command.
     Nothing,
@@ -81,7 +81,7 @@ pub enum Filtering {
 }
 
 /// What the words behind a command are.
-#[derive(Clone, Copy, Debug, PartialEq, Eq, Drop)]
+#[derive(Clone, Copy, Drop)]
 pub enum Rest {
     /// More of the filter.
     Filter,
@@ -149,38 +149,38 @@ const DESCRIBES: Form = Form {
     rest: Rest::Filter,
 };
 
-// The table of commands, in the order of `Command`.
-const COMMANDS: [(&str, (Command, Form)); 30] = [
-    ("add", (Command::Add, ADDS)),
-    ("log", (Command::Log, ADDS)),
-    ("modify", (Command::Modify, CHANGES)),
-    ("append", (Command::Append, TAKES_TEXT)),
-    ("prepend", (Command::Prepend, TAKES_TEXT)),
-    ("annotate", (Command::Annotate, TAKES_TEXT)),
-    ("denotate", (Command::Denotate, TAKES_TEXT)),
-    ("done", (Command::Done, ACTS)),
-    ("delete", (Command::Delete, ACTS)),
-    ("purge", (Command::Purge, ACTS)),
-    ("start", (Command::Start, ACTS)),
-    ("stop", (Command::Stop, ACTS)),
-    ("duplicate", (Command::Duplicate, CHANGES)),
-    ("undo", (Command::Undo, STANDS_ALONE)),
-    ("sync", (Command::Sync, STANDS_ALONE)),
-    ("import", (Command::Import, READS)),
-    ("count", (Command::Count, SHOWS)),
-    ("ids", (Command::Ids, SHOWS)),
-    ("uuids", (Command::Uuids, SHOWS)),
-    ("export", (Command::Export, SHOWS)),
-    ("information", (Command::Information, DESCRIBES)),
-    ("projects", (Command::Projects, SHOWS)),
-    ("tags", (Command::Tags, SHOWS)),
-    ("list", (Command::List, SHOWS)),
-    ("next", (Command::Next, SHOWS)),
-    ("all", (Command::All, SHOWS)),
-    ("completed", (Command::Completed, SHOWS)),
-    ("waiting", (Command::Waiting, SHOWS)),
-    ("blocked", (Command::Blocked, SHOWS)),
-    ("_generate", (Command::Generate, MAKES)),
+// The words of commands.
+const COMMANDS: [(&str, Command); 30] = [
+    ("add", Command::Add),
+    ("log", Command::Log),
+    ("modify", Command::Modify),
+    ("append", Command::Append),
+    ("prepend", Command::Prepend),
+    ("annotate", Command::Annotate),
+    ("denotate", Command::Denotate),
+    ("done", Command::Done),
+    ("delete", Command::Delete),
+    ("purge", Command::Purge),
+    ("start", Command::Start),
+    ("stop", Command::Stop),
+    ("duplicate", Command::Duplicate),
+    ("undo", Command::Undo),
+    ("sync", Command::Sync),
+    ("import", Command::Import),
+    ("count", Command::Count),
+    ("ids", Command::Ids),
+    ("uuids", Command::Uuids),
+    ("export", Command::Export),
+    ("information", Command::Information),
+    ("projects", Command::Projects),
+    ("tags", Command::Tags),
+    ("list", Command::List),
+    ("next", Command::Next),
+    ("all", Command::All),
+    ("completed", Command::Completed),
+    ("waiting", Command::Waiting),
+    ("blocked", Command::Blocked),
+    ("_generate", Command::Generate),
 ];
 
 /// The command that a word names.
@@ -188,24 +188,50 @@ const COMMANDS: [(&str, (Command, Form)); 30] = [
 pub(crate) fn command_named(word: &str) -> Option<Command>
     ensures { result ≡ command_named word.now }
 {
-    match look_up(word.as_bytes(), &COMMANDS) {
-        Some((command, _)) => Some(command),
-        None => None,
-    }
+    look_up(word.as_bytes(), &COMMANDS)
 }
 
 impl Command {
+    fn form(self) -> Form
+        ensures { result ≡ record { filtering = filtering_of self; rest = rest_of self } }
+    {
+        match self {
+            Command::Add | Command::Log => ADDS,
+            Command::Modify | Command::Duplicate => CHANGES,
+            Command::Append | Command::Prepend | Command::Annotate | Command::Denotate =>
+                TAKES_TEXT,
+            Command::Done | Command::Delete | Command::Purge | Command::Start | Command::Stop =>
+                ACTS,
+            Command::Undo | Command::Sync => STANDS_ALONE,
+            Command::Import => READS,
+            Command::Count
+            | Command::Ids
+            | Command::Uuids
+            | Command::Export
+            | Command::Projects
+            | Command::Tags
+            | Command::List
+            | Command::Next
+            | Command::All
+            | Command::Completed
+            | Command::Waiting
+            | Command::Blocked => SHOWS,
+            Command::Information => DESCRIBES,
+            Command::Generate => MAKES,
+        }
+    }
+
     /// Whether it has a filter.
     pub fn filtering(self) -> Filtering
         ensures { result ≡ filtering_of self }
     {
-        COMMANDS[self as usize].1.1.filtering
+        self.form().filtering
     }
 
     /// What the words behind it are.
     pub fn rest(self) -> Rest
         ensures { result ≡ rest_of self }
     {
-        COMMANDS[self as usize].1.1.rest
+        self.form().rest
     }
 }

@@ -4,7 +4,8 @@ ghost use Rattle.std.specs.Option.{option_copied};
 ghost use Rattle.std.specs.Fmt.{decimal};
 ghost use Rattle.tw_model.specs.Maps.{set_at};
 ghost use Rattle.tw_filter.specs.Holds.{scene_of};
-ghost use Rattle.tw_words.specs.Changed.{set_to, given, with_task, with_value, without_value, with_pair, with_text, tag_or_pair, with_word, with_description, made, beginning};
+ghost use Rattle.tw_time.specs.Moments.{moment};
+ghost use Rattle.tw_words.specs.Changed.{set_to, given, with_task, dated, with_value, without_value, with_pair, with_text, tag_or_pair, with_word, with_description, made, beginning};
 ghost use Rattle.tw_words.specs.Modifications.{tag_of};
 ghost use Rattle.tw_words.specs.Makes.{Makes};
 
@@ -22,12 +23,23 @@ use tw_time::read_moment;
 use tw_world::Memory;
 
 /// A task that is being modified, with the texts of its description so far.
-#[derive(Drop)]
 pub(crate) struct Draft {
     task: TaskMap,
     joined: Option<String>,
     given: Option<String>,
     by_words: bool,
+}
+
+// It is written out, so that a caller does not prove again how each part is dropped.
+impl Drop for Draft {
+    fn drop(self) {
+        let Draft {
+            task: _,
+            joined: _,
+            given: _,
+            by_words: _,
+        } = self;
+    }
 }
 
 impl Model for Draft {
@@ -93,6 +105,25 @@ impl Draft {
         self.task.set(alloc, name, Some(text.as_str()))
     }
 
+    // Puts in the moment that a value tells.
+    fn set_date(
+        &mut self,
+        alloc: Global,
+        view: &View<'_>,
+        name: &str,
+        value: &str,
+    ) -> Result<(), KindError>
+        ensures { Makes result (dated (scene_of view.entry.now) self.old name.now (moment value.now (scene_of view.entry.now).now (scene_of view.entry.now).tz)) self.new }
+    {
+        match read_moment(value, view.now.seconds, view.zone) {
+            Ok(at) => {
+                self.set_moment(alloc, name, at)?;
+                Ok(())
+            }
+            Err(_) => Err(KindError::Bad(WordKind::Date)),
+        }
+    }
+
     // Puts in a value that is not empty and is known to be right.
     fn put_value(
         &mut self,
@@ -109,13 +140,7 @@ impl Draft {
                 self.give(alloc, value)?;
                 Ok(())
             }
-            Field::Moment => {
-                match read_moment(value, view.now.seconds, view.zone) {
-                    Ok(at) => self.set_moment(alloc, name, at)?,
-                    Err(_) => return Err(KindError::Bad(WordKind::Date)),
-                }
-                Ok(())
-            }
+            Field::Moment => self.set_date(alloc, view, name, value),
             Field::Depends => put_items(alloc, &mut self.task, view, value),
             _ => {
                 self.set(alloc, name, Some(value))?;

@@ -3,8 +3,9 @@ ghost use Rattle.std.specs.Prelude.{◌≡◌, ◌<◌, map, string_bytes, optio
 ghost use Rattle.tw_words.specs.Modifications.{first_of};
 ghost use Rattle.tw_words.specs.Clocks.{clock_of};
 ghost use Rattle.tw_words.specs.Commands.{filtering_of, rest_of};
-ghost use Rattle.tw_words.specs.Faults.{filter_fault, lacks_change, lacks_by, lacks_filter, at_command, lack_fault, at_rest, if_there, no_dash, no_amount, no_seed, extra_at, dash_fault, numbers_fault, rest_fault, fault_of, line_in, placed, filter_by, judged};
+ghost use Rattle.tw_words.specs.Faults.{filter_fault, lacks_change, lacks_by, lacks_filter, at_command, lack_fault, at_rest, if_there, no_dash, no_amount, no_seed, extra_at, dash_fault, numbers_fault, rest_fault, fault_of, line_in, placed, placed_filter, filter_by, judged};
 ghost use Rattle.tw_filter.specs.Gives.{Gives as GivesFilter};
+ghost use Rattle.tw_filter.specs.Grammar.{filter_in};
 ghost use Rattle.tw_words.specs.Gives.{Gives};
 
 use crate::clock::Clock;
@@ -211,13 +212,10 @@ fn placed(line: &Line, bad: BadWord) -> BadWord
     }
 }
 
-// The filter of a line, whose words have their numbers among the words taken.
-fn filter_of(alloc: Global, line: &Line, now: Moment, zone: &Zone) -> Result<Filter, FilterError>
-    ensures { GivesFilter (λ filter. filter) result (filter_by (filtering_of line.now.command) line.now now.seconds zone.now) }
+// The filter of the words before the command's word, or of all.
+fn filter_in(alloc: Global, line: &Line, now: Moment, zone: &Zone) -> Result<Filter, FilterError>
+    ensures { GivesFilter (λ filter. filter) result (placed_filter line.now (filter_in line.now.words line.now.filter_from line.now.filter_to line.now.plain_from now.seconds zone.now)) }
 {
-    if line.command.filtering() == Filtering::Nothing {
-        return Ok(Filter::all(alloc));
-    }
     match read_filter(
         alloc,
         &line.words,
@@ -230,6 +228,16 @@ fn filter_of(alloc: Global, line: &Line, now: Moment, zone: &Zone) -> Result<Fil
         Ok(filter) => Ok(filter),
         Err(FilterError::Bad(bad)) => Err(FilterError::Bad(placed(line, bad))),
         Err(FilterError::Memory) => Err(FilterError::Memory),
+    }
+}
+
+// The filter of a line, whose words have their numbers among the words taken.
+fn filter_of(alloc: Global, line: &Line, now: Moment, zone: &Zone) -> Result<Filter, FilterError>
+    ensures { GivesFilter (λ filter. filter) result (filter_by (filtering_of line.now.command) line.now now.seconds zone.now) }
+{
+    match line.command.filtering() {
+        Filtering::Nothing => Ok(Filter::all(alloc)),
+        _ => filter_in(alloc, line, now, zone),
     }
 }
 

@@ -10,7 +10,7 @@ use tw_time::look_up;
 use tw_urgency::read_uuid;
 
 /// What the value of a setting is: taskrc(5), under "CONFIGURATION VARIABLES".
-#[derive(Clone, Copy, Debug, PartialEq, Eq, Drop)]
+#[derive(Clone, Copy, Drop)]
 pub(crate) enum Kind {
     /// `on`, `yes` or `1`; `off`, `no` or `0`.
     Switch,
@@ -61,15 +61,22 @@ fn is_include(name: &str) -> bool
     name == "include" || name.as_bytes().starts_with(b"include ")
 }
 
-// Whether a text is a word for on or off.
+// The words for on and off.
+const SWITCHES: [(&str, bool); 6] = [
+    ("on", true),
+    ("yes", true),
+    ("1", true),
+    ("off", false),
+    ("no", false),
+    ("0", false),
+];
+
+// Whether a text is one of them.
 #[tactic(auto, unfolding(crate::specs::Settings::is_switch))]
 fn is_switch(value: &str) -> bool
     ensures { result ≡ is_switch value.now }
 {
-    match value {
-        "on" | "yes" | "1" | "off" | "no" | "0" => true,
-        _ => false,
-    }
+    look_up(value.as_bytes(), &SWITCHES).is_some()
 }
 
 fn is_number_to(most: u64, value: &str) -> bool

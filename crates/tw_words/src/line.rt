@@ -14,7 +14,6 @@ use tw_text::read_u64;
 use tw_world::{Memory, Text};
 
 /// The parts of a command line: task(1), under "SYNOPSIS". Overrides, the command's word and `--` are no words of it.
-#[derive(Drop)]
 pub struct Line {
     /// The command that the first such word before `--` names, and `next` where none does.
     pub command: Command,
@@ -33,6 +32,23 @@ pub struct Line {
     pub places: Vec<u64>,
     /// The names and values of `rc.name:value` and `rc.name=value` before `--`.
     pub overrides: Vec<(Text, Text)>,
+}
+
+// It is written out, so that a caller does not prove again how each part is dropped.
+impl Drop for Line {
+    fn drop(self) {
+        let Line {
+            command: _,
+            place: _,
+            filter_from: _,
+            filter_to: _,
+            rest_from: _,
+            plain_from: _,
+            words: _,
+            places: _,
+            overrides: _,
+        } = self;
+    }
 }
 
 impl Model for Line {
@@ -79,7 +95,6 @@ impl Line {
 }
 
 // What is taken of a line.
-#[derive(Drop)]
 struct Taken {
     command: Option<Command>,
     place: u64,
@@ -88,6 +103,21 @@ struct Taken {
     words: Vec<String>,
     places: Vec<u64>,
     overrides: Vec<(Text, Text)>,
+}
+
+// It is written out, so that a caller does not prove again how each part is dropped.
+impl Drop for Taken {
+    fn drop(self) {
+        let Taken {
+            command: _,
+            place: _,
+            before: _,
+            plain: _,
+            words: _,
+            places: _,
+            overrides: _,
+        } = self;
+    }
 }
 
 impl Model for Taken {
@@ -217,24 +247,33 @@ impl Taken {
     fn line(self) -> Line
         ensures { result ≡ line_by self self.command }
     {
-        let all = self.words.len() as u64;
-        let (command, to) = match self.command {
+        let Taken {
+            command,
+            place,
+            before,
+            plain,
+            words,
+            places,
+            overrides,
+        } = self;
+        let all = words.len() as u64;
+        let (command, to) = match command {
             None => (Command::Next, all),
-            Some(command) => (command, filter_end(command.rest(), self.before, all)),
+            Some(command) => (command, filter_end(command.rest(), before, all)),
         };
         Line {
             command,
-            place: self.place,
+            place,
             filter_from: 0,
             filter_to: to,
             rest_from: to,
-            plain_from: match self.plain {
+            plain_from: match plain {
                 Some(n) => n,
                 None => all,
             },
-            words: self.words,
-            places: self.places,
-            overrides: self.overrides,
+            words,
+            places,
+            overrides,
         }
     }
 }

@@ -7,7 +7,7 @@ use tw_filter::{cut_part, number_in, uuid_of_36};
 use uuid::Uuid;
 
 /// A task, by its uuid or its number.
-#[derive(Clone, Copy, Debug, PartialEq, Eq, Drop)]
+#[derive(Clone, Copy, Drop)]
 pub(crate) enum Named {
     Task(Uuid),
     Number(u64),

@@ -3,7 +3,8 @@ ghost use Rattle.std.specs.Prelude.{◌≡◌, ◌∷◌, ◌++◌, [], option_m
 ghost use Rattle.std.specs.Option.{option_copied};
 ghost use Rattle.tw_filter.specs.Cuts.{parts};
 ghost use Rattle.tw_words.specs.Gives.{Gives};
-ghost use Rattle.tw_words.specs.Settings.{with_setting, lines_from, settings_in, value_of};
+ghost use Rattle.tw_words.specs.Makes.{MakesAll};
+ghost use Rattle.tw_words.specs.Settings.{with_setting, lines_from, overridden, settings_in, value_of};
 
 use crate::setting::{allowed, cut_line, setting_in, trimmed};
 use crate::word_error::WordError;
@@ -53,11 +54,10 @@ fn push_setting(
     }
 }
 
-// What the lines of a text set.
-fn read_lines(alloc: Global, bytes: &[u8]) -> Result<Vec<(Text, Text)>, WordError>
-    ensures { Gives (λ pairs. pairs.items) result (lines_from 1 [] (parts 10 bytes.now)) }
+// Adds what the lines of a text set.
+fn read_lines(alloc: Global, pairs: &mut Vec<(Text, Text)>, bytes: &[u8]) -> Result<(), WordError>
+    ensures { MakesAll result (lines_from 1 pairs.old.items (parts 10 bytes.now)) pairs.new.items }
 {
-    let mut pairs = Vec::new(alloc);
     let mut number = 1;
     let mut left = Some(bytes);
     while let Some(text) = left {
@@ -65,11 +65,28 @@ fn read_lines(alloc: Global, bytes: &[u8]) -> Result<Vec<(Text, Text)>, WordErro
         let Some(set) = setting_in(line) else {
             return Err(WordError::Setting { line: number });
         };
-        push_setting(alloc, &mut pairs, set)?;
+        push_setting(alloc, pairs, set)?;
         number += 1;
         left = rest;
     }
-    Ok(pairs)
+    Ok(())
+}
+
+// Adds what overrides set.
+fn read_overrides(
+    alloc: Global,
+    pairs: &mut Vec<(Text, Text)>,
+    overrides: &Vec<(Text, Text)>,
+) -> Result<(), WordError>
+    ensures { MakesAll result (overridden pairs.old.items overrides.now.items) pairs.new.items }
+{
+    for (name, value) in overrides {
+        let Some((name, value)) = allowed(trimmed(name.as_str()), trimmed(value.as_str())) else {
+            return Err(WordError::Setting { line: 0 });
+        };
+        push_pair(alloc, pairs, name, value)?;
+    }
+    Ok(())
 }
 
 /// The settings that lines and overrides give, or the first that is no setting: a line by its number from 1, and an override, which is
@@ -81,16 +98,9 @@ pub fn read_settings(
 ) -> Result<Settings, WordError>
     ensures { Gives (λ settings. settings) result (settings_in bytes.now overrides.now.items) }
 {
-    let mut pairs = match read_lines(alloc, bytes) {
-        Ok(pairs) => pairs,
-        Err(error) => return Err(error),
-    };
-    for (name, value) in overrides {
-        let Some((name, value)) = allowed(trimmed(name.as_str()), trimmed(value.as_str())) else {
-            return Err(WordError::Setting { line: 0 });
-        };
-        push_pair(alloc, &mut pairs, name, value)?;
-    }
+    let mut pairs = Vec::new(alloc);
+    read_lines(alloc, &mut pairs, bytes)?;
+    read_overrides(alloc, &mut pairs, overrides)?;
     Ok(Settings { pairs })
 }
 
