@@ -1,5 +1,5 @@
 -- Taking the pending operations of a whole state, those of one command at a time.
-use Rattle.std.proofs.Common.{◌≡◌, ⊎_elim, ℕ, zero, suc, ◌+◌, ◌-◌, ◌<◌, ◌≤◌, Bool, true, false, cond, ◌&&◌, List, [], ◌∷◌, ◌++◌, length, drop, Option, Some, None, refl, sym, ap, subst, ◌∙◌, append_assoc, arith}
+use Rattle.std.proofs.Common.{◌≡◌, ⊎_elim, ℕ, zero, suc, ◌-◌, ◌<◌, ◌≤◌, Bool, true, false, cond, ◌&&◌, List, [], ◌∷◌, ◌++◌, length, drop, Option, Some, None, refl, sym, ap, subst, ◌∙◌, append_assoc, arith}
 use Rattle.std.specs.Prelude.{◌⊎◌, ◌==◌, is_none}
 use Rattle.std.proofs.lemmas.List.{append-nil}
 use Rattle.std.proofs.lemmas.Option.{same_Some}
@@ -10,7 +10,7 @@ use Rattle.tw_model.specs.declared.Op.TheVariants.{Create, Delete, Update, UndoP
 use Rattle.tw_fields.specs.declared.read.ReadError.{ReadError}
 use Rattle.tw_replica.specs.Body.{is_undo_point, has_no_point, is_group}
 use Rattle.tw_replica.specs.Reading.{task_at, create_at, delete_at, update_at, op_at}
-use Rattle.tw_fields.specs.Reading.{◌>>=◌, Fails, text_at, option_at, moment_at, uuid_at, many_at, with_front}
+use Rattle.tw_fields.specs.Reading.{Fails, text_at, option_at, moment_at, uuid_at, many_at, with_front}
 use Rattle.tw_replica.specs.State.{misfit, begins_with_point}
 use Rattle.tw_replica.specs.Restoring.{begins_a_command, ReadsCommand, TakesPending}
 use Rattle.tw_fields.proofs.Loop.{goes_on, ends}

@@ -1,26 +1,24 @@
 -- One record of the whole state in place of many records.
 use Rattle.std.specs.Prelude.{nat_le}
-use Rattle.std.proofs.Common.{◌≡◌, ◌⊎◌, inl, inr, ℕ, ◌+◌, ◌-◌, ◌^◌, ◌<◌, ◌≤◌, Bool, true, false, cond, ◌&&◌, List, [], ◌∷◌, ◌++◌, length, drop, Option, Some, None, refl, sym, ap, subst, ◌∙◌, ⊎_elim, arith}
-use Rattle.std.proofs.lemmas.Bool.{leb-true, le-leb}
+use Rattle.std.proofs.Common.{◌≡◌, inl, inr, ℕ, ◌+◌, ◌-◌, ◌^◌, ◌<◌, ◌≤◌, Bool, true, false, cond, ◌&&◌, List, [], ◌∷◌, length, drop, Some, refl, sym, ap, subst, ◌∙◌, ⊎_elim, arith}
+use Rattle.std.proofs.lemmas.Bool.{leb-true}
 use Rattle.std.proofs.lemmas.List.{length-append, length-drop}
 use Rattle.std.proofs.lemmas.Option.{same_Some}
-use Rattle.tw_world.specs.Disk.{DiskModel, Tells, Rose, LeavesOnly, Kept, Untouched}
+use Rattle.tw_world.specs.Disk.{DiskModel, Tells, Rose, LeavesOnly, Kept}
 use Rattle.tw_world.proofs.Moments.{CountsNow, OnlyNow, joined, weaker, started}
-use Rattle.tw_journal.specs.Form.{Records, HasRecords, has_areas, selector_in, IsSameForm}
+use Rattle.tw_journal.specs.Form.{Records, HasRecords, has_areas, IsSameForm}
 use Rattle.tw_journal.specs.Open.{IsImageThen}
 use Rattle.tw_journal.specs.Record.{rows, IsLongerBy}
 use Rattle.tw_journal.specs.Journal.{IsOpenOn, IsOpened, RecordsOrOne, AppendRefused, can_checkpoint, is_closed}
 use Rattle.tw_journal.specs.declared.journal.Journal.{Journal}
 use Rattle.tw_journal.specs.declared.error.AppendError.{AppendError}
 use Rattle.tw_journal.specs.declared.error.AppendError.TheVariants as appends
-use Rattle.tw_journal.proofs.Places.{open_records, left_records, still_open}
-use Rattle.tw_replica.specs.Body.{body_of, IsStep}
-use Rattle.tw_replica.specs.Reading.{step_of}
-use Rattle.tw_fields.specs.Reading.{◌>>=◌}
-use Rattle.tw_replica.specs.State.{State, start, applied, replayed, Stands, checkpoint}
+use Rattle.tw_journal.proofs.Places.{left_records}
+use Rattle.tw_replica.specs.Body.{IsStep}
+use Rattle.tw_replica.specs.State.{State, start, Stands, checkpoint}
 use Rattle.tw_replica.specs.Sound.{IsSound}
 use Rattle.tw_replica.specs.Replica.{magic, OpensTo, KeepsRecords, OpeningRefused}
-use Rattle.tw_replica.specs.Opening.{is_due, state_body, opened_bodies, IsAtMost, OpensAlike, IsOpening, ShorteningRefused, shortening_in_open}
+use Rattle.tw_replica.specs.Opening.{is_due, state_body, opened_bodies, IsAtMost, IsOpening, ShorteningRefused, shortening_in_open}
 use Rattle.tw_replica.specs.declared.opening.ShorteningError.{ShorteningError}
 use Rattle.tw_replica.specs.declared.opening.ShorteningError.TheVariants.{Disk, Memory}
 use Rattle.tw_replica.proofs.StepAgain.{step_again}

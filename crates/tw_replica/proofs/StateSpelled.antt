@@ -1,15 +1,13 @@
 -- A whole state that is read of bytes is what spells them.
-use Rattle.std.proofs.Common.{◌≡◌, ℕ, zero, suc, true, List, [], ◌∷◌, ◌++◌, length, Option, Some, None, refl, sym, ap, subst, ◌∙◌, append_assoc}
+use Rattle.std.proofs.Common.{◌≡◌, ℕ, zero, suc, List, [], ◌∷◌, ◌++◌, length, Option, Some, None, refl, sym, ap, subst, ◌∙◌, append_assoc}
 use Rattle.std.specs.List.{flat_map, AllByRecursion}
 use Rattle.std.specs.Int.{w32, to_be_bytes}
-use Rattle.std.specs.FinMap.{entries, len, len-entries, from_sorted, entries-from_sorted, is_sorted}
+use Rattle.std.specs.FinMap.{entries, len, len-entries, from_sorted, entries-from_sorted}
 use Rattle.std.proofs.lemmas.List.{append-nil}
 use Rattle.std.proofs.lemmas.Option.{same_Some, cond_some}
 use Rattle.tw_model.specs.Maps.{bytes_cmp}
 use Rattle.tw_model.specs.Ops.{TaskValue, TasksValue}
-use Rattle.tw_model.specs.Places.{Places}
-use Rattle.tw_replica.specs.Body.{Step, task_bytes, op_bytes, place_bytes, places_bytes, entry_bytes, tasks_bytes, ops_bytes, body_of, IsPlace, IsEntry, IsTask, IsOp, IsStep}
-use Rattle.tw_fields.specs.Fields.{IsUuid}
+use Rattle.tw_replica.specs.Body.{Step, task_bytes, op_bytes, place_bytes, places_bytes, entry_bytes, tasks_bytes, ops_bytes, body_of, IsPlace, IsEntry, IsOp, IsStep}
 use Rattle.tw_replica.specs.Body.Step.{Checkpoint}
 use Rattle.tw_replica.specs.Reading.{place_at, entry_at, op_at, tasks_at, checkpoint_of}
 use Rattle.tw_fields.specs.Reading.{counted_at}

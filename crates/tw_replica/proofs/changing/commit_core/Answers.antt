@@ -1,7 +1,6 @@
-use Rattle.std.proofs.Common.{◌≡◌, ◌<◌, ◌^◌, ◌++◌, ◌∙◌, List, length, sym, ap, arith}
+use Rattle.std.proofs.Common.{◌≡◌, ◌++◌, ◌∙◌, List, length, sym, ap, arith}
 use Rattle.tw_model.specs.declared.Op.{Op}
 use Rattle.tw_replica.specs.Body.{is_group}
-use Rattle.tw_replica.specs.Kept.{group_in}
 use Rattle.tw_replica.proofs.Keeping.{written_holds}
 use Rattle.tw_replica.proofs.changing.commit_core.Goals as goal
 

@@ -1,5 +1,4 @@
 use Rattle.std.proofs.Common.{◌∙◌, ◌++◌, List, ℕ, length, sym, ap, subst, ◌<◌, ◌^◌}
-use Rattle.tw_model.specs.declared.Op.{Op}
 use Rattle.tw_replica.specs.Kept.{group_in}
 use Rattle.tw_numbers.proofs.Basics.{on_ok_map}
 use Rattle.tw_replica.proofs.changing.keep_body.Goals as goal

@@ -1,10 +1,8 @@
-use Rattle.std.specs.Prelude.{nat_le}
-use Rattle.std.proofs.Common.{◌≡◌, ◌+◌, ◌^◌, ◌≤◌, ◌∷◌, [], List, ℕ, ap, arith, length, subst, sym, ◌∙◌, true, false}
+use Rattle.std.proofs.Common.{◌≡◌, ◌+◌, ◌^◌, ◌≤◌, ◌∷◌, [], List, ℕ, ap, arith, length, subst, sym, ◌∙◌}
 use Rattle.std.proofs.lemmas.Bool.{le-leb}
 use Rattle.tw_journal.specs.Journal.{IsOpenOn, RecordsOrOne}
 use Rattle.tw_world.specs.Disk.{LeavesOnly}
 use Rattle.tw_replica.specs.Core.{state_of}
-use Rattle.tw_replica.specs.State.{Stands}
 use Rattle.tw_replica.specs.Replica.{magic}
 use Rattle.tw_replica.specs.Opening.{state_body, opened_bodies}
 use Rattle.tw_replica.proofs.Shortening.{now_due, still_stands, opens_still, opens_either, grows_still, grows_once, disk_failed}

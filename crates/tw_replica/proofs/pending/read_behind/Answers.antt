@@ -1,4 +1,4 @@
-use Rattle.std.proofs.Common.{◌<◌, ◌∙◌, sym, arith}
+use Rattle.std.proofs.Common.{◌∙◌, arith}
 use Rattle.tw_replica.proofs.Keeping.{read_behind, none_behind, fewer_before, some_before}
 use Rattle.tw_replica.proofs.pending.read_behind.Goals as goal
 

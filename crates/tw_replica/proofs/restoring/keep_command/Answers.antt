@@ -1,4 +1,4 @@
-use Rattle.std.proofs.Common.{◌≡◌, ◌<◌, ◌^◌, ◌++◌, ◌∙◌, List, false, length, sym, ap, arith}
+use Rattle.std.proofs.Common.{◌≡◌, ◌++◌, ◌∙◌, List, false, length, ap, arith}
 use Rattle.tw_model.specs.declared.Op.{Op}
 use Rattle.tw_replica.specs.Kept.{group_in}
 use Rattle.tw_replica.proofs.Keeping.{written_holds}
