@@ -11,7 +11,7 @@ use Rattle.timew_store.specs.Interval.{overlaps}
 use Rattle.timew_store.specs.Placing.{front_of, back_of, left_outside, is_not_after, inserted, placed}
 use Rattle.timew_cmd.specs.declared.error.TimewError.{TimewError}
 use Rattle.timew_cmd.specs.declared.error.TimewError.TheVariants as plan
-use Rattle.timew_cmd.specs.Placing.{stands_before, stands_behind, AllBefore, AllBehind}
+use Rattle.timew_cmd.specs.Placing.{AllBefore, AllBehind}
 use Rattle.timew_cmd.specs.Planned.{numbered, without, rows_in, overlapped, later_of, unless_overlapped, place, Fails}
 use Rattle.timew_cmd.proofs.AllRows.{all_rows}
 

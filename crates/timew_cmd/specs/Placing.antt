@@ -1,5 +1,5 @@
 -- Intervals on both sides of one that is placed.
-use Rattle.std.specs.Prelude.{◌≡◌, Bool, true, not, ◌&&◌, List, Result, Ok, Err, ◌++◌}
+use Rattle.std.specs.Prelude.{◌≡◌, Bool, true, not, ◌&&◌, List}
 use Rattle.std.specs.List.{AllByRecursion}
 use Rattle.timew_store.specs.declared.interval.Interval.{Interval}
 use Rattle.timew_store.specs.Interval.{overlaps}

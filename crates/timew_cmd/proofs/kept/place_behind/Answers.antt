@@ -1,4 +1,4 @@
-use Rattle.std.proofs.Common.{◌≡◌, List, [], ◌++◌, drop, sym, ap, subst, ◌∙◌, arith}
+use Rattle.std.proofs.Common.{List, [], ◌++◌, sym, ap, subst, ◌∙◌, arith}
 use Rattle.timew_store.specs.declared.interval.Interval.{Interval}
 use Rattle.timew_cmd.specs.Planned.{place, Fails}
 use Rattle.timew_cmd.proofs.PlacedAside.{behind_front, behind_fails}

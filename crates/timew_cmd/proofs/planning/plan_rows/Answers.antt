@@ -11,12 +11,12 @@ use Rattle.timew_cmd.proofs.planning.plan_rows.Goals as goal
 pub returns-in-Tag-clause-planned : goal.returns-in-Tag-clause-planned
 returns-in-Tag-clause-planned c =
     subst (λ (x : Command). Answers (λ (e : Edit). edited e c.args.rows.now) c.whole.result (planned x c.args.rows.now c.args.now)) (sym c.in-Tag.is)
-    (c.whole.ensures.next _ (subst (λ (l : List ℕ). Answers (λ (v : Vec Interval Global). v.items) c.tag.result (tagged l c.in-Tag.tags.now c.args.rows.now)) c.as_slice.ensures c.tag.ensures))
+    (c.whole.ensures.next _ (subst (λ (l : List ℕ). Answers (λ (v : Vec Interval Global). v.items) c.tag.result (tagged l c.in-Tag.tags c.args.rows.now)) c.as_slice.ensures c.tag.ensures))
 
 pub returns-in-Untag-clause-planned : goal.returns-in-Untag-clause-planned
 returns-in-Untag-clause-planned c =
     subst (λ (x : Command). Answers (λ (e : Edit). edited e c.args.rows.now) c.whole-in-Untag.result (planned x c.args.rows.now c.args.now)) (sym c.in-Untag.is)
-    (c.whole-in-Untag.ensures.next _ (subst (λ (l : List ℕ). Answers (λ (v : Vec Interval Global). v.items) c.untag.result (untagged l c.in-Untag.tags.now c.args.rows.now)) c.as_slice-in-Untag.ensures c.untag.ensures))
+    (c.whole-in-Untag.ensures.next _ (subst (λ (l : List ℕ). Answers (λ (v : Vec Interval Global). v.items) c.untag.result (untagged l c.in-Untag.tags c.args.rows.now)) c.as_slice-in-Untag.ensures c.untag.ensures))
 
 pub returns-in-Annotate-clause-planned : goal.returns-in-Annotate-clause-planned
 returns-in-Annotate-clause-planned c =
