@@ -1,30 +1,25 @@
 -- How a command ends over a store that is open.
-use Rattle.std.proofs.Common.{◌≡◌, inl, inr, ℕ, zero, suc, ◌+◌, ◌<◌, ◌≤◌, ◌^◌, true, false, List, [], ◌∷◌, ◌++◌, length, Option, Some, None, Result, Ok, Err, refl, sym, ap, subst, ◌∙◌, arith}
+use Rattle.std.proofs.Common.{◌≡◌, inl, ℕ, zero, suc, ◌+◌, ◌<◌, true, false, List, [], ◌∷◌, ◌++◌, length, Option, Some, None, Result, Ok, Err, refl, sym, ap, subst, ◌∙◌, arith}
 use Rattle.std.specs.Prelude.{slice_index_or, option_map, IsErrAnd, IfErr, Bool, if◌then◌else◌}
-use Rattle.std.proofs.lemmas.List.{append-nil, take_more}
+use Rattle.std.proofs.lemmas.List.{append-nil}
 use Rattle.tw_world.specs.Disk.{DiskModel, Rose}
 use Rattle.tw_world.specs.Disk as disk
-use Rattle.tw_world.specs.Crash.{Tells, Settled, Kept}
 use Rattle.tw_world.specs.Folder.{Files, FolderModel}
 use Rattle.tw_world.specs.Turns.{InTurns, crash_of}
 use Rattle.tw_world.specs.Turns.InTurns.{at_rest}
 use Rattle.tw_time.specs.Moments.{TimeZone}
 use Rattle.timew_store.proofs.Prepares.{opens_here}
 use Rattle.timew_store.proofs.Undoes.{rest_read}
-use Rattle.tw_world.proofs.TurnRules.{turns_weaker}
-use Rattle.tw_journal.specs.Journal.{IsOpenOn, is_closed}
-use Rattle.tw_journal.specs.declared.journal.Journal.{Journal}
-use Rattle.tw_journal.specs.declared.error.JournalError.{JournalError}
+use Rattle.tw_journal.specs.Journal.{is_closed}
 use Rattle.tw_journal.specs.declared.error.JournalError.TheVariants as fault
-use Rattle.timew_store.specs.Body.{FileChange, Step, step_of, ◌>>=◌}
+use Rattle.timew_store.specs.Body.{Step, step_of, ◌>>=◌}
 use Rattle.timew_store.specs.History.{History, start, applied, stepped, replayed}
-use Rattle.timew_store.specs.Held.{magic, Held, OpensTo, OpensToEither, IsAtRest, held_by}
+use Rattle.timew_store.specs.Held.{Held, held_by}
 use Rattle.timew_store.specs.Months.{changes_to}
 use Rattle.timew_store.specs.Rows.{rows_of}
 use Rattle.timew_store.specs.Store.{IsStoreOn, IsMovedTo, IsChangeBody, rows_kept, changed, change_bodies, ChangeRefused}
 use Rattle.timew_store.specs.Undo.{undo_bodies, IsTakenBack, OpensToEitherOf, UndoRefused}
 use Rattle.timew_store.specs.Undoing.{NoUndo, undone_held}
-use Rattle.timew_store.specs.Undoing.NoUndo.{Nothing, EditedFile, Bad}
 use Rattle.timew_store.specs.declared.interval.Interval.{Interval}
 use Rattle.timew_store.specs.declared.store.Store.{Store}
 use Rattle.timew_store.specs.declared.error.StoreError.{StoreError}
@@ -38,7 +33,7 @@ use Rattle.timew_cmd.specs.Planned.{Fails, planned}
 use Rattle.timew_cmd.specs.Texts.{stored}
 use Rattle.timew_cli.specs.Cause.{plan_cause, change_cause, undo_cause}
 use Rattle.timew_cli.specs.Carried.{Carried, changes, takes_back, count_of, shows, is_undo, is_view, view_of, shows_any, carried_by}
-use Rattle.timew_cli.specs.Run.{Outside, went, HasSize}
+use Rattle.timew_cli.specs.Run.{Outside, went}
 use Rattle.timew_cli.specs.declared.carry.Shown.{Shown}
 use Rattle.timew_cli.specs.Step.{shown_of, Rests, EndsBadly, Ends, EndsWith, IsFaultOf, Among, IsTooLong}
 use Rattle.timew_cli.specs.declared.cause.Cause.{Cause}

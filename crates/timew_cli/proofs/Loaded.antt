@@ -1,6 +1,6 @@
 -- A command over what was loaded, seen from before the loading.
-use Rattle.std.proofs.Common.{◌≡◌, inl, inr, ℕ, ◌+◌, ◌<◌, ◌≤◌, ◌^◌, true, false, List, [], ◌∷◌, ◌++◌, ◌⊎◌, length, take, Option, Some, None, Result, Ok, Err, refl, sym, ap, subst, ◌∙◌, arith}
-use Rattle.std.specs.Prelude.{slice_index_or, Bool}
+use Rattle.std.proofs.Common.{◌≡◌, inl, inr, ℕ, List, [], ◌∷◌, ◌++◌, ◌⊎◌, length, Result, Ok, Err, refl, sym, ap, subst, ◌∙◌, arith}
+use Rattle.std.specs.Prelude.{slice_index_or}
 use Rattle.std.proofs.lemmas.List.{append-nil, length-append}
 use Rattle.tw_time.specs.Moments.{TimeZone}
 use Rattle.tw_world.specs.Disk.{DiskModel, Rose}
@@ -9,17 +9,15 @@ use Rattle.tw_world.specs.Crash.{Tells, Settled, Kept}
 use Rattle.tw_world.specs.Folder.{Files, FolderModel}
 use Rattle.tw_world.specs.Turns.{InTurns, crash_of}
 use Rattle.tw_world.proofs.TurnRules.{turns_weaker, turns_joined}
-use Rattle.tw_journal.specs.Open.{Records, IsDamagedAt}
-use Rattle.tw_journal.specs.Journal.{is_closed}
-use Rattle.tw_journal.specs.declared.error.JournalError.{JournalError}
+use Rattle.tw_journal.specs.Open.{IsDamagedAt}
 use Rattle.tw_journal.specs.declared.error.JournalError.TheVariants as fault
 use Rattle.tw_journal.proofs.Unique.{one_records}
 use Rattle.timew_store.specs.Body.{FileChange, step_of}
 use Rattle.timew_store.specs.History.{History, Stands}
 use Rattle.timew_store.specs.Held.{magic, Held, OpensTo, IsAtRest, held_by}
-use Rattle.timew_store.specs.Loading.{OpensAlike, OpeningRefused, IsNoStep, EndsInNoStep, HoldsNoStep, StillOpen}
+use Rattle.timew_store.specs.Loading.{OpensAlike, HoldsNoStep, StillOpen}
 use Rattle.timew_store.specs.Rows.{rows_of}
-use Rattle.timew_store.specs.Store.{IsStoreOn, IsLoadedStore, LoadRefused, IsLoadFault, LoadSparesDisk, RestHolding, rows_kept}
+use Rattle.timew_store.specs.Store.{IsStoreOn, IsLoadedStore, LoadRefused, IsLoadFault, LoadSparesDisk, rows_kept}
 use Rattle.timew_store.specs.declared.interval.Interval.{Interval}
 use Rattle.timew_store.specs.declared.store.Store.{Store}
 use Rattle.timew_store.specs.declared.error.LoadError.{LoadError}
@@ -27,10 +25,10 @@ use Rattle.timew_store.specs.declared.error.LoadError.TheVariants as load
 use Rattle.timew_store.proofs.Prepares.{opens_here}
 use Rattle.timew_store.proofs.Stays.{MayStay, DiskMayStay}
 use Rattle.timew_cmd.specs.declared.command.Command.{Command}
-use Rattle.timew_cli.specs.Cause.{load_cause, journal_cause}
+use Rattle.timew_cli.specs.Cause.{load_cause}
 use Rattle.timew_cli.specs.Carried.{Carried, carried_by, carried_out, with_rows}
-use Rattle.timew_cli.specs.Run.{Outside, went, HasSize, HoldsNoStepAt, Opens, HoldsMore, Does, CarriedOut, Refused, PassesLimit, NotCarried, CanBeCarriedOut, LeavesOf, LeavesStates}
-use Rattle.timew_cli.specs.Step.{Rests, EndsBadly, Ends, EndsWith, IsFaultOf, Among, IsTooLong}
+use Rattle.timew_cli.specs.Run.{Outside, went, HasSize, HoldsNoStepAt, Opens, HoldsMore, Does, CarriedOut, PassesLimit, NotCarried, CanBeCarriedOut, LeavesOf, LeavesStates}
+use Rattle.timew_cli.specs.Step.{Rests, EndsBadly, EndsWith, IsFaultOf, Among, IsTooLong}
 use Rattle.timew_cli.specs.declared.cause.Cause.{Cause}
 use Rattle.timew_cli.specs.declared.cause.Cause.TheVariants as causes
 

@@ -1,8 +1,8 @@
 -- A line that is written in parts.
-use Rattle.std.proofs.Common.{◌≡◌, inl, inr, ℕ, suc, ◌+◌, ◌≤◌, List, [], ◌∷◌, ◌++◌, length, take, refl, sym, ap, subst, ◌∙◌, append_assoc, arith, length-append}
+use Rattle.std.proofs.Common.{◌≡◌, inl, inr, ℕ, suc, ◌+◌, List, [], ◌∷◌, ◌++◌, length, take, sym, ap, subst, ◌∙◌, append_assoc, arith, length-append}
 use Rattle.std.proofs.lemmas.List.{take-append-le}
 use Rattle.tw_world.specs.Disk.{Rose}
-use Rattle.tw_world.specs.Sink.{SinkModel, TellsHeld, SinkKept, Got, GotPart}
+use Rattle.tw_world.specs.Sink.{SinkModel, SinkKept, Got, GotPart}
 use Rattle.timew_cli.specs.Fault.{GotLine}
 
 module _ {E : Type 0} (s : SinkModel E) where

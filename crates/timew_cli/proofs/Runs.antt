@@ -1,5 +1,5 @@
 -- What is known of a run of words.
-use Rattle.std.proofs.Common.{◌≡◌, ◌⊎◌, inl, inr, ℕ, List, Result, Ok, Err, refl, sym, ap, subst, ◌∙◌, arith}
+use Rattle.std.proofs.Common.{◌≡◌, ◌⊎◌, inl, inr, ℕ, List, Result, Ok, Err, refl, sym, subst, arith}
 use Rattle.tw_time.specs.Moments.{TimeZone}
 use Rattle.tw_world.specs.Disk.{DiskModel, Rose}
 use Rattle.tw_world.specs.Disk as disk
@@ -9,15 +9,14 @@ use Rattle.tw_world.specs.Turns.InTurns.{at_rest}
 use Rattle.timew_store.specs.Held.{OpensTo}
 use Rattle.timew_cli.specs.Carried.{carried_out}
 use Rattle.timew_cli.proofs.Loaded.{still_among}
-use Rattle.tw_world.specs.Sink.{SinkModel, Got, GotPart}
+use Rattle.tw_world.specs.Sink.{SinkModel}
 use Rattle.timew_cmd.specs.declared.command.Command.{Command}
 use Rattle.timew_cmd.specs.declared.error.BadWord.{BadWord}
 use Rattle.timew_cmd.specs.declared.error.WordsError.{WordsError}
 use Rattle.timew_cmd.specs.declared.error.WordsError.TheVariants as words
 use Rattle.timew_cmd.specs.Reading.{Refuses}
-use Rattle.timew_cli.specs.Cause.{End, end_of, word_cause, words_cause}
-use Rattle.timew_cli.specs.Cause.End.{Failed}
-use Rattle.timew_cli.specs.Run.{Outside, went, CarriedOut, NotCarried, CanBeCarriedOut, Gives, GivesBy, CanEnd, IsDoneOrWant, EndsPrinting, RunGives, EndsWell, RunLeaves, LeavesStates, IsRun}
+use Rattle.timew_cli.specs.Cause.{word_cause, words_cause}
+use Rattle.timew_cli.specs.Run.{Outside, went, CarriedOut, NotCarried, Gives, CanEnd, IsDoneOrWant, EndsPrinting, LeavesStates, IsRun}
 use Rattle.timew_cli.specs.declared.cause.Cause.{Cause}
 use Rattle.timew_cli.specs.declared.cause.Cause.TheVariants as causes
 

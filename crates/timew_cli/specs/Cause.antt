@@ -1,5 +1,4 @@
 -- The cause that each error becomes.
-use Rattle.std.specs.Prelude.{Bool, true, false}
 use Rattle.tw_journal.specs.declared.error.JournalError.{JournalError}
 use Rattle.tw_journal.specs.declared.error.JournalError.TheVariants as journal
 use Rattle.timew_store.specs.declared.error.LoadError.{LoadError}
@@ -16,7 +15,7 @@ use Rattle.timew_cmd.specs.declared.error.WordsError.TheVariants as words
 use Rattle.timew_cmd.specs.declared.error.TimewError.{TimewError}
 use Rattle.timew_cmd.specs.declared.error.TimewError.TheVariants as plan
 use Rattle.timew_cli.specs.declared.cause.Cause.{Cause}
-use Rattle.timew_cli.specs.declared.cause.Cause.TheVariants.{Done, NotTracking, NothingToUndo, Edited, BadWords, NoInterval, NoOpen, AlreadyOpen, Range, Overlap, BadLine, DiskFault, RecordTooLong, Damaged, FolderFault, Memory, OutFault}
+use Rattle.timew_cli.specs.declared.cause.Cause.TheVariants.{Done, NothingToUndo, Edited, BadWords, NoInterval, NoOpen, AlreadyOpen, Range, Overlap, BadLine, DiskFault, RecordTooLong, Damaged, FolderFault, Memory, OutFault}
 
 -- how a run ends
 pub data End : Type 0 where

@@ -1,4 +1,4 @@
-use Rattle.std.proofs.Common.{◌≡◌, List, ℕ, Option, Some, None, Result, ap, sym, subst, ◌∙◌}
+use Rattle.std.proofs.Common.{List, Result, ap, sym, subst, ◌∙◌}
 use Rattle.tw_world.specs.Turns.{InTurns, crash_of}
 use Rattle.timew_store.specs.Held.{held_by}
 use Rattle.timew_store.specs.Store.{rows_kept}

@@ -1,5 +1,6 @@
-use Rattle.std.proofs.Common.{sym, subst}
-use Rattle.timew_cli.specs.Fault.{Told}
+use Rattle.std.proofs.Common.{ℕ, List, ◌++◌, codes, sym, subst}
+use Rattle.timew_cli.specs.Fault.{GotLine, Told}
+use Rattle.timew_cli.specs.Text.{numbered}
 use Rattle.timew_cli.specs.declared.cause.Cause.{Cause}
 use Rattle.timew_cli.proofs.fault.tell.Goals as goal
 
@@ -44,3 +45,8 @@ returns-in-Memory g c = subst (λ (x : Cause). Told g.E.Sink.model c.args.err.no
 
 pub returns-in-OutFault : goal.returns-in-OutFault
 returns-in-OutFault g c = subst (λ (x : Cause). Told g.E.Sink.model c.args.err.now c.put-in-OutFault.new.err x) (sym c.in-OutFault.is) c.put-in-OutFault.ensures
+
+pub returns-in-BadLine : goal.returns-in-BadLine
+returns-in-BadLine g c =
+    subst (λ (x : Cause). Told g.E.Sink.model c.args.err.now c.put_bad_line.new.err x) (sym c.in-BadLine.is)
+    (subst (λ (name : List ℕ). GotLine g.E.Sink.model c.args.err.now c.put_bad_line.new.err (numbered (codes "timew: line ") c.in-BadLine.line (codes " of ") ++ (name ++ codes " is no interval\n"))) c.as_str-in-BadLine.ensures c.put_bad_line.ensures)
