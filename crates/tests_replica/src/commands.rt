@@ -62,7 +62,9 @@ fn made(
 // Makes changes in the replica of a disk, and writes them.
 fn write_changes(alloc: Global, disk: &mut MemoryDisk, changes: Vec<Change>) -> Result<(), Fail> {
     let at = moment(1)?;
-    let replica = opened(alloc, disk)?;
+    let Ok(replica) = Replica::open(alloc, disk) else {
+        return Err(Fail::new("no replica"));
+    };
     let prepared = made(alloc, replica, changes, at)?;
     match prepared.write(disk) {
         Ok(_) => Ok(()),
@@ -134,15 +136,6 @@ fn asked<'a>(
     request_of(alloc, line, input, at, zone)
 }
 
-// Writes what is made in memory, and gives what it prints.
-fn written(ready: Ready, disk: &mut MemoryDisk) -> Result<Vec<u8>, Fail> {
-    let Ready { prepared, text } = ready;
-    match prepared.write(disk) {
-        Ok(_) => Ok(text),
-        Err(_) => Err(Fail::new("not written")),
-    }
-}
-
 // Carries a request out over the replica of a disk, and gives what it prints, or why it does nothing.
 fn decided_by(
     alloc: Global,
@@ -150,9 +143,14 @@ fn decided_by(
     ids: &mut IdWords,
     disk: &mut MemoryDisk,
 ) -> Result<Result<Vec<u8>, Refusal>, Fail> {
-    let replica = opened(alloc, disk)?;
+    let Ok(replica) = Replica::open(alloc, disk) else {
+        return Err(Fail::new("no replica"));
+    };
     match decide(alloc, request, ids, replica)? {
-        Ok(ready) => Ok(Ok(written(ready, disk)?)),
+        Ok(Ready { prepared, text }) => match prepared.write(disk) {
+            Ok(_) => Ok(Ok(text)),
+            Err(_) => Err(Fail::new("not written")),
+        },
         Err(refusal) => Ok(Err(refusal)),
     }
 }

@@ -43,10 +43,6 @@ fn rows_of(alloc: Global, lines: &str) -> Option<Vec<Interval>> {
 }
 
 impl Kept {
-    fn load(&mut self) -> Option<Store> {
-        Store::load(self.alloc, &mut self.folder, &mut self.disk).ok()
-    }
-
     // How many intervals are loaded, or the first bad line.
     fn loaded(&mut self) -> Result<String, Fail> {
         let alloc = self.alloc;
@@ -61,26 +57,28 @@ impl Kept {
     }
 
     // Loads a store and lets the intervals of lines stand in it.
-    fn changed(&mut self, lines: &str) -> Option<Result<(), StoreError>> {
+    fn changed(&mut self, lines: &str) -> Result<Result<(), StoreError>, Fail> {
         let alloc = self.alloc;
-        let next = rows_of(alloc, lines)?;
-        let mut store = self.load()?;
-        let edit = Edit::between(store.intervals().as_slice(), next).ok()?;
-        Some(store.change(alloc, &mut self.folder, &mut self.disk, edit))
+        let next = rows_of(alloc, lines).ok_or("no rows")?;
+        let store = Store::load(alloc, &mut self.folder, &mut self.disk);
+        let mut store = store.or(Err("no store"))?;
+        let edit = Edit::between(store.intervals().as_slice(), next)?;
+        Ok(store.change(alloc, &mut self.folder, &mut self.disk, edit))
     }
 
     // Whether the intervals of lines come to stand in the store.
     fn change(&mut self, lines: &str) -> bool {
         match self.changed(lines) {
-            Some(changed) => changed.is_ok(),
-            None => false,
+            Ok(changed) => changed.is_ok(),
+            Err(_) => false,
         }
     }
 
     // Loads a store and takes its last change back.
     fn undone(&mut self) -> Result<String, Fail> {
         let alloc = self.alloc;
-        let mut store = self.load().ok_or("no store")?;
+        let store = Store::load(alloc, &mut self.folder, &mut self.disk);
+        let mut store = store.or(Err("no store"))?;
         told(alloc, store.undo(alloc, &mut self.folder, &mut self.disk))
     }
 
@@ -153,7 +151,8 @@ fn loaded_from(alloc: Global, january: &str, february: &str) -> Result<String, F
         ("2026-01.data", january),
         ("notes", "inc z"),
     ];
-    keeping(alloc, &files, &[])?.loaded()
+    let mut kept = keeping(alloc, &files, &[])?;
+    kept.loaded()
 }
 
 fn are_loaded(alloc: Global) -> Result<bool, Fail> {
@@ -232,7 +231,7 @@ impl Kept {
     fn fails_between(&mut self) -> bool {
         let lines = "inc 20260105T090000Z - 20260105T090005Z\ninc 20260201T000000Z\n";
         let fails = match self.changed(lines) {
-            Some(Err(StoreError::Folder)) => true,
+            Ok(Err(StoreError::Folder)) => true,
             _ => false,
         };
         fails && self.holds("2026-02.data", "")
