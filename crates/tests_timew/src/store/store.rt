@@ -67,11 +67,8 @@ impl Kept {
     }
 
     // Whether the intervals of lines come to stand in the store.
-    fn change(&mut self, lines: &str) -> bool {
-        match self.changed(lines) {
-            Ok(changed) => changed.is_ok(),
-            Err(_) => false,
-        }
+    fn change(&mut self, lines: &str) -> Result<bool, Fail> {
+        Ok(self.changed(lines)?.is_ok())
     }
 
     // Loads a store and takes its last change back.
@@ -99,13 +96,13 @@ impl Kept {
     }
 
     // Whether these lines stand in January one after another.
-    fn change_in_turn(&mut self, turns: &[&str]) -> bool {
+    fn change_in_turn(&mut self, turns: &[&str]) -> Result<bool, Fail> {
         for lines in turns {
-            if !self.change(lines) || !self.holds("2026-01.data", lines) {
-                return false;
+            if !self.change(lines)? || !self.holds("2026-01.data", lines) {
+                return Ok(false);
             }
         }
-        true
+        Ok(true)
     }
 
     // Whether undos leave these lines in January one after another.
@@ -178,7 +175,7 @@ const SECOND: &str = "inc 20260105T090000Z\n";
 #[test]
 fn changes_are_taken_back_one_after_another(rt: HostRuntime) -> Result<(), Fail> {
     let mut kept = keeping(rt.alloc(), &[], &[])?;
-    assert!(rt; kept.change_in_turn(&[FIRST, FIRST, SECOND, ""]));
+    assert!(rt; kept.change_in_turn(&[FIRST, FIRST, SECOND, ""])?);
     assert!(rt; kept.undo_in_turn(&[SECOND, FIRST, ""])? && kept.undo_says("nothing")?);
     Ok(())
 }
@@ -205,7 +202,7 @@ const EDITED: [(&str, &str, &str); 3] = [
 // Whether an undo over these files, whose change was another, says this.
 fn says_over(alloc: Global, january: &str, february: &str, want: &str) -> Result<bool, Fail> {
     let mut kept = keeping(alloc, &[("2026-01.data", OLD)], &[])?;
-    let is_changed = kept.change(NEW);
+    let is_changed = kept.change(NEW)?;
     let files = [("2026-01.data", january), ("2026-02.data", february)];
     kept.folder = folder_of(alloc, &files, &[])?;
     Ok(is_changed && kept.undo_says(want)?)
@@ -228,13 +225,13 @@ fn an_undo_looks_at_the_files(rt: HostRuntime) -> Result<(), Fail> {
 
 impl Kept {
     // Whether the folder fails at a change of two months, of which the second is not written.
-    fn fails_between(&mut self) -> bool {
+    fn fails_between(&mut self) -> Result<bool, Fail> {
         let lines = "inc 20260105T090000Z - 20260105T090005Z\ninc 20260201T000000Z\n";
-        let fails = match self.changed(lines) {
-            Ok(Err(StoreError::Folder)) => true,
+        let fails = match self.changed(lines)? {
+            Err(StoreError::Folder) => true,
             _ => false,
         };
-        fails && self.holds("2026-02.data", "")
+        Ok(fails && self.holds("2026-02.data", ""))
     }
 }
 
@@ -242,7 +239,7 @@ impl Kept {
 #[test]
 fn a_change_of_two_files_is_finished(rt: HostRuntime) -> Result<(), Fail> {
     let mut kept = keeping(rt.alloc(), &[], &[2])?;
-    let fails = kept.fails_between();
+    let fails = kept.fails_between()?;
     let is_loaded = kept.loaded()?.as_str() == "2";
     assert!(rt; fails && is_loaded && kept.holds("2026-02.data", "inc 20260201T000000Z\n"));
     Ok(())
