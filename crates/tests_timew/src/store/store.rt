@@ -252,6 +252,6 @@ const CHANGE: &[u8] =
 #[test]
 fn a_body_is_its_fields(rt: HostRuntime) -> Result<(), Fail> {
     let mut kept = keeping(rt.alloc(), &[], &[])?;
-    assert!(rt; kept.change("inc 20260201T000000Z\n") && kept.disk.bytes().ends_with(CHANGE));
+    assert!(rt; kept.change("inc 20260201T000000Z\n")? && kept.disk.bytes().ends_with(CHANGE));
     Ok(())
 }
