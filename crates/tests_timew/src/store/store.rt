@@ -4,7 +4,7 @@ ghost use Rattle.tw_world.specs.Folder.{is_file_name};
 use super::folder_of;
 use std::alloc::Global;
 use std::test::Fail;
-use timew_store::{Edit, Interval, Intervals, LoadError, Store, StoreError, UndoError, read_month};
+use timew_store::{Edit, Intervals, LoadError, Store, StoreError, UndoError, read_month};
 use tw_world::{Folder, MemoryDisk, MemoryFolder};
 
 // A folder of month files, and the journal of their changes.
@@ -36,12 +36,6 @@ fn keeping(alloc: Global, files: &[(&str, &str)], fails: &[u64]) -> Result<Kept,
     })
 }
 
-// The intervals of lines, where they are in order.
-fn rows_of(alloc: Global, lines: &str) -> Option<Vec<Interval>> {
-    let rows = read_month(alloc, lines.as_bytes()).ok()?;
-    Some(Intervals::in_order(rows)?.into_rows())
-}
-
 impl Kept {
     // How many intervals are loaded, or the first bad line.
     fn loaded(&mut self) -> Result<String, Fail> {
@@ -59,7 +53,8 @@ impl Kept {
     // Loads a store and lets the intervals of lines stand in it.
     fn changed(&mut self, lines: &str) -> Result<Result<(), StoreError>, Fail> {
         let alloc = self.alloc;
-        let next = rows_of(alloc, lines).ok_or("no rows")?;
+        let rows = read_month(alloc, lines.as_bytes()).or(Err("a bad line"))?;
+        let next = Intervals::in_order(rows).ok_or("out of order")?.into_rows();
         let store = Store::load(alloc, &mut self.folder, &mut self.disk);
         let mut store = store.or(Err("no store"))?;
         let edit = Edit::between(store.intervals().as_slice(), next)?;
@@ -142,19 +137,15 @@ const MONTHS: [(&str, &str, &str); 4] = [
     ("inc x", "inc y", "2026-01.data 1"),
 ];
 
-fn loaded_from(alloc: Global, january: &str, february: &str) -> Result<String, Fail> {
-    let files = [
-        ("2026-02.data", february),
-        ("2026-01.data", january),
-        ("notes", "inc z"),
-    ];
-    let mut kept = keeping(alloc, &files, &[])?;
-    kept.loaded()
-}
-
 fn are_loaded(alloc: Global) -> Result<bool, Fail> {
-    for (january, february, want) in &MONTHS {
-        if loaded_from(alloc, january, february)?.as_str() != *want {
+    for (january, february, want) in MONTHS {
+        let files = [
+            ("2026-02.data", february),
+            ("2026-01.data", january),
+            ("notes", "inc z"),
+        ];
+        let mut kept = keeping(alloc, &files, &[])?;
+        if kept.loaded()?.as_str() != want {
             return Ok(false);
         }
     }
