@@ -116,7 +116,8 @@ fn assign_changed(
     Ok(())
 }
 
-/// Assigns the places anew after some tasks have changed, and packs the places if it is asked.
+/// Assigns the places anew after some tasks have changed, and packs them if it is asked. After want of memory a part of them may
+/// have changed, and they are to be let go.
 pub fn renew_places(
     alloc: Global,
     places: &mut Vec<Option<Uuid>>,

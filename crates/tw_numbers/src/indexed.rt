@@ -186,6 +186,7 @@ fn takes_looks(looks: &mut usize, count: usize) -> bool {
 
 /// Assigns the places anew after some tasks have changed. Where there is no place yet, or where few
 /// tasks have changed so far, no index is needed. Where besides all tasks have changed, as a first sync does, one pass over them serves.
+/// After want of memory places and index may have changed in part, and are to be let go.
 pub fn assign(
     alloc: Global,
     places: &mut Vec<Option<Uuid>>,
@@ -239,6 +240,7 @@ fn push_known(
 }
 
 /// Assigns tasks of which one has changed that has no place. It looks nothing up in the index.
+/// After want of memory places and index may have changed in part, and are to be let go.
 pub fn assign_new(
     places: &mut Vec<Option<Uuid>>,
     index: &mut Option<BTreeMap<Uuid, u64>>,
