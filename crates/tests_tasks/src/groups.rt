@@ -1,0 +1,98 @@
+use crate::model::is_update;
+use crate::transform::{are, operations};
+use std::alloc::Global;
+use std::test::Fail;
+use tw_groups::{cross, pending_on};
+use tw_model::{Op, SyncOp, TaskMap, Tasks};
+use tw_world::Memory;
+use uuid::Uuid;
+
+// Groups as these tables spell them: operations of one after another, with a bar between two groups.
+fn groups(alloc: Global, words: &str) -> Result<Vec<Vec<SyncOp>>, Memory> {
+    let mut groups = Vec::new(alloc);
+    for group in words.split('|') {
+        groups.push(operations(alloc, group)?)?;
+    }
+    Ok(groups)
+}
+
+fn are_groups(alloc: Global, groups: &Vec<Vec<SyncOp>>, words: &str) -> Result<bool, Memory> {
+    let mut at = 0;
+    for group in words.split('|') {
+        match groups.get(at) {
+            Some(ops) if are(alloc, ops, group)? => at += 1,
+            _ => return Ok(false),
+        }
+    }
+    Ok(at == groups.len())
+}
+
+// Operations of a version, groups, and what is left of both.
+const CROSSED: [[&str; 4]; 3] = [
+    ["U1aX30", "U1aA10|U1aB50 U1bB50", "", "|U1aB50 U1bB50"],
+    ["D1", "U1aA10 C2|U1aB50", "D1", "C2|"],
+    ["U1aX30 U2aX30", "U1aX40|U3aA10", "U2aX30", "|U3aA10"],
+];
+
+#[test]
+fn each_group_keeps_its_own(rt: HostRuntime) -> Result<(), Fail> {
+    let alloc = rt.alloc();
+    for [server, local, server_left, local_left] in CROSSED {
+        let mut ops = operations(alloc, server)?;
+        let mut groups = groups(alloc, local)?;
+        cross(&mut ops, &mut groups);
+        assert!(rt; are(alloc, &ops, server_left)?, "of {server} and {local}");
+        assert!(rt;
+            are_groups(alloc, &groups, local_left)?,
+            "of {server} and {local}"
+        );
+    }
+    Ok(())
+}
+
+fn is_undo_point(op: &Op) -> bool {
+    match op {
+        Op::UndoPoint => true,
+        _ => false,
+    }
+}
+
+fn one_task(alloc: Global) -> Result<Tasks, Memory> {
+    let mut task = TaskMap::new(alloc);
+    task.set(alloc, "a", Some("Z"))?;
+    let mut tasks = Tasks::new(alloc);
+    let _ = tasks.insert(Uuid::from_u128(b'1' as u128), task)?;
+    Ok(tasks)
+}
+
+#[test]
+fn old_values_are_those_that_operations_find(rt: HostRuntime) -> Result<(), Fail> {
+    let alloc = rt.alloc();
+    let mut tasks = one_task(alloc)?;
+    let ops = pending_on(alloc, &mut tasks, &groups(alloc, "U1aA10|U1aB50 D1")?)?;
+    assert_eq!(rt; ops.len(), 5);
+    assert!(rt; is_undo_point(&ops[0]));
+    assert!(rt; is_update(&ops[1], &("a", Some("Z"), Some("A"))));
+    assert!(rt; is_undo_point(&ops[2]));
+    assert!(rt; is_update(&ops[3], &("a", Some("A"), Some("B"))));
+    match &ops[4] {
+        Op::Delete { before, .. } => assert_eq!(rt; before.get("a"), Some("B")),
+        _ => assert!(rt; false),
+    }
+    assert_eq!(rt; tasks.len(), 0);
+    Ok(())
+}
+
+#[test]
+fn a_thousand_groups_become_pending_operations(rt: HostRuntime) -> Result<(), Fail> {
+    let alloc = rt.alloc();
+    let mut groups = Vec::new(alloc);
+    for _ in 0..1000 {
+        groups.push(operations(alloc, "U1aA10 U1aB50")?)?;
+    }
+    let mut tasks = one_task(alloc)?;
+    let ops = pending_on(alloc, &mut tasks, &groups)?;
+    assert_eq!(rt; ops.len(), 3000);
+    assert!(rt; is_update(&ops[2999], &("a", Some("A"), Some("B"))));
+    Ok(())
+}
