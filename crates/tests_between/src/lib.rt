@@ -10,3 +10,5 @@ mod link;
 mod server;
 #[cfg(test)]
 mod sync;
+#[cfg(test)]
+mod texts;

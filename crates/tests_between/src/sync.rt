@@ -22,7 +22,17 @@ impl Link for OneReply {
     ghost use Rattle.std.proofs.lemmas.Bool.{true≢false};
     ghost use Rattle.std.proofs.Common.{sym};
 
-    ghost model = { record { faults = λ l. l.faults; exchanges = λ l. l.exchanges; tells_list = λ l. false; list = λ l. []; tells_chain = λ l. false; client = λ l. []; chain = λ l. []; own = λ l. []; honest = λ l. false } };
+    ghost model = { record {
+      faults = λ l. l.faults;
+      exchanges = λ l. l.exchanges;
+      tells_list = λ l. false;
+      list = λ l. [];
+      tells_chain = λ l. false;
+      client = λ l. [];
+      chain = λ l. [];
+      own = λ l. [];
+      honest = λ l. false;
+    } };
 
     ghost tells_chain = { λ link truly. absurd (true≢false (sym truly.honest)) };
 

@@ -26,6 +26,10 @@ impl TimedStream for Answer {
 
     ghost waited = { λ stream nanos. Unit {0} };
 
+    ghost is_ended = { λ stream. Unit {0} };
+
+    ghost may_fail = { Unit {0} };
+
     fn read_within(&mut self, buffer: &mut [u8], _wait: Duration) -> io::Result<usize> {
         let count = buffer.len().min(self.piece).min(self.left);
         buffer[..count].fill(b'x');

@@ -180,7 +180,7 @@ fn refusal(
     Ok(decided(alloc, line, input, NOW, ids, disk)?.err())
 }
 
-fn told(alloc: Global, refusal: &Refusal) -> Result<String, Memory> {
+fn text_of(alloc: Global, refusal: &Refusal) -> Result<String, Memory> {
     match refusal {
         Refusal::NoMatch => Ok(String::from_str(alloc, "NoMatch")?),
         Refusal::BadInput { index, name } => {
@@ -190,7 +190,7 @@ fn told(alloc: Global, refusal: &Refusal) -> Result<String, Memory> {
     }
 }
 
-// Carries a line of words with an input out, and gives what it prints, or tells why it does nothing.
+// Carries a line of words with an input out, and gives what it prints, or says why it does nothing.
 fn carried_with(
     alloc: Global,
     line: &str,
@@ -201,7 +201,7 @@ fn carried_with(
 ) -> Result<String, Fail> {
     match decided(alloc, line, input, second, ids, disk)? {
         Ok(text) => Ok(String::from_utf8(text).ok().ok_or("no text")?),
-        Err(refusal) => Ok(told(alloc, &refusal)?),
+        Err(refusal) => Ok(text_of(alloc, &refusal)?),
     }
 }
 
@@ -217,7 +217,9 @@ fn carried(
 }
 
 const BOUGHT: &str =
-    "[\n{\"annotations\":[{\"description\":\"two\",\"entry\":\"20231114T221321Z\"}],\"description\":\"Buy milk\",\"entry\":\"20231114T221320Z\",\"modified\":\"20231114T221320Z\",\"status\":\"pending\",\"urgency\":1.600,\"uuid\":\"00000000-0000-4000-8000-000000000001\"}\n]\n";
+    "[\n{\"annotations\":[{\"description\":\"two\",\"entry\":\"20231114T221321Z\"}],\"description\":\"Buy milk\",\
+    \"entry\":\"20231114T221320Z\",\"modified\":\"20231114T221320Z\",\"status\":\"pending\",\"urgency\":1.600,\
+    \"uuid\":\"00000000-0000-4000-8000-000000000001\"}\n]\n";
 
 const DAY: [(&str, &str); 24] = [
     ("add Buy milk", "Created task 1.\n"),
@@ -332,7 +334,7 @@ fn taken_so_far(alloc: Global, disk: &mut MemoryDisk) -> Result<usize, Fail> {
 }
 
 #[test]
-fn a_uuid_that_is_taken_is_told(rt: HostRuntime) -> Result<(), Fail> {
+fn a_uuid_that_is_taken_is_named(rt: HostRuntime) -> Result<(), Fail> {
     let alloc = rt.alloc();
     let mut disk = with_adds(alloc, &["add a", "add b"])?;
     assert_eq!(rt; taken_so_far(alloc, &mut disk)?, TAKEN.len());

@@ -1,10 +1,11 @@
+use crate::tasks::{rows_of, tasks_of};
 use serde_json::Value;
 use std::alloc::Global;
 use std::test::Fail;
 use tw_export::export_text;
-use tw_model::{TaskMap, Tasks};
+use tw_model::Tasks;
 use tw_urgency::Coefficients;
-use tw_world::{Memory, Moment};
+use tw_world::Moment;
 use uuid::Uuid;
 
 // 2023-11-14T22:13:20Z.
@@ -20,54 +21,8 @@ const RENT: u128 = 0x9a0f5c3e_3f4d_4a6b_8d0e_2b1c6a7d8e9f;
 
 const SHIP: u128 = 0x0b1c2d3e_4f50_4162_8738_495a6b7c8d9e;
 
-// The defaults of taskrc(5).
-const WEIGHTS: Coefficients = Coefficients {
-    tag_next: 15_000,
-    due: 12_000,
-    blocking: 8_000,
-    high: 6_000,
-    medium: 3_900,
-    low: 1_800,
-    scheduled: 5_000,
-    active: 4_000,
-    age: 2_000,
-    annotations: 1_000,
-    tags: 1_000,
-    project: 1_000,
-    blocked: -5_000,
-    waiting: -3_000,
-    age_max: 365,
-};
-
-// The task of a text `property=value|property=value`.
-fn task_of(alloc: Global, text: &str) -> Result<TaskMap, Memory> {
-    let mut task = TaskMap::new(alloc);
-    for pair in text.split('|') {
-        if let Some((property, value)) = pair.split_once('=') {
-            task.set(alloc, property, Some(value))?;
-        }
-    }
-    Ok(task)
-}
-
-fn tasks_of(alloc: Global, tasks: &[(u128, &str)]) -> Result<Tasks, Memory> {
-    let mut made = Tasks::new(alloc);
-    for (number, text) in tasks {
-        let _ = made.insert(Uuid::from_u128(*number), task_of(alloc, text)?)?;
-    }
-    Ok(made)
-}
-
-fn rows_of(alloc: Global, numbers: &[u128]) -> Result<Vec<Uuid>, Memory> {
-    let mut rows = Vec::new(alloc);
-    for number in numbers {
-        rows.push(Uuid::from_u128(*number))?;
-    }
-    Ok(rows)
-}
-
 fn text_of(alloc: Global, rows: &Vec<Uuid>, tasks: &Tasks, now: Moment) -> Result<String, Fail> {
-    let text = export_text(alloc, rows, tasks, now, &WEIGHTS)?;
+    let text = export_text(alloc, rows, tasks, now, &Coefficients::defaults())?;
     match String::from_utf8(text) {
         Ok(text) => Ok(text),
         Err(_) => Err(Fail::new("no text")),
@@ -101,16 +56,20 @@ fn is_exported(
 const TASKS: [(&str, &str); 8] = [
     (
         "description=Buy milk|entry=1700000000|modified=1700000000|status=pending",
-        "{\"description\":\"Buy milk\",\"entry\":\"20231114T221320Z\",\"modified\":\"20231114T221320Z\",\"status\":\"pending\",\"urgency\":0.000,\"uuid\":\"00000000-0000-0000-0000-000000000002\"}",
+        "{\"description\":\"Buy milk\",\"entry\":\"20231114T221320Z\",\"modified\":\"20231114T221320Z\",\"status\":\"pending\",\
+        \"urgency\":0.000,\"uuid\":\"00000000-0000-0000-0000-000000000002\"}",
     ),
     (
         "dep_00000000-0000-0000-0000-000000000001=|dep_00000000-0000-0000-0000-000000000009=|dep_x=|status=pending|depends=x|description=d",
-        "{\"dep_x\":\"\",\"depends\":[\"00000000-0000-0000-0000-000000000001\",\"00000000-0000-0000-0000-000000000009\"],\"description\":\"d\",\"status\":\"pending\",\"urgency\":-5.000,\"uuid\":\"00000000-0000-0000-0000-000000000002\"}",
+        "{\"dep_x\":\"\",\"depends\":[\"00000000-0000-0000-0000-000000000001\",\"00000000-0000-0000-0000-000000000009\"],\
+        \"description\":\"d\",\"status\":\"pending\",\"urgency\":-5.000,\"uuid\":\"00000000-0000-0000-0000-000000000002\"}",
     ),
     // annotations by their second, and not by the name of their property
     (
         "annotation_10=ten|annotation_9=n\"ine|annotation_x=kept|annotation_253370764800=late|annotations=x",
-        "{\"annotation_253370764800\":\"late\",\"annotation_x\":\"kept\",\"annotations\":[{\"description\":\"n\\\"ine\",\"entry\":\"19700101T000009Z\"},{\"description\":\"ten\",\"entry\":\"19700101T000010Z\"}],\"urgency\":0.900,\"uuid\":\"00000000-0000-0000-0000-000000000002\"}",
+        "{\"annotation_253370764800\":\"late\",\"annotation_x\":\"kept\",\"annotations\":[{\"description\":\"n\\\"ine\",\
+        \"entry\":\"19700101T000009Z\"},{\"description\":\"ten\",\"entry\":\"19700101T000010Z\"}],\"urgency\":0.900,\
+        \"uuid\":\"00000000-0000-0000-0000-000000000002\"}",
     ),
     (
         "tag_b=|tag_a=|tag_c=x|tag_=|tag=y|tags=x|tax=z",
@@ -118,7 +77,8 @@ const TASKS: [(&str, &str); 8] = [
     ),
     (
         "status=pending|wait=1700000001|imask=12|mask=-",
-        "{\"imask\":12,\"mask\":\"-\",\"status\":\"waiting\",\"urgency\":-3.000,\"uuid\":\"00000000-0000-0000-0000-000000000002\",\"wait\":\"20231114T221321Z\"}",
+        "{\"imask\":12,\"mask\":\"-\",\"status\":\"waiting\",\"urgency\":-3.000,\"uuid\":\"00000000-0000-0000-0000-000000000002\",\
+        \"wait\":\"20231114T221321Z\"}",
     ),
     (
         "status=completed|wait=1700000001|imask=012",
@@ -126,11 +86,13 @@ const TASKS: [(&str, &str); 8] = [
     ),
     (
         "status=strange|imask=1234567890|scheduled=5",
-        "{\"imask\":\"1234567890\",\"scheduled\":\"19700101T000005Z\",\"status\":\"strange\",\"urgency\":5.000,\"uuid\":\"00000000-0000-0000-0000-000000000002\"}",
+        "{\"imask\":\"1234567890\",\"scheduled\":\"19700101T000005Z\",\"status\":\"strange\",\"urgency\":5.000,\
+        \"uuid\":\"00000000-0000-0000-0000-000000000002\"}",
     ),
     (
         "due=tomorrow|end=253370764800|entry=253370764799|id=x|start=01|until=0|urgency=x|urgent=\"\\/\u{1}|uuid=x|imask=0",
-        "{\"due\":\"tomorrow\",\"end\":\"253370764800\",\"entry\":\"99981231T235959Z\",\"imask\":0,\"start\":\"01\",\"until\":\"19700101T000000Z\",\"urgency\":4.000,\"urgent\":\"\\\"\\\\/\\u0001\",\"uuid\":\"00000000-0000-0000-0000-000000000002\"}",
+        "{\"due\":\"tomorrow\",\"end\":\"253370764800\",\"entry\":\"99981231T235959Z\",\"imask\":0,\"start\":\"01\",\
+        \"until\":\"19700101T000000Z\",\"urgency\":4.000,\"urgent\":\"\\\"\\\\/\\u0001\",\"uuid\":\"00000000-0000-0000-0000-000000000002\"}",
     ),
 ];
 
@@ -168,7 +130,8 @@ const CHOSEN: [(u128, &str); 4] = [
 ];
 
 const TWO: &str =
-    "[\n{\"urgency\":0.000,\"uuid\":\"00000000-0000-0000-0000-000000000001\"},\n{\"urgency\":0.000,\"uuid\":\"00000000-0000-0000-0000-000000000002\",\"uuids\":\"5\"}\n]\n";
+    "[\n{\"urgency\":0.000,\"uuid\":\"00000000-0000-0000-0000-000000000001\"},\n{\"urgency\":0.000,\
+    \"uuid\":\"00000000-0000-0000-0000-000000000002\",\"uuids\":\"5\"}\n]\n";
 
 #[test]
 fn rows_are_chosen_in_byte_order(rt: HostRuntime) -> Result<(), Fail> {
@@ -180,12 +143,18 @@ fn rows_are_chosen_in_byte_order(rt: HostRuntime) -> Result<(), Fail> {
 
 // What `task export` of Taskwarrior 2.6.2 printed for the tasks below, years after their entries.
 const REAL: &str =
-    "[\n{\"id\":0,\"description\":\"Ship it\",\"end\":\"20000229T010203Z\",\"entry\":\"19991231T235959Z\",\"modified\":\"20000101T000000Z\",\"scheduled\":\"20000115T080000Z\",\"start\":\"20000101T000000Z\",\"status\":\"completed\",\"until\":\"20991231T000000Z\",\"uuid\":\"0b1c2d3e-4f50-4162-8738-495a6b7c8d9e\",\"urgency\":11},\n{\"id\":1,\"description\":\"Pay \\\"rent\\\" \\\\ caf\u{e9}\\/kiosk\\ttab\",\"due\":\"20240229T120000Z\",\"entry\":\"20240131T235959Z\",\"modified\":\"20240201T000000Z\",\"priority\":\"H\",\"project\":\"Home.Flat\",\"status\":\"pending\",\"uuid\":\"9a0f5c3e-3f4d-4a6b-8d0e-2b1c6a7d8e9f\",\"wait\":\"20380119T031408Z\",\"urgency\":18}\n]\n";
+    "[\n{\"id\":0,\"description\":\"Ship it\",\"end\":\"20000229T010203Z\",\"entry\":\"19991231T235959Z\",\"modified\":\"20000101T000000Z\",\
+    \"scheduled\":\"20000115T080000Z\",\"start\":\"20000101T000000Z\",\"status\":\"completed\",\"until\":\"20991231T000000Z\",\
+    \"uuid\":\"0b1c2d3e-4f50-4162-8738-495a6b7c8d9e\",\"urgency\":11},\n{\"id\":1,\
+    \"description\":\"Pay \\\"rent\\\" \\\\ caf\u{e9}\\/kiosk\\ttab\",\"due\":\"20240229T120000Z\",\"entry\":\"20240131T235959Z\",\
+    \"modified\":\"20240201T000000Z\",\"priority\":\"H\",\"project\":\"Home.Flat\",\"status\":\"pending\",\
+    \"uuid\":\"9a0f5c3e-3f4d-4a6b-8d0e-2b1c6a7d8e9f\",\"wait\":\"20380119T031408Z\",\"urgency\":18}\n]\n";
 
 const REAL_TASKS: [(u128, &str); 2] = [
     (
         RENT,
-        "description=Pay \"rent\" \\ caf\u{e9}/kiosk\ttab|due=1709208000|entry=1706745599|modified=1706745600|priority=H|project=Home.Flat|status=pending|wait=2147483648",
+        "description=Pay \"rent\" \\ caf\u{e9}/kiosk\ttab|due=1709208000|entry=1706745599|modified=1706745600|priority=H|project=Home.Flat|\
+        status=pending|wait=2147483648",
     ),
     (
         SHIP,
@@ -236,7 +205,7 @@ fn are_same_objects(ours: &Value, theirs: &Value) -> bool {
     ours.len() == 2 && theirs.len() == 2
 }
 
-// once the wait is over: until then `waiting` stands where Taskwarrior prints `pending`
+// once the wait is over: until then `waiting` is where Taskwarrior prints `pending`
 #[test]
 fn a_real_export_has_the_same_tasks(rt: HostRuntime) -> Result<(), Fail> {
     let alloc = rt.alloc();

@@ -9,41 +9,41 @@ const NOW: Moment = Moment {
     nanos: 0,
 };
 
-fn put_task(told: &mut String, one: &Imported) -> Result<(), Memory> {
+fn put_task(text: &mut String, one: &Imported) -> Result<(), Memory> {
     match one.uuid {
-        Some(uuid) => told.push_str(
+        Some(uuid) => text.push_str(
             uuid.hyphenated()
                 .encode_lower(&mut uuid::Uuid::encode_buffer()),
         )?,
-        None => told.push('-')?,
+        None => text.push('-')?,
     }
     for n in 0..one.map.len() {
-        told.push_str(" ")?;
-        told.push_str(one.map.key(n))?;
-        told.push_str("=")?;
-        told.push_str(one.map.value(n))?;
+        text.push_str(" ")?;
+        text.push_str(one.map.key(n))?;
+        text.push_str("=")?;
+        text.push_str(one.map.value(n))?;
     }
-    told.push_str("\n")?;
+    text.push_str("\n")?;
     Ok(())
 }
 
-fn put_tasks(told: &mut String, tasks: &Vec<Imported>) -> Result<(), Memory> {
+fn put_tasks(text: &mut String, tasks: &Vec<Imported>) -> Result<(), Memory> {
     for one in tasks {
-        put_task(told, one)?;
+        put_task(text, one)?;
     }
     Ok(())
 }
 
-fn told_tasks(alloc: Global, tasks: &Vec<Imported>) -> Result<String, Memory> {
-    let mut told = String::new(alloc);
-    put_tasks(&mut told, tasks)?;
-    Ok(told)
+fn tasks_text(alloc: Global, tasks: &Vec<Imported>) -> Result<String, Memory> {
+    let mut text = String::new(alloc);
+    put_tasks(&mut text, tasks)?;
+    Ok(text)
 }
 
 // The tasks, one a line, or why there are none.
-fn told_of(alloc: Global, bytes: &[u8]) -> Result<String, Memory> {
+fn text_of(alloc: Global, bytes: &[u8]) -> Result<String, Memory> {
     match read_import(alloc, bytes, NOW) {
-        Ok(tasks) => told_tasks(alloc, &tasks),
+        Ok(tasks) => tasks_text(alloc, &tasks),
         Err(ImportError::NotJson) => Ok(String::from_str(alloc, "no JSON")?),
         Err(ImportError::Task { index, name }) => {
             Ok(format!(in alloc; "element {index}: {}", name.as_str())?)
@@ -52,8 +52,8 @@ fn told_of(alloc: Global, bytes: &[u8]) -> Result<String, Memory> {
     }
 }
 
-fn is_told(alloc: Global, bytes: &[u8], wanted: &str) -> Result<bool, Memory> {
-    Ok(told_of(alloc, bytes)?.as_str() == wanted)
+fn reads_as(alloc: Global, bytes: &[u8], wanted: &str) -> Result<bool, Memory> {
+    Ok(text_of(alloc, bytes)?.as_str() == wanted)
 }
 
 const DEFAULTS: &str = "entry=1700000000 modified=1700000000 status=pending";
@@ -76,7 +76,8 @@ const TASKS: [(&str, &str, &str); 8] = [
         "\n",
     ),
     (
-        "[{\"description\":\"a\",\"annotations\":[{\"entry\":\"20231114T221320Z\",\"description\":\"one\"},{\"description\":\"two\",\"x\":[{}],\"entry\":\"20231114T221320Z\"}]}]",
+        "[{\"description\":\"a\",\"annotations\":[{\"entry\":\"20231114T221320Z\",\"description\":\"one\"},{\"description\":\"two\",\
+        \"x\":[{}],\"entry\":\"20231114T221320Z\"}]}]",
         "- annotation_1700000000=one annotation_1700000001=two description=a ",
         "\n",
     ),
@@ -102,7 +103,7 @@ const TASKS: [(&str, &str, &str); 8] = [
     ),
 ];
 
-// What is told of a row: without a text after the defaults it has an estimate among them.
+// The text of a row: without a text after the defaults it has an estimate among them.
 fn wanted_of(alloc: Global, before: &str, after: &str) -> Result<String, Memory> {
     if after.is_empty() {
         Ok(format!(in alloc;
@@ -115,10 +116,10 @@ fn wanted_of(alloc: Global, before: &str, after: &str) -> Result<String, Memory>
 
 fn is_row(alloc: Global, text: &str, before: &str, after: &str) -> Result<bool, Memory> {
     let wanted = wanted_of(alloc, before, after)?;
-    is_told(alloc, text.as_bytes(), wanted.as_str())
+    reads_as(alloc, text.as_bytes(), wanted.as_str())
 }
 
-// How many of the texts are told as wanted, up to the first that is not.
+// How many of the texts are read as wanted, up to the first that is not.
 fn tasks_so_far(alloc: Global) -> Result<usize, Memory> {
     for (number, (text, before, after)) in TASKS.iter().enumerate() {
         if !is_row(alloc, text, before, after)? {
@@ -129,16 +130,18 @@ fn tasks_so_far(alloc: Global) -> Result<usize, Memory> {
 }
 
 const TWO: &str =
-    "[{\"description\":\"a\",\"modified\":\"20010909T014640Z\",\"status\":7,\"uuid\":\"00000000-0000-4000-8000-000000000001\"},{\"description\":\"b\",\"entry\":\"19700101T000000Z\",\"status\":\"done\",\"uuid\":\"00000000-0000-4000-8000-000000000001\"}]";
+    "[{\"description\":\"a\",\"modified\":\"20010909T014640Z\",\"status\":7,\"uuid\":\"00000000-0000-4000-8000-000000000001\"},\
+    {\"description\":\"b\",\"entry\":\"19700101T000000Z\",\"status\":\"done\",\"uuid\":\"00000000-0000-4000-8000-000000000001\"}]";
 
 const BOTH: &str =
-    "00000000-0000-4000-8000-000000000001 description=a entry=1700000000 modified=1000000000 status=7\n00000000-0000-4000-8000-000000000001 description=b entry=0 modified=1700000000 status=done\n";
+    "00000000-0000-4000-8000-000000000001 description=a entry=1700000000 modified=1000000000 status=7\n\
+    00000000-0000-4000-8000-000000000001 description=b entry=0 modified=1700000000 status=done\n";
 
 #[test]
 fn elements_become_tasks(rt: HostRuntime) -> Result<(), Fail> {
     let alloc = rt.alloc();
     assert_eq!(rt; tasks_so_far(alloc)?, TASKS.len());
-    assert!(rt; is_told(alloc, TWO.as_bytes(), BOTH)?);
+    assert!(rt; reads_as(alloc, TWO.as_bytes(), BOTH)?);
     Ok(())
 }
 
@@ -216,24 +219,24 @@ fn nested(alloc: Global, depth: u64) -> Result<Vec<u8>, Memory> {
 
 fn refusals_so_far(alloc: Global) -> Result<usize, Memory> {
     for (number, (text, wanted)) in REFUSALS.iter().enumerate() {
-        if !is_told(alloc, text.as_bytes(), wanted)? {
+        if !reads_as(alloc, text.as_bytes(), wanted)? {
             return Ok(number);
         }
     }
     Ok(REFUSALS.len())
 }
 
-// Whether arrays that nest so deep are told as this.
-fn is_told_at(alloc: Global, depth: u64, wanted: &str) -> Result<bool, Memory> {
+// Whether arrays that nest so deep are read as this.
+fn reads_as_at(alloc: Global, depth: u64, wanted: &str) -> Result<bool, Memory> {
     let text = nested(alloc, depth)?;
-    is_told(alloc, text.as_slice(), wanted)
+    reads_as(alloc, text.as_slice(), wanted)
 }
 
 #[test]
 fn the_first_bad_element_is_named(rt: HostRuntime) -> Result<(), Fail> {
     let alloc = rt.alloc();
     assert_eq!(rt; refusals_so_far(alloc)?, REFUSALS.len());
-    assert!(rt; is_told(alloc, b"[\"\xff\"]", "no JSON")?);
-    assert!(rt; is_told_at(alloc, 127, "element 0: ")? && is_told_at(alloc, 128, "no JSON")?);
+    assert!(rt; reads_as(alloc, b"[\"\xff\"]", "no JSON")?);
+    assert!(rt; reads_as_at(alloc, 127, "element 0: ")? && reads_as_at(alloc, 128, "no JSON")?);
     Ok(())
 }

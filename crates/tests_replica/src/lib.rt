@@ -1,4 +1,5 @@
-//! Tests of a replica, the commands over it, and what they read and print, over the public calls of tw_replica, tw_commands, tw_export, tw_import, tw_report and tw_generate.
+//! Tests of a replica, of the commands over it, and of what they read and print: the public calls of tw_replica, tw_commands,
+//! tw_export, tw_import, tw_report and tw_generate.
 //! A module is named after the crate that it tests.
 #![tactic(auto)]
 
@@ -14,3 +15,5 @@ mod import;
 mod replica;
 #[cfg(test)]
 mod report;
+#[cfg(test)]
+mod tasks;

@@ -1,67 +1,18 @@
+use crate::tasks::{rows_of, tasks_of};
 use std::alloc::Global;
 use std::test::Fail;
 use tw_filter::View;
-use tw_model::{TaskMap, Tasks};
 use tw_report::{Report, information_text, projects_text, report_text, tags_text};
 use tw_time::Zone;
 use tw_urgency::Coefficients;
 use tw_world::{Memory, Moment};
 use uuid::Uuid;
 
-// The defaults of taskrc(5).
-const WEIGHTS: Coefficients = Coefficients {
-    tag_next: 15_000,
-    due: 12_000,
-    blocking: 8_000,
-    high: 6_000,
-    medium: 3_900,
-    low: 1_800,
-    scheduled: 5_000,
-    active: 4_000,
-    age: 2_000,
-    annotations: 1_000,
-    tags: 1_000,
-    project: 1_000,
-    blocked: -5_000,
-    waiting: -3_000,
-    age_max: 365,
-};
-
 // 2023-11-14T22:13:20Z
 const NOW: Moment = Moment {
     seconds: 1_700_000_000,
     nanos: 0,
 };
-
-// The task of a text `property=value|property=value`.
-fn task_of(alloc: Global, text: &str) -> Result<TaskMap, Memory> {
-    let mut task = TaskMap::new(alloc);
-    for pair in text.split('|') {
-        if let Some((property, value)) = pair.split_once('=') {
-            task.set(alloc, property, Some(value))?;
-        }
-    }
-    Ok(task)
-}
-
-fn tasks_of(alloc: Global, tasks: &[(u128, &str)]) -> Result<Tasks, Memory> {
-    let mut made = Tasks::new(alloc);
-    for (number, text) in tasks {
-        let _ = made.insert(Uuid::from_u128(*number), task_of(alloc, text)?)?;
-    }
-    Ok(made)
-}
-
-// The uuids of these numbers; 0 is none.
-fn rows_of(alloc: Global, numbers: &[u128]) -> Result<Vec<Uuid>, Memory> {
-    let mut rows = Vec::new(alloc);
-    for number in numbers {
-        if *number != 0 {
-            rows.push(Uuid::from_u128(*number))?;
-        }
-    }
-    Ok(rows)
-}
 
 fn place_of(number: u128) -> Option<Uuid> {
     if number == 0 {
@@ -95,8 +46,8 @@ fn text_of(
     view: &View<'_>,
 ) -> Result<Vec<u8>, Memory> {
     match asked {
-        Asked::Report(report) => report_text(alloc, report, rows, view, &WEIGHTS),
-        Asked::Information => information_text(alloc, rows, view, &WEIGHTS),
+        Asked::Report(report) => report_text(alloc, report, rows, view, &Coefficients::defaults()),
+        Asked::Information => information_text(alloc, rows, view, &Coefficients::defaults()),
         Asked::Projects => projects_text(alloc, rows, view),
         Asked::Tags => tags_text(alloc, rows, view),
     }
@@ -158,7 +109,8 @@ const REPORTS: [Row; 5] = [
     (
         Asked::Report(Report::Next),
         [1, 2, 3, 4],
-        "ID    Urg Project Due        Description\n 1 22.800 Home               first\n   12.000         2023-11-07 overdue\n 4  2.400         2023-11-28 z\n 3  2.400         2023-11-28 a\n\n4 tasks\n",
+        "ID    Urg Project Due        Description\n 1 22.800 Home               first\n   12.000         2023-11-07 overdue\n 4  \
+        2.400         2023-11-28 z\n 3  2.400         2023-11-28 a\n\n4 tasks\n",
     ),
     (
         Asked::Report(Report::Blocked),
@@ -168,7 +120,8 @@ const REPORTS: [Row; 5] = [
     (
         Asked::Report(Report::Completed),
         [5, 6, 9, 6],
-        "UUID                                 Completed  Description\n00000000-0000-0000-0000-000000000006 2020-09-13 done early\n00000000-0000-0000-0000-000000000005 2023-11-14 done late\n\n2 tasks\n",
+        "UUID                                 Completed  Description\n00000000-0000-0000-0000-000000000006 2020-09-13 done early\n\
+        00000000-0000-0000-0000-000000000005 2023-11-14 done late\n\n2 tasks\n",
     ),
     (
         Asked::Report(Report::Waiting),
@@ -178,7 +131,8 @@ const REPORTS: [Row; 5] = [
     (
         Asked::Report(Report::All),
         [8, 7, 0, 0],
-        "ID Status   UUID                                 Description\n   waiting  00000000-0000-0000-0000-000000000007 later\n   strange  00000000-0000-0000-0000-000000000008 \n\n2 tasks\n",
+        "ID Status   UUID                                 Description\n   waiting  00000000-0000-0000-0000-000000000007 later\n   strange  \
+        00000000-0000-0000-0000-000000000008 \n\n2 tasks\n",
     ),
 ];
 
@@ -211,12 +165,15 @@ const TEXTS: [Row; 6] = [
     (
         Asked::Report(Report::List),
         [1, 2, 3, 4],
-        "ID Project Pri Due        Description\n 3 \u{65e5}\u{672c}\u{8a9e}      2023-11-15 tab and line\n 1                        Call Ann\n 2 e\u{301}t\u{e9}     L              no due\n   \u{65e5}\u{672c}\u{8a9e}                 \n\n4 tasks\n",
+        "ID Project Pri Due        Description\n 3 \u{65e5}\u{672c}\u{8a9e}      2023-11-15 tab and line\n 1                        Call \
+        Ann\n 2 e\u{301}t\u{e9}     L              no due\n   \u{65e5}\u{672c}\u{8a9e}                 \n\n4 tasks\n",
     ),
     (
         Asked::Information,
         [4, 1, 0, 0],
-        "id: 1\nuuid: 00000000-0000-0000-0000-000000000001\nurgency: 0.800\ndescription: Call Ann\nentry: 1700000000\nmodified: 1700000000\nstatus: pending\ntag_phone: \n\nid: \nuuid: 00000000-0000-0000-0000-000000000004\nurgency: 1.000\na b: c d\ndue: soon\nproject: \u{65e5}\u{672c}\u{8a9e}\n",
+        "id: 1\nuuid: 00000000-0000-0000-0000-000000000001\nurgency: 0.800\ndescription: Call Ann\nentry: 1700000000\nmodified: 1700000000\n\
+        status: pending\ntag_phone: \n\nid: \nuuid: 00000000-0000-0000-0000-000000000004\nurgency: 1.000\na b: c d\ndue: soon\n\
+        project: \u{65e5}\u{672c}\u{8a9e}\n",
     ),
     (
         Asked::Projects,

@@ -1,13 +1,18 @@
-//! Tests of tasks, their operations, segments, transformation, urgency and recurrence, over the public calls of tw_model, tw_segment, tw_transform, tw_urgency and tw_recur.
+//! Tests of tasks, their operations, segments, snapshots, transformation, groups, urgency and recurrence, over the public calls of tw_model,
+//! tw_segment, tw_snapshot, tw_transform, tw_groups, tw_urgency and tw_recur.
 //! A module is named after the crate that it tests.
 #![tactic(auto)]
 
+#[cfg(test)]
+mod groups;
 #[cfg(test)]
 mod model;
 #[cfg(test)]
 mod recur;
 #[cfg(test)]
 mod segment;
+#[cfg(test)]
+mod snapshot;
 #[cfg(test)]
 mod transform;
 #[cfg(test)]

@@ -25,29 +25,6 @@ fn task_of(alloc: Global, text: &str) -> Result<TaskMap, Memory> {
     Ok(task)
 }
 
-// The coefficients of taskrc(5).
-fn defaults() -> Coefficients
-    ensures { AreWeights result }
-{
-    Coefficients {
-        tag_next: 15_000,
-        due: 12_000,
-        blocking: 8_000,
-        high: 6_000,
-        medium: 3_900,
-        low: 1_800,
-        scheduled: 5_000,
-        active: 4_000,
-        age: 2_000,
-        annotations: 1_000,
-        tags: 1_000,
-        project: 1_000,
-        blocked: -5_000,
-        waiting: -3_000,
-        age_max: 365,
-    }
-}
-
 // Coefficients of which few parts are whole, some of them below zero.
 fn odd() -> Coefficients
     ensures { AreWeights result }
@@ -138,7 +115,7 @@ fn urgencies(alloc: Global, text: &str) -> Result<(i64, i64), Memory> {
     let mut tasks = Tasks::new(alloc);
     let _ = tasks.insert(numbered(1), task)?;
     Ok((
-        urgency_of(&tasks, numbered(1), NOW, &defaults()),
+        urgency_of(&tasks, numbered(1), NOW, &Coefficients::defaults()),
         urgency_of(&tasks, numbered(1), NOW, &odd()),
     ))
 }

@@ -1,6 +1,6 @@
 use std::alloc::Global;
 use std::test::Fail;
-use tw_table::{Column, table_text};
+use tw_text::{Column, table_text};
 use tw_world::Memory;
 
 const COLUMNS: [Column; 3] = [

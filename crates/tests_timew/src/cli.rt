@@ -274,7 +274,7 @@ fn what_fails_is_told(rt: HostRuntime) -> Result<(), Fail> {
     Ok(())
 }
 
-// Whether a line that is no command is told of, and the journal's disk is not used.
+// Whether a line that is no command has its line on the standard error, and the journal's disk is not used.
 fn leaves_the_disk(alloc: Global) -> Result<bool, Fail> {
     let mut machine = empty(alloc)?;
     let is_told = machine.tells("start :adjust 999999999999", "2 timew: bad word 2\n")?;
@@ -289,7 +289,7 @@ fn bad_words_leave_the_disk(rt: HostRuntime) -> Result<(), Fail> {
 
 const NONE_ACTIVE: &str = "1 timew: no active tracking\n";
 
-// Whether the next command finds the interval split, or whole where the split was not carried out, if these calls fail.
+// Whether the next command finds the interval split, or whole if the split was not carried out, after these calls fail.
 fn is_split_or_whole(
     alloc: Global,
     folder_fails: &[u64],

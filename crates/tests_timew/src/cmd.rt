@@ -22,7 +22,7 @@ fn read(alloc: Global, lines: &str) -> Result<Intervals, Fail> {
     Ok(Intervals::in_order(rows).ok_or("out of order")?)
 }
 
-// The words of a text, which spaces part, and in which `_` stands for one.
+// The words of a text, parted by spaces; `_` is a space within a word.
 fn words_of(alloc: Global, text: &str) -> Result<Vec<String>, Fail> {
     let mut words = Vec::new(alloc);
     if text.is_empty() {
@@ -56,10 +56,11 @@ fn planned(
     let words = words_of(alloc, words)?;
     let now = Moment::new(NOW, 0).ok_or("no moment")?;
     let rows = read(alloc, before)?;
-    let Ok(command) = read_words(alloc, &words, now, &Zone::utc()) else {
-        return Err(Fail::from("bad words"));
+    let command = read_words(alloc, &words, now, &Zone::utc()).or(Err("bad words"))?;
+    let Command::Change(command) = &command else {
+        return Err(Fail::from("no change"));
     };
-    match plan(alloc, &command, &rows, NOW) {
+    match plan(alloc, command, &rows, NOW) {
         Ok(edit) => Ok(Ok(rows.edited(edit)?)),
         Err(error) => Ok(Err(error)),
     }

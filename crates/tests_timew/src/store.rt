@@ -45,7 +45,7 @@ const LIBERTIES: [(&str, &str); 7] = [
     ("inc 20260201T000000Z # another month", ""),
 ];
 
-// The month file of January 2026 with the intervals of lines, where they are in order.
+// The month file of January 2026 with the intervals of lines, if they are in order.
 fn january_of(alloc: Global, lines: &str) -> Option<Vec<u8>> {
     let rows = read_month(alloc, lines.as_bytes()).ok()?;
     let rows = Intervals::in_order(rows)?;
@@ -93,7 +93,7 @@ const BAD_LINES: [&str; 16] = [
     "Inc 20260105T090000Z",
 ];
 
-// Whether a line is named as the third, behind a good one and an empty one.
+// Whether a line is named as the third, after a good one and an empty one.
 fn is_bad(alloc: Global, line: &str) -> Result<bool, Fail> {
     let lines = format!(in alloc; "inc 20260105T080000Z\n\n{line}\ninc nothing\n")?;
     Ok(match read_month(alloc, lines.as_bytes()) {

@@ -8,7 +8,7 @@ use tw_world::MemoryDisk;
 
 const SECOND: u64 = 1_700_000_000;
 
-// A line, its status, and what it prints or, where it fails, tells.
+// A line, its status, and what it prints or, if it fails, writes on the standard error.
 type Row = (&'static str, u8, &'static str);
 
 // Runs lines over one store, that of number N with identifiers from N on, from 1, and fails with the first one that ends otherwise.
@@ -31,7 +31,7 @@ fn ends(alloc: Global, first: u128, row: &Row, disk: &mut MemoryDisk) -> Result<
     Ok(ended.outcome.status == status && is_line(ended.said(), text))
 }
 
-// Whether it is this text, with a newline behind it.
+// Whether it is this text, with a newline after it.
 fn is_line(said: Option<&[u8]>, text: &str) -> bool {
     match said {
         Some([front @ .., b'\n']) => front == text.as_bytes(),
@@ -47,7 +47,9 @@ const ANNOTATED: [Row; 12] = [
     (
         "export",
         0,
-        "[\n{\"annotations\":[{\"description\":\"two\",\"entry\":\"20231114T221321Z\"}],\"description\":\"Buy milk\",\"entry\":\"20231114T221320Z\",\"modified\":\"20231114T221320Z\",\"status\":\"pending\",\"urgency\":0.800,\"uuid\":\"00000000-0000-4000-8000-000000000001\"}\n]",
+        "[\n{\"annotations\":[{\"description\":\"two\",\"entry\":\"20231114T221321Z\"}],\"description\":\"Buy milk\",\
+         \"entry\":\"20231114T221320Z\",\"modified\":\"20231114T221320Z\",\"status\":\"pending\",\"urgency\":0.800,\
+         \"uuid\":\"00000000-0000-4000-8000-000000000001\"}\n]",
     ),
     ("1|denotate|o", 0, "Denotated 1 task."),
     ("1|denotate|o", 1, "task: no matches"),
@@ -91,7 +93,7 @@ const FILTERED: [Row; 17] = [
     ("count", 0, "5"),
 ];
 
-// After an undo the tasks that are open again stand behind all numbers that were given.
+// After an undo the tasks that are open again come after all numbers that were given.
 const LIVED: [Row; 21] = [
     ("add|Buy|milk|+shop|project:Home", 0, "Created task 1."),
     ("log|Sleep", 0, "Logged task."),
@@ -132,12 +134,19 @@ const EXPORTED: [Row; 9] = [
     (
         "export|2|5",
         0,
-        "[\n{\"description\":\"Buy\",\"entry\":\"20231114T221320Z\",\"modified\":\"20231114T221320Z\",\"status\":\"pending\",\"tags\":[\"shop\"],\"urgency\":0.800,\"uuid\":\"00000000-0000-4000-8000-000000000002\"},\n{\"description\":\"Call Ann\",\"entry\":\"20231114T221320Z\",\"modified\":\"20231114T221320Z\",\"priority\":\"H\",\"project\":\"Home\",\"status\":\"pending\",\"tags\":[\"next\"],\"urgency\":22.800,\"uuid\":\"00000000-0000-4000-8000-000000000005\"}\n]",
+        "[\n{\"description\":\"Buy\",\"entry\":\"20231114T221320Z\",\"modified\":\"20231114T221320Z\",\
+         \"status\":\"pending\",\"tags\":[\"shop\"],\"urgency\":0.800,\
+         \"uuid\":\"00000000-0000-4000-8000-000000000002\"},\n{\"description\":\"Call Ann\",\
+         \"entry\":\"20231114T221320Z\",\"modified\":\"20231114T221320Z\",\"priority\":\"H\",\"project\":\"Home\",\
+         \"status\":\"pending\",\"tags\":[\"next\"],\"urgency\":22.800,\
+         \"uuid\":\"00000000-0000-4000-8000-000000000005\"}\n]",
     ),
     (
         "status:waiting|export",
         0,
-        "[\n{\"description\":\"Sleep\",\"entry\":\"20231114T221320Z\",\"modified\":\"20231114T221320Z\",\"status\":\"waiting\",\"urgency\":-3.000,\"uuid\":\"00000000-0000-4000-8000-000000000006\",\"wait\":\"20231115T000000Z\"}\n]",
+        "[\n{\"description\":\"Sleep\",\"entry\":\"20231114T221320Z\",\"modified\":\"20231114T221320Z\",\
+         \"status\":\"waiting\",\"urgency\":-3.000,\"uuid\":\"00000000-0000-4000-8000-000000000006\",\
+         \"wait\":\"20231115T000000Z\"}\n]",
     ),
 ];
 
@@ -196,7 +205,8 @@ const COUNTED: [Row; 7] = [
     (
         "export",
         0,
-        "[\n{\"description\":\"Buy milk\",\"entry\":\"20231114T221320Z\",\"modified\":\"20231114T221320Z\",\"status\":\"pending\",\"urgency\":0.000,\"uuid\":\"00000000-0000-4000-8000-000000000001\"}\n]",
+        "[\n{\"description\":\"Buy milk\",\"entry\":\"20231114T221320Z\",\"modified\":\"20231114T221320Z\",\
+         \"status\":\"pending\",\"urgency\":0.000,\"uuid\":\"00000000-0000-4000-8000-000000000001\"}\n]",
     ),
     ("undo", 0, "Undone 5 operations."),
     ("count", 0, "0"),

@@ -11,18 +11,18 @@ const SECOND: u64 = 1_700_000_000;
 // and the commit of a task `Buy milk` 250.
 const RECORDS: [u64; 3] = [0, 29, 279];
 
-// The damage of a store whose byte at this place is 255: at the record that has the byte. Where it is the last byte of the slot that
+// The damage of a store whose byte at this offset is 255: at the record that has the byte. If it is the last byte of the slot that
 // counts, the records begin at 255: there the value of a property of the first commit reads as a record, `pending`, which is no step.
-// Where it is the last byte of the length of the first commit, the record takes ten bytes of the next one, and what stands behind
-// them is no gate.
-fn damage_at(place: u64) -> u64 {
-    if place == 20 {
+// If it is the last byte of the length of the first commit, the record takes ten bytes of the next one, and what comes after them
+// is no gate.
+fn damage_at(at: u64) -> u64 {
+    if at == 20 {
         255
-    } else if place == 33 {
+    } else if at == 33 {
         289
-    } else if place < RECORDS[1] {
+    } else if at < RECORDS[1] {
         RECORDS[0]
-    } else if place < RECORDS[2] {
+    } else if at < RECORDS[2] {
         RECORDS[1]
     } else {
         RECORDS[2]
@@ -38,10 +38,10 @@ fn two_tasks(alloc: Global) -> Result<Vec<u8>, Fail> {
     Ok(disk.bytes().to_vec(alloc)?)
 }
 
-// Counts the tasks of a store whose byte at this place is 255: where its damage is, or none where it holds both.
-fn damage_of(alloc: Global, whole: &[u8], place: usize) -> Result<Option<u64>, Fail> {
+// Counts the tasks of a store whose byte at this offset is 255: the offset of its damage, or none if it holds both.
+fn damage_of(alloc: Global, whole: &[u8], at: usize) -> Result<Option<u64>, Fail> {
     let mut bytes = whole.to_vec(alloc)?;
-    *bytes.get_mut(place).ok_or("no byte")? = 255;
+    *bytes.get_mut(at).ok_or("no byte")? = 255;
     let mut disk = disk_of(alloc, &bytes, &[])?;
     let ended = run_alone(alloc, &Given::new(3, SECOND), "count", &mut disk)?;
     match &ended.outcome.cause {
@@ -51,13 +51,13 @@ fn damage_of(alloc: Global, whole: &[u8], place: usize) -> Result<Option<u64>, F
     }
 }
 
-// How many bytes of a store may each be 255 and change no task, where each other one is damage at its record.
+// How many bytes of a store may each be 255 and change no task, if each other one is damage at its record.
 fn taken(alloc: Global, whole: &[u8]) -> Result<Option<u64>, Fail> {
     let mut taken: u64 = 0;
-    for place in 0..whole.len() {
-        match damage_of(alloc, whole, place)? {
+    for at in 0..whole.len() {
+        match damage_of(alloc, whole, at)? {
             None => taken = taken.saturating_add(1),
-            Some(offset) if offset == damage_at(place as u64) => {}
+            Some(offset) if offset == damage_at(at as u64) => {}
             Some(_) => return Ok(None),
         }
     }

@@ -11,9 +11,11 @@ const CALL: &str =
     "[{\"description\":\"Call Ann\",\"entry\":\"20231114T221320Z\",\"tags\":[\"phone\"]}]";
 
 const CALL_EXPORTED: &str =
-    "[\n{\"description\":\"Call Ann\",\"entry\":\"20231114T221320Z\",\"modified\":\"20231114T221320Z\",\"status\":\"pending\",\"tags\":[\"phone\"],\"urgency\":0.800,\"uuid\":\"00000000-0000-4000-8000-000000000001\"}\n]\n";
+    "[\n{\"description\":\"Call Ann\",\"entry\":\"20231114T221320Z\",\"modified\":\"20231114T221320Z\",\
+     \"status\":\"pending\",\"tags\":[\"phone\"],\"urgency\":0.800,\
+     \"uuid\":\"00000000-0000-4000-8000-000000000001\"}\n]\n";
 
-// A line, its input, the number of the read that fails, the status, and what is printed or told.
+// A line, its input, the number of the read that fails, the status, and what is printed or written on the standard error.
 type Row = (&'static str, &'static str, &'static [u64], u8, &'static str);
 
 const ROWS: [Row; 12] = [

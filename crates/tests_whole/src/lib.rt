@@ -1,6 +1,6 @@
 //! Tests over the top call of the program that no clause says, and that cross its crates.
 //! It has no code of its own and promises nothing beside them.
-//! It stands on `tw_cli`, and on the objects in memory of `tw_world` and `tw_server`.
+//! It uses `tw_cli`, and the objects in memory of `tw_world` and `tw_server`.
 #![tactic(auto)]
 
 #[cfg(test)]

@@ -95,7 +95,7 @@ impl<'a> Given<'a> {
     }
 }
 
-/// How a run ended, with what it printed and told.
+/// How a run ended, with what it wrote on both streams.
 pub struct Ended {
     pub outcome: Outcome,
     pub out: MemorySink,
@@ -119,7 +119,7 @@ impl Ended {
         self.outcome.status == status && self.outcome.cause == *cause
     }
 
-    /// What it printed, or where it did not end well what it told, if the other stream got nothing.
+    /// What it printed, or its line on the standard error if it did not end well, if the other stream got nothing.
     pub fn said(&self) -> Option<&[u8]> {
         let (said, other) = if self.outcome.status == 0 {
             (self.out.bytes(), self.err.bytes())

@@ -6,7 +6,7 @@ use std::test::Fail;
 use tw_cli::{Cause, WordKind};
 use tw_world::MemoryDisk;
 
-// The journal after a task was added to an empty store: its magic, two slots of which the first tells 29, and one commit of six
+// The journal after a task was added to an empty store: its magic, two slots of which the first says 29, and one commit of six
 // operations.
 const ADDED: [u8; 279] = [
     2, 0, 0, 0, 8, 84, 87, 82, 69, 80, 76, 48, 49, 0, 0, 0, 0, 0, 0, 0, 29, 0, 0, 0, 0, 0, 0, 0, 0,
@@ -32,7 +32,7 @@ fn run(alloc: Global, line: &str, disk: &mut MemoryDisk) -> Result<Ended, Fail> 
     run_from(alloc, 1, line, disk)
 }
 
-// Whether a task is added where these calls of the output fail, and the run ends so.
+// Whether a task is added if these calls of the output fail, and the run ends so.
 fn adds(
     alloc: Global,
     out_fails: &[u64],
@@ -151,7 +151,7 @@ fn fails_at(alloc: Global, failing: u64, counted: &str) -> Result<bool, Fail> {
     Ok(is_told && prints(alloc, &mut again, "count", counted)?)
 }
 
-// Only where the last sync fails does the record stand.
+// Only if the last sync fails is the record there.
 #[test]
 fn a_disk_that_fails_is_told_and_keeps_its_records(rt: HostRuntime) -> Result<(), Fail> {
     let alloc = rt.alloc();

@@ -53,7 +53,7 @@ fn a_task_is_sent_once_and_a_second_sync_writes_nothing(rt: HostRuntime) -> Resu
     Ok(())
 }
 
-// Whether a lost reply to an added task leaves the bytes, and these lines go on behind it.
+// Whether a lost reply to an added task leaves the bytes, and these lines go on after it.
 fn goes_on_behind_a_lost_reply(alloc: Global, rows: &[Row]) -> Result<bool, Fail> {
     let nothing: &[&str] = &[];
     let exchanges = [(nothing, Fate::Deliver), (nothing, Fate::LoseReply)];
@@ -82,12 +82,12 @@ fn a_lost_reply_costs_nothing(rt: HostRuntime) -> Result<(), Fail> {
     Ok(())
 }
 
-// The fate of the exchange with a number, where that with the number `lost` ends so and the others arrive.
+// The fate of the exchange with a number, if that with the number `lost` ends so and the others arrive.
 fn fate_of(number: u8, lost: u8, fate: Fate) -> Fate {
     if number == lost { fate } else { Fate::Deliver }
 }
 
-// Whether the machines agree in the end, where one exchange of the first sync is lost.
+// Whether the machines agree in the end, if one exchange of the first sync is lost.
 fn agree_without(alloc: Global, lost: u8, fate: Fate) -> Result<bool, Fail> {
     let exchanges = [
         ([NOTHING].as_slice(), fate_of(0, lost, fate)),

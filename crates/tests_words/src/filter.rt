@@ -37,7 +37,8 @@ const TASKS: [(u8, &str); 9] = [
     ),
     (
         6,
-        "description=Ship, milk. it|status=pending|dep_00000000-0000-4000-8000-000000000001=|dep_00000000-0000-4000-8000-000000000099=|start=1772618395|due=1772618399|project=a.b.c|annotation_x=hidden",
+        "description=Ship, milk. it|status=pending|dep_00000000-0000-4000-8000-000000000001=|dep_00000000-0000-4000-8000-000000000099=|\
+        start=1772618395|due=1772618399|project=a.b.c|annotation_x=hidden",
     ),
     (
         7,
@@ -45,7 +46,8 @@ const TASKS: [(u8, &str); 9] = [
     ),
     (
         8,
-        "description=milk|status=pending|wait=1772618400|due=253370764799|parent=00000000-0000-4000-8000-000000000005|imask=0|dep_00000000-0000-4000-8000-000000000006=|dep_0000000A-0000-4000-8000-000000000004=|scheduled=1772618400|priority=|modified=253370764800|recur=weekly",
+        "description=milk|status=pending|wait=1772618400|due=253370764799|parent=00000000-0000-4000-8000-000000000005|imask=0|\
+        dep_00000000-0000-4000-8000-000000000006=|dep_0000000A-0000-4000-8000-000000000004=|scheduled=1772618400|priority=|modified=253370764800|recur=weekly",
     ),
     (9, ""),
 ];
@@ -98,7 +100,7 @@ fn now() -> Moment {
     }
 }
 
-// The words of a text, and the number from which on they stand behind `--`.
+// The words of a text, and the number from which on they come after `--`.
 fn words_of(alloc: Global, text: &str) -> Result<(Vec<String>, u64), Memory> {
     let mut words = Vec::new(alloc);
     let mut plain = u64::MAX;
@@ -112,7 +114,7 @@ fn words_of(alloc: Global, text: &str) -> Result<(Vec<String>, u64), Memory> {
     Ok((words, plain))
 }
 
-// Whether a filter holds for a task, where it is there.
+// Whether a filter holds for a task, if it is there.
 fn holds_alone(filter: &Filter, view: &View<'_>, uuid: Uuid) -> bool {
     view.tasks.get(uuid).is_some() && filter.holds(view, uuid, &mut Looks::new())
 }
@@ -140,7 +142,7 @@ fn is_name(word: &str) -> bool {
     true
 }
 
-// Whether there is a word, and each is a number, a list of them or a uuid, and none stands behind `--`.
+// Whether there is a word, and each is a number, a list of them or a uuid, and none comes after `--`.
 fn are_names(words: &Vec<String>, plain: u64) -> bool {
     for word in words {
         if !is_name(word.as_str()) {
@@ -328,7 +330,7 @@ fn nested(alloc: Global, depth: u64) -> Result<Vec<String>, Memory> {
     Ok(words)
 }
 
-// Words of five thousand tasks that are not blocked, and these behind them.
+// Words of five thousand tasks that are not blocked, and these after them.
 fn many(alloc: Global, behind: &[&str]) -> Result<Vec<String>, Memory> {
     let mut words = Vec::new(alloc);
     for _ in 0..5_000 {

@@ -28,7 +28,7 @@ fn line_of(alloc: Global, line: &str) -> Result<Line, Memory> {
     cut_words(alloc, &words)
 }
 
-// What stands round the sign of a row.
+// What is around the sign of a row.
 fn halves(row: &str) -> Result<(&str, &str), Fail> {
     Ok(row.split_once(" > ").ok_or("no row")?)
 }

@@ -1,6 +1,6 @@
 -- How a command ends over a store that is open.
 use Rattle.std.proofs.Common.{◌≡◌, inl, ℕ, zero, suc, ◌+◌, ◌<◌, true, false, List, [], ◌∷◌, ◌++◌, length, Option, Some, None, Result, Ok, Err, refl, sym, ap, subst, ◌∙◌, arith}
-use Rattle.std.specs.Prelude.{slice_index_or, option_map, IsErrAnd, IfErr, Bool, if◌then◌else◌}
+use Rattle.std.specs.Prelude.{slice_index_or, option_map}
 use Rattle.std.proofs.lemmas.List.{append-nil}
 use Rattle.tw_world.specs.Disk.{DiskModel, Rose}
 use Rattle.tw_world.specs.Disk as disk
@@ -13,13 +13,15 @@ use Rattle.timew_store.proofs.Undoes.{rest_read}
 use Rattle.tw_journal.specs.Journal.{is_closed}
 use Rattle.tw_journal.specs.declared.error.JournalError.TheVariants as fault
 use Rattle.timew_store.specs.Body.{Step, step_of, ◌>>=◌}
-use Rattle.timew_store.specs.History.{History, start, applied, stepped, replayed}
+use Rattle.timew_store.specs.History.{History, applied, stepped, replayed}
 use Rattle.timew_store.specs.Held.{Held, held_by}
-use Rattle.timew_store.specs.Months.{changes_to}
+use Rattle.timew_store.specs.Changes.{changes_to}
 use Rattle.timew_store.specs.Rows.{rows_of}
-use Rattle.timew_store.specs.Store.{IsStoreOn, IsMovedTo, IsChangeBody, rows_kept, changed, change_bodies, ChangeRefused}
-use Rattle.timew_store.specs.Undo.{undo_bodies, IsTakenBack, OpensToEitherOf, UndoRefused}
-use Rattle.timew_store.specs.Undoing.{NoUndo, undone_held}
+use Rattle.timew_store.specs.Store.{IsStoreOn, IsMovedTo, IsChangeBody, intervals_of, changed, change_bodies, ChangeRefused}
+use Rattle.timew_store.specs.StoreUndo.{undo_bodies, IsTakenBack, OpensToEitherOf, UndoRefused}
+use Rattle.timew_store.specs.Undo.{NoUndo, undone_held}
+use Rattle.timew_store.specs.Edit.{edited}
+use Rattle.timew_store.specs.declared.edit.Edit.{Edit}
 use Rattle.timew_store.specs.declared.interval.Interval.{Interval}
 use Rattle.timew_store.specs.declared.store.Store.{Store}
 use Rattle.timew_store.specs.declared.error.StoreError.{StoreError}
@@ -27,28 +29,18 @@ use Rattle.timew_store.specs.declared.error.StoreError.TheVariants as write
 use Rattle.timew_store.specs.declared.error.UndoError.{UndoError}
 use Rattle.timew_store.specs.declared.error.UndoError.TheVariants as undo
 use Rattle.timew_cmd.specs.declared.command.Command.{Command}
+use Rattle.timew_cmd.specs.declared.command.Command.TheVariants.{Show}
+use Rattle.timew_cmd.specs.declared.command.Showing.{Showing}
 use Rattle.timew_cmd.specs.declared.error.TimewError.{TimewError}
 use Rattle.timew_cmd.specs.declared.error.TimewError.TheVariants as plan
-use Rattle.timew_cmd.specs.Planned.{Fails, planned}
+use Rattle.timew_cmd.specs.Planned.{Fails}
 use Rattle.timew_cmd.specs.Texts.{stored}
 use Rattle.timew_cli.specs.Cause.{plan_cause, change_cause, undo_cause}
-use Rattle.timew_cli.specs.Carried.{Carried, changes, takes_back, count_of, shows, is_undo, is_view, view_of, shows_any, carried_by}
+use Rattle.timew_cli.specs.Carried.{Carried, changes, takes_back, count_of, shows, view_of, shows_any, carried_by}
 use Rattle.timew_cli.specs.Run.{Outside, went}
-use Rattle.timew_cli.specs.declared.carry.Shown.{Shown}
-use Rattle.timew_cli.specs.Step.{shown_of, Rests, EndsBadly, Ends, EndsWith, IsFaultOf, Among, IsTooLong}
+use Rattle.timew_cli.specs.Step.{Rests, EndsBadly, EndsWith, IsFaultOf, Among, IsTooLong}
 use Rattle.timew_cli.specs.declared.cause.Cause.{Cause}
 use Rattle.timew_cli.specs.declared.cause.Cause.TheVariants.{NotTracking}
-
--- what holds of the error that is passed on
-pub passed_on : {T E : Type 0} (r : Result T E) (e : E) (P : E → Type 0) → IsErrAnd r (λ x. x ≡ e) → P e → IfErr r P
-passed_on (Ok v) e P is has = tt
-passed_on (Err x) e P is has = subst P (sym is) has
-
--- the end of a command whose error is passed on
-pub passed_ends : {F D : Type 0} (m : FolderModel F) (n : DiskModel D) (w : Outside F D) (expected : Result Carried Cause) (bodies : List (List ℕ)) (held : Held) (r : Result Shown Cause) (e : Cause)
-    → IsErrAnd r (λ x. x ≡ e) → EndsBadly m n w expected bodies held e → Ends m n w expected bodies held (shown_of r)
-passed_ends m n w expected bodies held (Ok shown) e is ends = absurd is
-passed_ends m n w expected bodies held (Err x) e is ends = subst (EndsBadly m n w expected bodies held) (sym is) ends
 
 -- records that stand for a history hold a step each
 pub no_step : (bodies : List (List ℕ)) (h g : History) → replayed h bodies ≡ Some g → (k : ℕ) → k < length bodies → step_of (slice_index_or bodies k []) ≡ None → ⊥
@@ -63,6 +55,10 @@ no_step (b ∷ bodies) h g stands (suc k) lt none = of_next (stepped h b) stands
     of_next : (o : Option History) → (o >>= λ next. replayed next bodies) ≡ Some g → ((x : History) → replayed x bodies ≡ Some g → ⊥) → ⊥
     of_next None e later = cc
     of_next (Some x) e later = later x e
+
+-- what is made of the intervals that a store shows is made of those that it has
+pub made_of_kept : (make : List Interval → Result (List Interval) TimewError) (edit : Edit) (rows kept : List Interval) → rows ≡ kept → make rows ≡ Ok (edited edit rows) → make kept ≡ Ok (edited edit kept)
+made_of_kept make edit rows kept same is = subst (λ (r : List Interval). make r ≡ Ok (edited edit r)) same is
 
 module _ {F D : Type 0} (m : FolderModel F) (n : DiskModel D) where
   -- a store that is open rests
@@ -114,7 +110,7 @@ module _ {F D : Type 0} (m : FolderModel F) (n : DiskModel D) where
     change_ends write.Folder r bodies history on = tt
     change_ends (write.Journal fault.Disk) r bodies history on = tt
     change_ends (write.Journal fault.Closed) r bodies history on = tt
-    change_ends (write.Journal (fault.Damaged offset)) r bodies history on = r.1.2.refused
+    change_ends (write.Journal (fault.Damaged offset)) r bodies history on = tt
     change_ends (write.Journal (fault.TooLong bytes)) r bodies history on = too_long bodies history bytes r.1.0 on r.0 r.1.2.refused.4 r.1.1 r.1.2.refused.0
     change_ends (write.Journal fault.Memory) r bodies history on = absurd r.1.2.refused
     change_ends write.Memory r bodies history on = stays_whole bodies history on r.1 r.2
@@ -156,9 +152,7 @@ module _ {F D : Type 0} (m : FolderModel F) (n : DiskModel D) where
     undo_ends undo.Folder r bodies history on = tt
     undo_ends (undo.Journal fault.Disk) r bodies history on = tt
     undo_ends (undo.Journal fault.Closed) r bodies history on = tt
-    undo_ends (undo.Journal (fault.Damaged offset)) r bodies history on =
-        let at = r.2 on.rest.open_on.rest.tells bodies on.rest.open_on in
-        no_step bodies start history on.rest.stands at.0 at.1 at.2.0
+    undo_ends (undo.Journal (fault.Damaged offset)) r bodies history on = tt
     undo_ends (undo.Journal (fault.TooLong bytes)) r bodies history on =
         let writes = r.2.2 bodies history on in
         record {
@@ -188,7 +182,7 @@ module _ {F D : Type 0} (m : FolderModel F) (n : DiskModel D) where
     undo_fault live undo.NothingToUndo r = tt
     undo_fault live undo.Memory r = tt
 
-    pub undo_done : (bodies : List (List ℕ)) (history : History) (count : ℕ) → count ≡ length (rows_kept new) → IsTakenBack m n new f0 f1 d1 bodies history
+    pub undo_done : (bodies : List (List ℕ)) (history : History) (count : ℕ) → count ≡ length (intervals_of new) → IsTakenBack m n new f0 f1 d1 bodies history
         → EndsWith m n (went f0 f1 d0 d1) (takes_back (held_by m f0 history) (undone_held (held_by m f0 history))) bodies (stored count)
     undo_done bodies history count is taken = record {
       carried = record { held = taken.back; adds = undo_bodies history.undoable; text = stored (count_of (rows_of taken.back.files)) };
@@ -196,22 +190,6 @@ module _ {F D : Type 0} (m : FolderModel F) (n : DiskModel D) where
       text_is = ap stored (is ∙ sym (ap (λ (h : Held). count_of (rows_of h.files)) (sym taken.moved.holds) ∙ ap count_of taken.moved.on.months.rows_are));
       after = record { journal = new.journal; history = taken.moved.history; rest = taken.moved.on.rest; holds = taken.moved.holds };
     }
-
--- ---- which of the three a command is
-
-pub by_undo : (command : Command) (held : Held) (rows : List Interval) (now : ℕ) (zone : TimeZone) → is_undo command ≡ true → carried_by command held rows now zone ≡ takes_back held (undone_held held)
-by_undo command held rows now zone is =
-    ap (λ (b : Bool). if b then takes_back held (undone_held held) else (if is_view command then shows_any held (view_of command rows now zone) else changes held (planned command rows now))) is
-
-pub by_change : (command : Command) (held : Held) (rows : List Interval) (now : ℕ) (zone : TimeZone) → is_undo command ≡ false → is_view command ≡ false → carried_by command held rows now zone ≡ changes held (planned command rows now)
-by_change command held rows now zone no_undo no_view =
-    ap (λ (b : Bool). if b then takes_back held (undone_held held) else (if is_view command then shows_any held (view_of command rows now zone) else changes held (planned command rows now))) no_undo
-    ∙ ap (λ (b : Bool). if b then shows_any held (view_of command rows now zone) else changes held (planned command rows now)) no_view
-
-pub by_view : (command : Command) (held : Held) (rows : List Interval) (now : ℕ) (zone : TimeZone) → is_undo command ≡ false → is_view command ≡ true → carried_by command held rows now zone ≡ shows_any held (view_of command rows now zone)
-by_view command held rows now zone no_undo is =
-    ap (λ (b : Bool). if b then takes_back held (undone_held held) else (if is_view command then shows_any held (view_of command rows now zone) else changes held (planned command rows now))) no_undo
-    ∙ ap (λ (b : Bool). if b then shows_any held (view_of command rows now zone) else changes held (planned command rows now)) is
 
 -- ---- a command that only shows
 
@@ -221,15 +199,18 @@ some_view f o x v is view = sym view ∙ ap (option_map f) is
 pub none_view : {A B : Type 0} (f : A → B) (o : Option A) (v : Option B) → o ≡ None → option_map f o ≡ v → v ≡ None
 none_view f o v is view = sym view ∙ ap (option_map f) is
 
-module _ {F D : Type 0} (m : FolderModel F) (n : DiskModel D) (store : Store) (f : F) (d : D) (bodies : List (List ℕ)) (history : History) (on : IsStoreOn m n store f d bodies history) (command : Command) (now : ℕ) (zone : TimeZone)
-    (no_undo : is_undo command ≡ false) (view : is_view command ≡ true) where
-  pub view_ends : (text : List ℕ) → view_of command (rows_kept store) now zone ≡ Some text → EndsWith m n (went f f d d) (carried_by command (held_by m f history) (rows_kept store) now zone) bodies text
+module _ {F D : Type 0} (m : FolderModel F) (n : DiskModel D) (store : Store) (f : F) (d : D) (bodies : List (List ℕ)) (history : History) (on : IsStoreOn m n store f d bodies history) (command : Command) (showing : Showing) (now : ℕ) (zone : TimeZone)
+    (asked : command ≡ Show showing) where
+  shown : carried_by command (held_by m f history) (intervals_of store) now zone ≡ shows_any (held_by m f history) (view_of showing (intervals_of store) now zone)
+  shown = ap (λ (c : Command). carried_by c (held_by m f history) (intervals_of store) now zone) asked
+
+  pub view_ends : (text : List ℕ) → view_of showing (intervals_of store) now zone ≡ Some text → EndsWith m n (went f f d d) (carried_by command (held_by m f history) (intervals_of store) now zone) bodies text
   view_ends text is = record {
     carried = shows (held_by m f history) text;
-    is = by_view command (held_by m f history) (rows_kept store) now zone no_undo view ∙ ap (shows_any (held_by m f history)) is;
+    is = shown ∙ ap (shows_any (held_by m f history)) is;
     text_is = refl;
     after = subst (λ (b : List (List ℕ)). Rests m n f d b (held_by m f history)) (sym (append-nil bodies)) (rests m n store f d bodies history on);
   }
 
-  pub view_fails : view_of command (rows_kept store) now zone ≡ None → (carried_by command (held_by m f history) (rows_kept store) now zone ≡ Err NotTracking) × Rests m n f d bodies (held_by m f history)
-  view_fails is = (by_view command (held_by m f history) (rows_kept store) now zone no_undo view ∙ ap (shows_any (held_by m f history)) is, rests m n store f d bodies history on)
+  pub view_fails : view_of showing (intervals_of store) now zone ≡ None → (carried_by command (held_by m f history) (intervals_of store) now zone ≡ Err NotTracking) × Rests m n f d bodies (held_by m f history)
+  view_fails is = (shown ∙ ap (shows_any (held_by m f history)) is, rests m n store f d bodies history on)

@@ -1,4 +1,4 @@
-pub mod Named
 pub mod Ending
 pub mod Loaded
 pub mod Runs
+pub mod Unnamed

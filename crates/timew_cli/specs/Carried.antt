@@ -1,20 +1,24 @@
 -- What a command does to the intervals that a folder and a journal hold.
-use Rattle.std.specs.Prelude.{ℕ, Bool, true, false, if◌then◌else◌, List, [], length, Option, Some, None, Result, Ok, Err}
+use Rattle.std.specs.Prelude.{ℕ, List, [], length, Option, Some, None, Result, Ok, Err}
 use Rattle.tw_time.specs.Moments.{TimeZone}
 use Rattle.timew_store.specs.declared.interval.Interval.{Interval}
 use Rattle.timew_store.specs.Held.{Held}
-use Rattle.timew_store.specs.Months.{changes_to}
+use Rattle.timew_store.specs.Changes.{changes_to}
 use Rattle.timew_store.specs.Rows.{rows_of}
 use Rattle.timew_store.specs.Store.{changed, change_bodies}
-use Rattle.timew_store.specs.Undo.{undo_bodies}
-use Rattle.timew_store.specs.Undoing.{NoUndo, undone_held}
+use Rattle.timew_store.specs.StoreUndo.{undo_bodies}
+use Rattle.timew_store.specs.Undo.{NoUndo, undone_held}
 use Rattle.timew_cmd.specs.declared.command.Command.{Command}
-use Rattle.timew_cmd.specs.declared.command.Command.TheVariants.{Show, Undo, Export, Summary}
+use Rattle.timew_cmd.specs.declared.command.Command.TheVariants.{Change, Undo, Show}
+use Rattle.timew_cmd.specs.declared.command.Showing.{Showing}
+use Rattle.timew_cmd.specs.declared.command.Showing.TheVariants.{Tracked, Export, Summary}
 use Rattle.timew_cmd.specs.declared.error.TimewError.{TimewError}
 use Rattle.timew_cmd.specs.Planned.{planned}
 use Rattle.timew_cmd.specs.Ranges.{bounds}
-use Rattle.timew_cmd.specs.Texts.{tracking, stored, summary}
-use Rattle.timew_cmd.specs.Exported.{export}
+use Rattle.timew_cmd.specs.Texts.{stored}
+use Rattle.timew_cmd.specs.Commands.Export.{export}
+use Rattle.timew_cmd.specs.Commands.Show.{tracking}
+use Rattle.timew_cmd.specs.Commands.Summary.{summary}
 use Rattle.timew_cli.specs.Cause.{plan_cause, no_undo_cause}
 use Rattle.timew_cli.specs.declared.cause.Cause.{Cause}
 use Rattle.timew_cli.specs.declared.cause.Cause.TheVariants.{NotTracking, BadLine}
@@ -48,30 +52,17 @@ abbrev pub changes : Held → Result (List Interval) TimewError → Result Carri
 changes held (Err e) = Err (plan_cause e)
 changes held (Ok next) = Ok (record { held = changed held next; adds = change_bodies (changes_to held.files next); text = stored (length next) })
 
--- the command takes the last change back
-abbrev pub is_undo : Command → Bool
-is_undo Undo = true
-is_undo command = false
-
--- the command only shows
-abbrev pub is_view : Command → Bool
-is_view Show = true
-is_view (Export range) = true
-is_view (Summary range) = true
-is_view command = false
-
 -- the text of a command that only shows
-abbrev pub view_of : Command → List Interval → (now : ℕ) → TimeZone → Option (List ℕ)
-view_of Show rows now zone = tracking rows
+abbrev pub view_of : Showing → List Interval → (now : ℕ) → TimeZone → Option (List ℕ)
+view_of Tracked rows now zone = tracking rows
 view_of (Export range) rows now zone = Some (export rows (bounds range now zone).0 (bounds range now zone).1 now)
 view_of (Summary range) rows now zone = Some (summary rows (bounds range now zone).0 (bounds range now zone).1 now zone)
-view_of command rows now zone = None
 
 -- what a command does, where the month files hold these intervals
 abbrev pub carried_by : Command → Held → List Interval → (now : ℕ) → TimeZone → Result Carried Cause
-carried_by command held rows now zone =
-    if is_undo command then takes_back held (undone_held held)
-    else (if is_view command then shows_any held (view_of command rows now zone) else changes held (planned command rows now))
+carried_by (Change command) held rows now zone = changes held (planned command rows now)
+carried_by Undo held rows now zone = takes_back held (undone_held held)
+carried_by (Show showing) held rows now zone = shows_any held (view_of showing rows now zone)
 
 abbrev pub with_rows : Command → Held → Result (List Interval) (List ℕ × ℕ) → (now : ℕ) → TimeZone → Result Carried Cause
 with_rows command held (Err line) now zone = Err (BadLine line.0 line.1)

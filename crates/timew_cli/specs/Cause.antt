@@ -1,4 +1,6 @@
--- The cause that each error becomes.
+-- What a cause says, and the cause that each error becomes.
+use Rattle.tw_ending.specs.Ending.{End}
+use Rattle.tw_ending.specs.Ending.End.{Well, Output, Failed}
 use Rattle.tw_journal.specs.declared.error.JournalError.{JournalError}
 use Rattle.tw_journal.specs.declared.error.JournalError.TheVariants as journal
 use Rattle.timew_store.specs.declared.error.LoadError.{LoadError}
@@ -7,25 +9,20 @@ use Rattle.timew_store.specs.declared.error.StoreError.{StoreError}
 use Rattle.timew_store.specs.declared.error.StoreError.TheVariants as store
 use Rattle.timew_store.specs.declared.error.UndoError.{UndoError}
 use Rattle.timew_store.specs.declared.error.UndoError.TheVariants as undo
-use Rattle.timew_store.specs.Undoing.{NoUndo}
-use Rattle.timew_store.specs.Undoing.NoUndo.{Nothing, EditedFile, Bad}
+use Rattle.timew_store.specs.Undo.{NoUndo}
+use Rattle.timew_store.specs.Undo.NoUndo.{Nothing, EditedFile, Bad}
 use Rattle.timew_cmd.specs.declared.error.BadWord.{BadWord}
 use Rattle.timew_cmd.specs.declared.error.WordsError.{WordsError}
 use Rattle.timew_cmd.specs.declared.error.WordsError.TheVariants as words
 use Rattle.timew_cmd.specs.declared.error.TimewError.{TimewError}
 use Rattle.timew_cmd.specs.declared.error.TimewError.TheVariants as plan
+use Rattle.timew_cli.specs.declared.carry.CarryError.{CarryError}
+use Rattle.timew_cli.specs.declared.carry.CarryError.TheVariants as carry
 use Rattle.timew_cli.specs.declared.cause.Cause.{Cause}
-use Rattle.timew_cli.specs.declared.cause.Cause.TheVariants.{Done, NothingToUndo, Edited, BadWords, NoInterval, NoOpen, AlreadyOpen, Range, Overlap, BadLine, DiskFault, RecordTooLong, Damaged, FolderFault, Memory, OutFault}
+use Rattle.timew_cli.specs.declared.cause.Cause.TheVariants.{Done, NotTracking, NothingToUndo, Edited, BadWords, NoInterval, NoOpen, AlreadyOpen, Range}
+use Rattle.timew_cli.specs.declared.cause.Cause.TheVariants.{Overlap, BadLine, DiskFault, RecordTooLong, Damaged, FolderFault, Memory, OutFault}
 
--- how a run ends
-pub data End : Type 0 where
-  -- it was carried out and printed
-  Well : End
-  -- it was carried out, and the output failed
-  Output : End
-  -- it was not carried out
-  Failed : End
-
+-- how a run ends with this cause
 abbrev pub end_of : Cause → End
 end_of Done = Well
 end_of OutFault = Output
@@ -82,3 +79,12 @@ plan_cause (plan.AlreadyOpen id) = AlreadyOpen id
 plan_cause (plan.NoInterval id) = NoInterval id
 plan_cause (plan.Range word) = Range word
 plan_cause plan.Memory = Memory
+
+-- of a command that is not carried out
+abbrev pub carry_cause : CarryError → Cause
+carry_cause (carry.Load e) = load_cause e
+carry_cause (carry.Refused e) = plan_cause e
+carry_cause (carry.Change e) = change_cause e
+carry_cause (carry.Undo e) = undo_cause e
+carry_cause carry.NotTracking = NotTracking
+carry_cause carry.Memory = Memory

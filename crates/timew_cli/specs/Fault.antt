@@ -1,10 +1,10 @@
--- What is told of a command that did not end well, and the status of each end.
-use Rattle.std.specs.Prelude.{◌≡◌, ◌⊎◌, ℕ, List, [], ◌∷◌, ◌++◌, codes}
-use Rattle.tw_world.specs.Disk.{Rose}
-use Rattle.tw_world.specs.Sink.{SinkModel, Got, GotPart}
-use Rattle.timew_cli.specs.Text.{numbered}
+-- The line for a command that did not end well, and the status of each end.
+use Rattle.std.specs.Prelude.{ℕ, List, [], ◌++◌, codes}
+use Rattle.tw_world.specs.Sink.{SinkModel}
+use Rattle.tw_ending.specs.Lines.{numbered, GotAny}
 use Rattle.timew_cli.specs.declared.cause.Cause.{Cause}
-use Rattle.timew_cli.specs.declared.cause.Cause.TheVariants.{Done, NotTracking, NothingToUndo, Edited, BadWords, NoInterval, NoOpen, AlreadyOpen, Range, Overlap, BadLine, DiskFault, RecordTooLong, Damaged, FolderFault, Memory, OutFault}
+use Rattle.timew_cli.specs.declared.cause.Cause.TheVariants.{Done, NotTracking, NothingToUndo, Edited, BadWords, NoInterval, NoOpen, AlreadyOpen, Range}
+use Rattle.timew_cli.specs.declared.cause.Cause.TheVariants.{Overlap, BadLine, DiskFault, RecordTooLong, Damaged, FolderFault, Memory, OutFault}
 
 -- the line for the standard error
 abbrev pub fault_line : Cause → List ℕ
@@ -26,18 +26,15 @@ fault_line FolderFault = codes "timew: the folder failed\n"
 fault_line Memory = codes "timew: out of memory\n"
 fault_line OutFault = codes "timew: output failed\n"
 
--- a line was written to a sink, or the sink failed and got a front part of it
-abbrev pub GotLine : {E : Type 0} → SinkModel E → (e0 e1 : E) → List ℕ → Type 0
-GotLine s e0 e1 line = Got s e0 e1 line ⊎ (Rose (s.faults e0) (s.faults e1) × GotPart s e0 e1 line)
+-- its line has no name of a file
+abbrev pub IsShort : Cause → Type 0
+IsShort (Edited file) = ⊥
+IsShort (BadLine file line) = ⊥
+IsShort cause = Unit {0}
 
--- a line is told, where there is one
-abbrev pub GotAny : {E : Type 0} → SinkModel E → (e0 e1 : E) → List ℕ → Type 0
-GotAny s e0 e1 [] = e1 ≡ e0
-GotAny s e0 e1 (b ∷ bs) = GotLine s e0 e1 (b ∷ bs)
-
--- nothing is told of a command that ended well, and of any other its line
-abbrev pub Told : {E : Type 0} → SinkModel E → (e0 e1 : E) → Cause → Type 0
-Told s e0 e1 cause = GotAny s e0 e1 (fault_line cause)
+-- nothing was written for a command that ended well, and for any other its line
+abbrev pub GotFault : {E : Type 0} → SinkModel E → (e0 e1 : E) → Cause → Type 0
+GotFault s e0 e1 cause = GotAny s e0 e1 (fault_line cause)
 
 -- the status of a cause
 abbrev pub status_of : Cause → ℕ

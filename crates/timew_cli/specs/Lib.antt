@@ -1,4 +1,3 @@
-pub mod Text
 pub mod Fault
 pub mod Cause
 pub mod Carried

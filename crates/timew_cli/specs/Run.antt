@@ -3,7 +3,7 @@ use Rattle.std.specs.Prelude.{◌≡◌, ◌⊎◌, ◌<◌, ◌≤◌, ◌+◌,
 use Rattle.tw_time.specs.Moments.{TimeZone}
 use Rattle.tw_world.specs.Disk.{DiskModel, Rose}
 use Rattle.tw_world.specs.Disk as disk
-use Rattle.tw_world.specs.Crash.{Tells, Settled, Kept}
+use Rattle.tw_world.specs.Crash.{Tells, IsStable, FaultsRise}
 use Rattle.tw_world.specs.Folder.{Files, FolderModel}
 use Rattle.tw_world.specs.Sink.{SinkModel, Got, GotPart}
 use Rattle.tw_world.specs.Turns.{InTurns, crash_of}
@@ -14,13 +14,15 @@ use Rattle.timew_store.specs.Held.{magic, Held, OpensTo, IsAtRest, held_by}
 use Rattle.timew_store.specs.Loading.{OpensAlike, IsNoStep}
 use Rattle.timew_cmd.specs.declared.command.Command.{Command}
 use Rattle.timew_cmd.specs.declared.error.BadWord.{BadWord}
-use Rattle.timew_cli.specs.Cause.{End, end_of, word_cause}
-use Rattle.timew_cli.specs.Cause.End.{Well, Output, Failed}
+use Rattle.tw_ending.specs.Ending.{End, HasNotFailed}
+use Rattle.tw_ending.specs.Ending.End.{Well, Output, Failed}
+use Rattle.timew_cli.specs.Cause.{end_of, word_cause, carry_cause}
 use Rattle.timew_cli.specs.Carried.{Carried, carried_out}
+use Rattle.timew_cli.specs.declared.carry.CarryError.{CarryError}
 use Rattle.timew_cli.specs.declared.cause.Cause.{Cause}
-use Rattle.timew_cli.specs.declared.cause.Cause.TheVariants.{Done, DiskFault, RecordTooLong, Damaged, FolderFault, Memory, OutFault}
+use Rattle.timew_cli.specs.declared.cause.Cause.TheVariants.{Done, DiskFault, RecordTooLong, Damaged, FolderFault, Memory}
 
--- what stands outside a run: its folder and its disk, each before the run and after it
+-- what is outside a run: its folder and its disk, each before the run and after it
 pub record Outside (F D : Type 0) : Type 0 where
   pub f0 : F
   pub f1 : F
@@ -34,7 +36,7 @@ went f0 f1 d0 d1 = record { f0 = f0; f1 = f1; d0 = d0; d1 = d1 }
 abbrev pub HasSize : List (List ℕ) → ℕ → Type 0
 HasSize bodies size = (body : List ℕ) × (bodies ≡ body ∷ []) × (size ≡ length body + 5)
 
--- some record of the file holds no step, and stands at this offset
+-- some record of the file holds no step, and is at this offset
 pub record HoldsNoStepAt (file : List ℕ) (offset : ℕ) : Type 0 where
   pub bodies : List (List ℕ)
   pub records : Records magic file bodies
@@ -46,11 +48,11 @@ module _ {F D : Type 0} (m : FolderModel F) (n : DiskModel D) where
   -- a folder that rests and a disk, which tell what they hold, open to this
   pub record Opens (f : F) (d : D) (held : Held) : Type 0 where
     pub told : Tells m f
-    pub settled : Settled m f
+    pub settled : IsStable m f
     pub tells : disk.Tells n d
     pub opens : OpensTo (m.seen f) (n.seen d) held
 
-  -- these records stand behind those of before, and folder and disk rest and hold this
+  -- these records come after those of before, and folder and disk rest and hold this
   pub record HoldsMore (w : Outside F D) (adds : List (List ℕ)) (held : Held) : Type 0 where
     pub bodies : List (List ℕ)
     pub had : Records magic (n.seen w.d0) bodies
@@ -81,16 +83,18 @@ module _ {F D : Type 0} (m : FolderModel F) (n : DiskModel D) (command : Command
     pub size : HasSize carried.adds bytes
     pub stays : HoldsMore m n w [] held
 
-  -- Why a command is not carried out. Where memory runs out, folder and disk open to what they did.
-  abbrev pub NotCarried : Cause → Type 0
-  NotCarried Done = ⊥
-  NotCarried OutFault = ⊥
-  NotCarried DiskFault = Rose (n.faults w.d0) (n.faults w.d1)
-  NotCarried FolderFault = Rose (m.faults w.f0) (m.faults w.f1)
-  NotCarried Memory = (held : Held) → Opens m n w.f0 w.d0 held → OpensTo (m.seen w.f1) (n.seen w.d1) held
-  NotCarried (RecordTooLong bytes) = (2 ^ 30 < bytes) × ((held : Held) → Opens m n w.f0 w.d0 held → PassesLimit held bytes)
-  NotCarried (Damaged offset) = Tells m w.f0 → Settled m w.f0 → disk.Tells n w.d0 → IsDamagedAt magic (n.seen w.d0) offset ⊎ HoldsNoStepAt (n.seen w.d0) offset
-  NotCarried cause = Refused cause
+  -- Why a command is not carried out, by the cause. If memory runs out, folder and disk open to what they did.
+  abbrev pub Because : Cause → Type 0
+  Because DiskFault = Rose (n.faults w.d0) (n.faults w.d1)
+  Because FolderFault = Rose (m.faults w.f0) (m.faults w.f1)
+  Because Memory = (held : Held) → Opens m n w.f0 w.d0 held → OpensTo (m.seen w.f1) (n.seen w.d1) held
+  Because (RecordTooLong bytes) = (2 ^ 30 < bytes) × ((held : Held) → Opens m n w.f0 w.d0 held → PassesLimit held bytes)
+  Because (Damaged offset) = Tells m w.f0 → IsStable m w.f0 → disk.Tells n w.d0 → IsDamagedAt magic (n.seen w.d0) offset ⊎ HoldsNoStepAt (n.seen w.d0) offset
+  Because cause = Refused cause
+
+  -- why a command is not carried out
+  abbrev pub NotCarried : CarryError → Type 0
+  NotCarried error = Because (carry_cause error)
 
   -- a premise under which a command is carried out, or memory runs out
   pub record CanBeCarriedOut : Type 0 where
@@ -114,7 +118,7 @@ module _ {F D : Type 0} (m : FolderModel F) (n : DiskModel D) (command : Command
     abbrev pub GivesBy : Cause → End → Type 0
     GivesBy cause Well = (text : List ℕ) × CarriedOut text × Got s o0 o1 text
     GivesBy cause Output = (text : List ℕ) × CarriedOut text × GotPart s o0 o1 text × Rose (s.faults o0) (s.faults o1)
-    GivesBy cause Failed = NotCarried cause × (o1 ≡ o0)
+    GivesBy cause Failed = Because cause × (o1 ≡ o0)
 
     -- what a run of a command gives
     abbrev pub Gives : Cause → Type 0
@@ -123,15 +127,11 @@ module _ {F D : Type 0} (m : FolderModel F) (n : DiskModel D) (command : Command
     -- a premise under which a run of a command ends well
     pub record CanEnd : Type 0 where
       pub can : CanBeCarriedOut
-      pub out_well : Rose (s.faults o0) (s.faults o1) → ⊥
+      pub out_well : HasNotFailed s o0 o1
 
 -- it ends well, or wants memory
 abbrev pub IsDoneOrWant : Cause → Type 0
 IsDoneOrWant cause = (cause ≡ Done) ⊎ (cause ≡ Memory)
-
--- a text was printed, or the output failed and got a front part of it
-abbrev pub EndsPrinting : {O : Type 0} → SinkModel O → (o0 o1 : O) → List ℕ → Cause → Type 0
-EndsPrinting s o0 o1 text cause = ((cause ≡ Done) × Got s o0 o1 text) ⊎ ((cause ≡ OutFault) × GotPart s o0 o1 text × Rose (s.faults o0) (s.faults o1))
 
 -- ---- of words
 
@@ -141,7 +141,7 @@ module _ {F D O : Type 0} (m : FolderModel F) (n : DiskModel D) (s : SinkModel O
   RunGives (Ok command) now zone w o0 o1 cause = Gives m n command now zone w s o0 o1 cause
   RunGives (Err bad) now zone w o0 o1 cause = ((cause ≡ word_cause bad) ⊎ (cause ≡ Memory)) × (w.f1 ≡ w.f0) × (w.d1 ≡ w.d0) × (o1 ≡ o0)
 
-  -- where a run can end well, it does, or wants memory
+  -- if a run can end well, it does, or wants memory
   abbrev pub EndsWell : Result Command BadWord → ℕ → TimeZone → Outside F D → (o0 o1 : O) → Cause → Type 0
   EndsWell (Ok command) now zone w o0 o1 cause = CanEnd m n command now zone w s o0 o1 → IsDoneOrWant cause
   EndsWell (Err bad) now zone w o0 o1 cause = Unit {0}
@@ -151,10 +151,11 @@ abbrev pub RunLeaves : {F D : Type 0} → FolderModel F → DiskModel D → Resu
 RunLeaves m n (Ok command) now zone w = LeavesStates m n command now zone w
 RunLeaves m n (Err bad) now zone w = (w.f1 ≡ w.f0) × (w.d1 ≡ w.d0)
 
--- all that is known of a run
-pub record IsRun {F D O : Type 0} (m : FolderModel F) (n : DiskModel D) (s : SinkModel O) (asked : Result Command BadWord) (now : ℕ) (zone : TimeZone) (w : Outside F D) (o0 o1 : O) (cause : Cause) : Type 0 where
-  pub gives : RunGives m n s asked now zone w o0 o1 cause
-  pub complete : EndsWell m n s asked now zone w o0 o1 cause
-  pub any_moment : RunLeaves m n asked now zone w
-  pub folder : Kept m w.f0 w.f1
-  pub disk : disk.Kept n w.d0 w.d1
+module _ {F D O : Type 0} (m : FolderModel F) (n : DiskModel D) (s : SinkModel O) where
+  -- all that is known of a run
+  pub record IsRun (asked : Result Command BadWord) (now : ℕ) (zone : TimeZone) (w : Outside F D) (o0 o1 : O) (cause : Cause) : Type 0 where
+    pub gives : RunGives m n s asked now zone w o0 o1 cause
+    pub complete : EndsWell m n s asked now zone w o0 o1 cause
+    pub any_moment : RunLeaves m n asked now zone w
+    pub folder : FaultsRise m w.f0 w.f1
+    pub disk : disk.FaultsRise n w.d0 w.d1

@@ -1,12 +1,13 @@
 // How a command ends.
 ghost use Rattle.std.specs.Prelude.{◌≡◌};
 ghost use Rattle.timew_cli.specs.Fault.{status_of};
-ghost use Rattle.timew_cli.specs.Cause.{words_cause, journal_cause, load_cause, change_cause, undo_cause, plan_cause};
+ghost use Rattle.timew_cli.specs.Cause.{words_cause, journal_cause, load_cause, change_cause, undo_cause, plan_cause, carry_cause};
 
+use crate::carry::CarryError;
 use timew_cmd::{BadWord, TimewError, WordKind, WordsError};
 use timew_store::{LoadError, StoreError, UndoError};
 use tw_journal::JournalError;
-use tw_world::{Memory, Text};
+use tw_world::Text;
 
 /// How a command of `timew` ended.
 pub enum Cause {
@@ -26,24 +27,24 @@ pub enum Cause {
     NoOpen,
     /// The last interval is open. Nothing was written.
     AlreadyOpen { id: u64 },
-    /// The moment or the length of this word leads out of range; the number is 0 where there is no word. Nothing was written.
+    /// The moment or the length of this word leads out of range; the number is 0 if there is no word. Nothing was written.
     Range { word: u64 },
     /// The interval overlaps others, of which this one has the least id. Nothing was written.
     Overlap { id: u64 },
-    /// The line with this number, from 1, of this month file is no interval, or overlaps one that stands before it in order; after
-    /// an undo it would be so. Nothing was written.
+    /// The line with this number, from 1, of this month file is no interval, or overlaps one before it in order; after an
+    /// undo it would be so. Nothing was written.
     BadLine { file: Text, line: u64 },
-    /// The journal's disk failed. The record may stand or not.
+    /// The journal's disk failed. The record may be there or not.
     DiskFault,
     /// The record, with its gate and length, would have so many bytes, which are too many. Nothing was written.
     RecordTooLong { bytes: u64 },
     /// The journal is damaged at this offset. Nothing was written.
     Damaged { offset: u64 },
-    /// The folder failed. Where the record stands, the next command finishes the change.
+    /// The folder failed. If the record is written, the next command finishes the change.
     FolderFault,
     /// There was no memory. No record was written.
     Memory,
-    /// The output failed. The record stands.
+    /// The output failed. The record is written.
     OutFault,
 }
 
@@ -83,16 +84,6 @@ impl Drop for Cause {
 pub struct Outcome {
     pub status: u8,
     pub cause: Cause,
-}
-
-impl From<Memory> for Cause {
-    ghost use Rattle.timew_cli.specs.declared.cause.Cause.TheVariants.{Memory as NoMemory};
-
-    ghost from_gives = { λ _ cause. cause ≡ NoMemory };
-
-    fn from(_: Memory) -> Cause {
-        Cause::Memory
-    }
 }
 
 impl From<WordsError> for Cause {
@@ -170,6 +161,21 @@ impl From<TimewError> for Cause {
             TimewError::NoInterval { id } => Cause::NoInterval { id },
             TimewError::Range { word } => Cause::Range { word },
             TimewError::Memory => Cause::Memory,
+        }
+    }
+}
+
+impl From<CarryError> for Cause {
+    ghost from_gives = { λ error cause. cause ≡ carry_cause error };
+
+    fn from(error: CarryError) -> Cause {
+        match error {
+            CarryError::Load(error) => Cause::from(error),
+            CarryError::Refused(error) => Cause::from(error),
+            CarryError::Change(error) => Cause::from(error),
+            CarryError::Undo(error) => Cause::from(error),
+            CarryError::NotTracking => Cause::NotTracking,
+            CarryError::Memory => Cause::Memory,
         }
     }
 }

@@ -1,12 +1,11 @@
 //! The command line of `tw timew`, carried out over a folder of month files and a disk that holds their journal.
-//! `timew_run` promises for each end which record and which files stand, what was printed, and what a crash leaves.
-//! It stands on the commands of `timew_cmd` and the store of `timew_store`, and on the folders, disks and sinks of `tw_world`.
+//! `timew_run` promises for each end which record and which files are written, what was printed, and what a crash leaves.
+//! It uses the commands of `timew_cmd` and the store of `timew_store`, and on the folders, disks and sinks of `tw_world`.
 #![tactic(auto)]
 
 mod carry;
 mod cause;
 mod fault;
-mod printing;
 mod run;
 mod text;
 

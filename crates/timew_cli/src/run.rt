@@ -1,20 +1,20 @@
 // One command line over a folder, a disk and streams.
 ghost use Rattle.std.specs.Prelude.{◌≡◌, map, string_bytes};
 ghost use Rattle.tw_world.specs.Disk as tells;
-ghost use Rattle.tw_world.specs.Crash.{Kept};
+ghost use Rattle.tw_world.specs.Crash.{FaultsRise};
 ghost use Rattle.timew_cmd.specs.Reading.{command_of};
-ghost use Rattle.timew_cli.specs.Fault.{Told, status_of};
+ghost use Rattle.timew_cli.specs.Fault.{GotFault, status_of};
 ghost use Rattle.timew_cli.specs.Run.{went, RunGives, EndsWell, RunLeaves, IsRun};
 
 use crate::carry::run_command;
 use crate::cause::{Cause, Outcome, status_of};
-use crate::fault::tell;
+use crate::fault::put_fault;
 use std::alloc::Global;
 use timew_cmd::read_words;
 use tw_time::Zone;
 use tw_world::{Disk, Folder, Moment, Sink};
 
-// Runs a command line, and tells of nothing.
+// Runs a command line, and writes nothing on the standard error.
 fn run_words<F: Folder, D: Disk, O: Sink>(
     alloc: Global,
     words: &Vec<String>,
@@ -34,8 +34,8 @@ fn run_words<F: Folder, D: Disk, O: Sink>(
 }
 
 /// Does what `tw timew` does with these words, at this moment in this zone: judges the words, opens the journal, finishes the last
-/// change and reads the month files, writes at most one record and then the files that it changes, prints to `out`, and tells of
-/// any other end than `Done` on `err`. The record is written before any file is replaced, and before anything is printed.
+/// change and reads the month files, writes at most one record and then the files that it changes, prints to `out`, and writes a
+/// line on `err` for any other end than `Done`. The record is written before any file is replaced, and before anything is printed.
 pub fn timew_run<F: Folder, D: Disk, O: Sink, E: Sink>(
     alloc: Global,
     words: &Vec<String>,
@@ -52,13 +52,13 @@ pub fn timew_run<F: Folder, D: Disk, O: Sink, E: Sink>(
         (went folder.old folder.new journal.old journal.new) out.old out.new result.cause }
     ensures any_moment { RunLeaves F.model D.model (command_of (map string_bytes words.now.items) now.seconds zone.now) now.seconds zone.now
         (went folder.old folder.new journal.old journal.new) }
-    ensures told { Told E.model err.old err.new result.cause }
+    ensures told { GotFault E.model err.old err.new result.cause }
     ensures status { result.status ≡ status_of result.cause }
-    ensures folder { Kept F.model folder.old folder.new }
-    ensures journal { tells.Kept D.model journal.old journal.new }
+    ensures folder { FaultsRise F.model folder.old folder.new }
+    ensures journal { tells.FaultsRise D.model journal.old journal.new }
 {
     let cause = run_words(alloc, words, now, zone, folder, journal, out);
-    tell(err, &cause);
+    put_fault(err, &cause);
     Outcome {
         status: status_of(&cause),
         cause,

@@ -1,7 +1,7 @@
 -- Lines of a text, one after another.
 use Rattle.std.specs.Prelude.{codes}
 use Rattle.std.proofs.Common.{◌≡◌, ℕ, Bool, true, false, cond, List, [], ◌∷◌, ◌++◌, ap, ◌∙◌, append_assoc}
-use Rattle.timew_cmd.specs.Exported.{lines, more_lines}
+use Rattle.timew_cmd.specs.Commands.Export.{lines, more_lines}
 
 -- what is to follow, at the first line or after one
 abbrev pub to_follow : Bool → List (List ℕ) → List ℕ

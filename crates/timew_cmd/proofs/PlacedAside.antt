@@ -12,7 +12,9 @@ use Rattle.timew_store.specs.Placing.{front_of, back_of, left_outside, is_not_af
 use Rattle.timew_cmd.specs.declared.error.TimewError.{TimewError}
 use Rattle.timew_cmd.specs.declared.error.TimewError.TheVariants as plan
 use Rattle.timew_cmd.specs.Placing.{AllBefore, AllBehind}
-use Rattle.timew_cmd.specs.Planned.{numbered, without, rows_in, overlapped, later_of, unless_overlapped, place, Fails}
+use Rattle.timew_cmd.specs.Numbers.{numbered, without, rows_in}
+use Rattle.timew_cmd.specs.Placing.{overlapped, later_of, unless_overlapped, place}
+use Rattle.timew_cmd.specs.Planned.{Fails}
 use Rattle.timew_cmd.proofs.AllRows.{all_rows}
 
 -- the two tests of one on a side

@@ -9,14 +9,32 @@ use Rattle.timew_store.specs.Edit.{edited, IsEditOf}
 use Rattle.timew_store.specs.Interval.{limit, IsRow, IsEnd, IsBefore, AreRows, is_printable}
 use Rattle.timew_store.proofs.Placed.{own_start}
 use Rattle.timew_store.specs.Placing.{spanning}
-use Rattle.timew_cmd.specs.declared.command.Command.{Command}
-use Rattle.timew_cmd.specs.declared.command.Command.TheVariants.{Show, Start, Stop, Cancel, Continue, Track, Tag, Untag, Annotate, Delete, Split, Join, Move, Lengthen, Shorten, Undo, Export, Summary}
+use Rattle.timew_cmd.specs.declared.command.Changing.{Changing}
+use Rattle.timew_cmd.specs.declared.command.Changing.TheVariants.{Start, Stop, Cancel, Continue, Track, Tag, Untag, Annotate, Delete, Split, Join, Move, Lengthen, Shorten}
 use Rattle.timew_cmd.specs.declared.error.TimewError.{TimewError}
 use Rattle.timew_cmd.specs.declared.error.TimewError.TheVariants.{Range}
-use Rattle.timew_cmd.specs.Given.{AreTags, IsGiven}
-use Rattle.timew_cmd.specs.Planned.{◌>>=◌, planned, begun, stopped, cancelled, continued, tracked, deleted, split, split_all, joined, joined_both, moved_to, lengthened, shortened, replaced, place, with_ended, with_tags, without_tags, with_annotation, each_of, targets, as_ids, checked, row_at, row_or, open_of, open_from, moment_or, is_past, begins_after, is_in_range, later_end, first_text, moved_end, closed_end, seconds_of, shorter, numbered, without, rows_in, Answers}
+use Rattle.timew_cmd.specs.Given.{AreTags, IsGivenChange}
+use Rattle.timew_cmd.specs.Results.{◌>>=◌}
+use Rattle.timew_cmd.specs.Planned.{planned, Answers}
+use Rattle.timew_cmd.specs.Commands.Start.{begun, open_from, is_past, begins_after}
+use Rattle.timew_cmd.specs.Commands.Stop.{stopped}
+use Rattle.timew_cmd.specs.Commands.Cancel.{cancelled}
+use Rattle.timew_cmd.specs.Commands.Continue.{continued}
+use Rattle.timew_cmd.specs.Commands.Track.{tracked}
+use Rattle.timew_cmd.specs.Commands.Delete.{deleted}
+use Rattle.timew_cmd.specs.Commands.Split.{split, split_all}
+use Rattle.timew_cmd.specs.Commands.Join.{joined, joined_both, later_end, first_text}
+use Rattle.timew_cmd.specs.Commands.Move.{moved_to, moved_end}
+use Rattle.timew_cmd.specs.Commands.Lengthen.{lengthened}
+use Rattle.timew_cmd.specs.Commands.Shorten.{shortened, shorter}
+use Rattle.timew_cmd.specs.Replacing.{replaced, is_in_range, closed_end, seconds_of}
+use Rattle.timew_cmd.specs.Placing.{place}
+use Rattle.timew_cmd.specs.Open.{with_ended, open_of, moment_or}
+use Rattle.timew_cmd.specs.Labels.{with_tags, without_tags, with_annotation, each_of, targets}
+use Rattle.timew_cmd.specs.Commands.Annotate.{as_ids}
+use Rattle.timew_cmd.specs.Numbers.{checked, row_at, row_or, numbered, without, rows_in}
 use Rattle.timew_cmd.proofs.RowAt.{row_of_id}
-use Rattle.timew_cmd.proofs.AreKept.{before_next, place_rows, ended_rows, dropped_rows, without_rows, each_rows, KeepsSeconds, tags_keep, untags_keep, note_keeps, split_rows, all_tags_added}
+use Rattle.timew_cmd.proofs.RowsInOrder.{before_next, place_rows, ended_rows, dropped_rows, without_rows, each_rows, KeepsSeconds, tags_keep, untags_keep, note_keeps, split_rows, all_tags_added}
 
 is_ok : {A : Type 0} (a b : A) → ◌≡◌ {A = Result A TimewError} (Ok a) (Ok b) → a ≡ b
 is_ok a b e = cc
@@ -203,28 +221,24 @@ split_all_rows ids rows next now small are is =
 
 -- ---- every command
 
-pub planned_rows : (c : Command) (rows next : List Interval) (now : ℕ) → IsGiven c → now < limit → AreRows rows → planned c rows now ≡ Ok next → AreRows next
-planned_rows Show rows next now given small are is = subst AreRows (is_ok rows next is) are
-planned_rows (Start word moment tags adjust) rows next now given small are is = begun_rows word moment tags adjust rows next now small given.0 given.1 are is
-planned_rows (Stop word moment) rows next now given small are is = stopped_rows word (moment_or now moment) rows next (open_of rows) (moment_small now moment small given) are refl is
+pub planned_rows : (c : Changing) (rows next : List Interval) (now : ℕ) → IsGivenChange c → now < limit → AreRows rows → planned c rows now ≡ Ok next → AreRows next
+planned_rows (Start parts) rows next now given small are is = begun_rows parts.word parts.moment parts.tags parts.adjust rows next now small given.0 given.1 are is
+planned_rows (Stop parts) rows next now given small are is = stopped_rows parts.word (moment_or now parts.moment) rows next (open_of rows) (moment_small now parts.moment small given) are refl is
 planned_rows Cancel rows next now given small are is = cancelled_rows rows next (open_of rows) are refl is
-planned_rows (Continue id adjust) rows next now given small are is = continued_rows id adjust rows next now (open_of rows) small are is
-planned_rows (Track word start end tags adjust) rows next now given small are is = tracked_rows word start end tags adjust rows next given.0 given.1 are is
-planned_rows (Tag ids tags) rows next now given small are is = changed_rows ids (with_tags tags) rows next (tags_keep tags given.0) are is
-planned_rows (Untag ids tags) rows next now given small are is = changed_rows ids (without_tags tags) rows next (untags_keep tags) are is
-planned_rows (Annotate id text) rows next now given small are is = changed_rows (as_ids id) (with_annotation text) rows next (note_keeps text given) are is
+planned_rows (Continue parts) rows next now given small are is = continued_rows parts.id parts.adjust rows next now (open_of rows) small are is
+planned_rows (Track parts) rows next now given small are is = tracked_rows parts.word parts.start parts.end parts.tags parts.adjust rows next given.0 given.1 are is
+planned_rows (Tag parts) rows next now given small are is = changed_rows parts.ids (with_tags parts.tags) rows next (tags_keep parts.tags given.0) are is
+planned_rows (Untag parts) rows next now given small are is = changed_rows parts.ids (without_tags parts.tags) rows next (untags_keep parts.tags) are is
+planned_rows (Annotate parts) rows next now given small are is = changed_rows (as_ids parts.id) (with_annotation parts.text) rows next (note_keeps parts.text given) are is
 planned_rows (Delete ids) rows next now given small are is = deleted_rows ids rows next are is
 planned_rows (Split ids) rows next now given small are is = split_all_rows ids rows next now small are is
-planned_rows (Join first second adjust) rows next now given small are is = joined_rows first second adjust rows next are is
-planned_rows (Move id word start adjust) rows next now given small are is = moved_rows id word start adjust rows next given are is
-planned_rows (Lengthen id word l adjust) rows next now given small are is = lengthened_rows id word l adjust rows next are is
-planned_rows (Shorten id word l adjust) rows next now given small are is = shortened_rows id word l adjust rows next are is
-planned_rows Undo rows next now given small are is = subst AreRows (is_ok rows next is) are
-planned_rows (Export range) rows next now given small are is = subst AreRows (is_ok rows next is) are
-planned_rows (Summary range) rows next now given small are is = subst AreRows (is_ok rows next is) are
+planned_rows (Join parts) rows next now given small are is = joined_rows parts.first parts.second parts.adjust rows next are is
+planned_rows (Move parts) rows next now given small are is = moved_rows parts.id parts.word parts.start parts.adjust rows next given are is
+planned_rows (Lengthen parts) rows next now given small are is = lengthened_rows parts.id parts.word parts.length parts.adjust rows next are is
+planned_rows (Shorten parts) rows next now given small are is = shortened_rows parts.id parts.word parts.length parts.adjust rows next are is
 
 -- what is planned as an edit is one of intervals in order
-pub planned_edit : (command : Command) (rows : List Interval) (now : ℕ) (r : Result Edit TimewError) → IsGiven command → now < limit → AreRows rows → Answers (λ e. edited e rows) r (planned command rows now) → IfOk r (λ e. e.at + e.count ≤ length rows)
+pub planned_edit : (command : Changing) (rows : List Interval) (now : ℕ) (r : Result Edit TimewError) → IsGivenChange command → now < limit → AreRows rows → Answers (λ e. edited e rows) r (planned command rows now) → IfOk r (λ e. e.at + e.count ≤ length rows)
     → IfOk r (IsEditOf rows)
 planned_edit command rows now (Err e) given small are is inside = tt
 planned_edit command rows now (Ok e) given small are is inside = record { inside = inside; are = planned_rows command rows (edited e rows) now given small are is }

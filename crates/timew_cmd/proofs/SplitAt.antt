@@ -6,7 +6,9 @@ use Rattle.std.specs.List.{flat_map}
 use Rattle.timew_store.specs.declared.interval.Interval.{Interval}
 use Rattle.timew_store.specs.Interval.{Content, content, goes_past, has, at, IsEnd, AreRows}
 use Rattle.timew_cmd.specs.declared.error.TimewError.TheVariants.{Range}
-use Rattle.timew_cmd.specs.Planned.{Numbered, numbered, split, some_ahead, is_among, rows_in, halves, middle, moment_or}
+use Rattle.timew_cmd.specs.Numbers.{Numbered, numbered, is_among, rows_in}
+use Rattle.timew_cmd.specs.Commands.Split.{split, some_ahead, halves, middle}
+use Rattle.timew_cmd.specs.Open.{moment_or}
 
 one_or_two : (a b c : Bool) (x : Content) (rest : Option Content) → (a || b) ≡ c → cond a (Some x) (cond b (Some x) rest) ≡ cond c (Some x) rest
 one_or_two true b c x rest is = ap (λ (t : Bool). cond t (Some x) rest) is

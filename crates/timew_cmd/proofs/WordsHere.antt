@@ -5,7 +5,8 @@ use Rattle.tw_text.specs.Columns.{cell_text}
 use Rattle.tw_world.specs.Folder.{add_name as add_tag}
 use Rattle.timew_cmd.specs.declared.error.BadWord.{BadWord}
 use Rattle.timew_cmd.specs.declared.word.Word.{Word}
-use Rattle.timew_cmd.specs.Parts.{◌>>=◌, word_of, words_of, tag_in, tags_with, spaced}
+use Rattle.timew_cmd.specs.Results.{◌>>=◌}
+use Rattle.timew_cmd.specs.Parts.{word_of, words_of, tag_in, tags_with, spaced}
 
 words_here : (words : List Word) (i : ℕ) (d : Word) → i < length words → words_of (drop i words) ≡ word_of (get_or words i d) ∷ words_of (drop (i + 1) words)
 words_here words i d lt = ap words_of (drop_more words i d lt)

@@ -1,25 +1,20 @@
 -- Words with their numbers, and what a word is as a part of a command: timew(1).
-use Rattle.std.specs.Prelude.{ℕ, ◌+◌, ◌==◌, Bool, not, cond, nat_eq, List, [], ◌∷◌, ◌++◌, codes, map, filter, drop, length, take_while, Option, Some, None, is_some, Result, Ok, Err, if◌then◌else◌}
 use Rattle.std.specs.List.{list_any, starts_with}
-use Rattle.tw_time.specs.Moments.{TimeZone}
-use Rattle.tw_world.specs.Folder.{same_bytes}
-use Rattle.tw_world.specs.Folder.{add_name as add_tag}
-use Rattle.tw_text.specs.Natural.{natural}
+use Rattle.std.specs.Prelude.{ℕ, List, [], ◌∷◌, codes, Bool, Option, Some, None, ◌+◌, ◌==◌, Result, Ok, Err, if◌then◌else◌, map, filter, not, drop, length}
+use Rattle.std.specs.Prelude.{◌++◌, cond, nat_eq, take_while, is_some}
 use Rattle.tw_text.specs.Columns.{cell_text}
-use Rattle.tw_time.specs.declared.length.Length.{Length}
+use Rattle.tw_text.specs.Natural.{natural}
+use Rattle.tw_time.specs.Lengths.{duration}
+use Rattle.tw_time.specs.Moments.{TimeZone, moment}
 use Rattle.tw_time.specs.declared.error.DateError.{DateError}
 use Rattle.tw_time.specs.declared.error.DateError.TheVariants.{Unknown}
-use Rattle.tw_time.specs.Moments.{moment}
-use Rattle.tw_time.specs.Lengths.{duration}
+use Rattle.tw_time.specs.declared.length.Length.{Length}
+use Rattle.tw_world.specs.Folder.{same_bytes, add_name as add_tag}
+use Rattle.timew_cmd.specs.Results.{◌>>=◌}
 use Rattle.timew_cmd.specs.declared.error.BadWord.{BadWord}
 use Rattle.timew_cmd.specs.declared.error.WordKind.{WordKind}
 use Rattle.timew_cmd.specs.declared.error.WordKind.TheVariants.{Value, Date, Missing, Extra}
 use Rattle.timew_cmd.specs.declared.word.Word.{Word}
-
-infixl 10 ◌>>=◌
-abbrev pub ◌>>=◌ : {A B : Type 0} → Result A BadWord → (A → Result B BadWord) → Result B BadWord
-(Ok x) >>= f = f x
-(Err e) >>= f = Err e
 
 -- ---- words
 
@@ -41,7 +36,7 @@ words_of words = map word_of words
 abbrev pub is_adjust : ℕ × List ℕ → Bool
 is_adjust w = same_bytes w.1 (codes ":adjust")
 
--- whether `:adjust` stands among words, and the words without it
+-- whether `:adjust` is among words, and the words without it
 abbrev pub adjusts : Words → Bool
 adjusts words = list_any is_adjust words
 
@@ -53,7 +48,7 @@ unadjusted words = filter (λ w. not (is_adjust w)) words
 abbrev pub refused : {A : Type 0} → ℕ → WordKind → Result A BadWord
 refused n kind = Err (record { word = n; kind = kind })
 
--- the words end where a part is missing, which is told of the command's word
+-- the words end where a part is missing, which is reported of the command's word
 abbrev pub missing : {A : Type 0} → Result A BadWord
 missing = refused 0 Missing
 
@@ -117,7 +112,7 @@ abbrev pub unless_empty : ℕ → List ℕ → Result (List ℕ) BadWord
 unless_empty n [] = refused n Value
 unless_empty n (b ∷ text) = Ok (b ∷ text)
 
--- the tag of a word, with a space in place of each control character
+-- the tag of a word, with a space for each control character
 abbrev pub tag_in : ℕ × List ℕ → Result (List ℕ) BadWord
 tag_in w = unless_empty w.0 (cell_text w.1)
 
@@ -131,7 +126,7 @@ abbrev pub some_tags : Words → Result (List (List ℕ)) BadWord
 some_tags [] = missing
 some_tags (w ∷ words) = tags_with [] (w ∷ words)
 
--- a text, and the texts of words, each behind a space
+-- a text, and the texts of words, each after a space
 abbrev pub spaced : List ℕ → Words → List ℕ
 spaced text [] = text
 spaced text (w ∷ words) = spaced (text ++ 32 ∷ cell_text w.1) words

@@ -1,14 +1,14 @@
 -- Ranges of time, and which intervals are in them: timew-ranges(7).
-use Rattle.std.specs.Prelude.{ℕ, ◌-◌, Bool, ◌&&◌, nat_lt, nat_le, max, min, List, codes, map, sum, unwrap_or, Result, Ok, Err, if◌then◌else◌}
-use Rattle.tw_time.specs.Moments.{TimeZone}
+use Rattle.std.specs.Prelude.{ℕ, List, codes, Bool, Result, Ok, Err, if◌then◌else◌, nat_lt, map, filter, ◌&&◌, nat_le, ◌-◌, max, min, sum, unwrap_or}
+use Rattle.tw_time.specs.Moments.{TimeZone, moment}
 use Rattle.tw_time.specs.declared.error.DateError.{DateError}
-use Rattle.tw_time.specs.Moments.{moment}
-use Rattle.timew_store.specs.declared.interval.Interval.{Interval}
 use Rattle.timew_store.specs.Interval.{limit}
-use Rattle.timew_cmd.specs.declared.command.Range.{Range}
-use Rattle.timew_cmd.specs.declared.command.Range.TheVariants.{Day, Week, All, Between}
+use Rattle.timew_store.specs.declared.interval.Interval.{Interval}
+use Rattle.timew_cmd.specs.Numbers.{Numbered, numbered}
+use Rattle.timew_cmd.specs.declared.range.Range.{Range}
+use Rattle.timew_cmd.specs.declared.range.Range.TheVariants.{Day, Week, All, Between}
 
--- the moment, where it is in range
+-- the moment, if it is in range
 abbrev pub or_else : ℕ → Result ℕ DateError → ℕ
 or_else other (Ok at) = at
 or_else other (Err e) = other
@@ -20,7 +20,7 @@ bounds Week now zone = (or_else 0 (moment (codes "sow") now zone), or_else limit
 bounds All now zone = (0, limit)
 bounds (Between start end) now zone = (start, end)
 
--- where an interval ends; an open one is measured to now, or to its start where now is earlier
+-- where an interval ends; an open one is measured to now, or to its start if now is earlier
 abbrev pub measured : (now : ℕ) → Interval → ℕ
 measured now r = unwrap_or r.end (max now r.start)
 
@@ -29,6 +29,10 @@ abbrev pub is_within : (from to now : ℕ) → Interval → Bool
 is_within from to now r =
     if nat_lt r.start (measured now r) then nat_lt (max r.start from) (min (measured now r) to)
     else nat_le from r.start && nat_le r.start to
+
+-- the intervals in a range, with their numbers
+abbrev pub rows_within : (from to now : ℕ) → List Interval → Numbered
+rows_within from to now rows = filter (λ r. is_within from to now r.1) (numbered rows)
 
 -- the seconds of an interval that are in a range
 abbrev pub seconds_within : (from to now : ℕ) → Interval → ℕ

@@ -33,7 +33,7 @@ pub enum TimewError {
     AlreadyOpen { id: u64 },
     /// There are fewer intervals.
     NoInterval { id: u64 },
-    /// The moment or the length of this word leads out of range; the word is 0 where there is none.
+    /// The moment or the length of this word leads out of range; the word is 0 if there is none.
     Range { word: u64 },
     /// There was no memory.
     Memory,

@@ -1,5 +1,5 @@
 // The ids of intervals.
-ghost use Rattle.std.specs.Prelude.{◌≡◌, ◌++◌, ◌∷◌, [], OnOk};
+ghost use Rattle.std.specs.Prelude.{[], ◌∷◌, ◌++◌, ◌≡◌, OnOk};
 
 use std::alloc::Global;
 use std::marker::Model;

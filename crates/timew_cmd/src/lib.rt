@@ -3,34 +3,36 @@
 //! It stands on timew_store (intervals) and tw_time (lengths of time).
 #![tactic(auto)]
 
-mod aside;
 mod command;
-mod command_parts;
-mod cut;
+mod commands;
 mod error;
-mod export;
 mod ids;
-mod kept;
-mod label;
+mod labels;
 pub mod laws;
 mod name;
+mod neighbours;
+mod numbers;
+mod open;
+mod outside;
 mod parts;
+mod placing;
 mod planning;
 mod range;
 mod reading;
+mod replacing;
 mod rows;
-mod span;
 mod stretch;
-mod summary;
 mod texts;
-mod track;
 mod word;
 
-pub use command::{Command, Range};
+pub use command::{
+    Annotate, Changing, Command, Continue, Join, Move, Resize, Showing, Start, Stop, Tagging, Track,
+};
+pub use commands::export::export_text;
+pub use commands::show::tracking_text;
+pub use commands::summary::summary_text;
 pub use error::{BadWord, TimewError, WordKind, WordsError};
-pub use export::export_text;
 pub use ids::Ids;
 pub use planning::plan;
+pub use range::Range;
 pub use reading::read_words;
-pub use summary::summary_text;
-pub use texts::{stored_text, tracking_text};

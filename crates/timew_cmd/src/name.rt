@@ -1,7 +1,7 @@
 // The names of the commands.
 ghost use Rattle.std.specs.Prelude.{◌≡◌};
-ghost use Rattle.tw_time.specs.Tables.{look_up, entries};
-ghost use Rattle.timew_cmd.specs.Reading.{names, places};
+ghost use Rattle.tw_time.specs.Tables.{look_up};
+ghost use Rattle.timew_cmd.specs.Names.{names, places};
 
 use tw_time::look_up;
 
@@ -55,7 +55,7 @@ pub fn name_of(text: &str) -> Option<Name>
 }
 
 impl Name {
-    /// Whether it places an interval, so that `:adjust` is no part of it wherever it stands.
+    /// Whether it places an interval, so that `:adjust` is no part of it, wherever it is.
     pub fn places(self) -> bool
         ensures { result ≡ places self }
     {

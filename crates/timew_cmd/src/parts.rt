@@ -1,10 +1,11 @@
 // What a word is as a part of a command.
-ghost use Rattle.std.specs.Prelude.{◌≡◌, ◌<◌, ◌≤◌, ◌++◌, ◌∷◌, [], true, ℕ, length, string_bytes, option_map, IfOk, OnOk};
-ghost use Rattle.tw_time.specs.Civil.{limit};
+ghost use Rattle.std.specs.Prelude.{[], ◌∷◌, true, length, ◌++◌, ◌≡◌, ◌<◌, IfOk, ◌≤◌, string_bytes, OnOk};
 ghost use Rattle.tw_text.specs.Columns.{cell_text};
-ghost use Rattle.timew_store.specs.Interval.{is_printable, is_tag};
+ghost use Rattle.tw_time.specs.Civil.{limit};
+ghost use Rattle.timew_store.specs.Interval.{is_tag, is_printable};
 ghost use Rattle.timew_cmd.specs.Given.{AreTags};
-ghost use Rattle.timew_cmd.specs.Parts.{word_of, words_of, kind_of, moment_in, length_in, id_of, id_in, ids_with, some_ids, leading_ids, unless_empty, tag_in, tags_with, some_tags, spaced, missing, ended};
+ghost use Rattle.timew_cmd.specs.Parts.{word_of, words_of, ended, kind_of, moment_in, length_in, id_of, id_in, ids_with, some_ids, leading_ids, tag_in};
+ghost use Rattle.timew_cmd.specs.Parts.{tags_with, some_tags, spaced};
 ghost use Rattle.timew_cmd.specs.Reading.{Gives};
 
 use crate::error::{BadWord, WordKind, WordsError};
@@ -17,13 +18,13 @@ use tw_text::{cell, read_u64};
 use tw_time::{DateError, Length, Zone, read_duration, read_moment};
 use tw_world::{Memory, Text};
 
-/// Where the words end too early; the command's word is named.
+/// The words end too early; the command's word is named.
 pub const MISSING: BadWord = BadWord {
     word: 0,
     kind: WordKind::Missing,
 };
 
-/// A moment or a length outside the grammar fits no part; for one out of range the kind is told.
+/// A moment or a length outside the grammar fits no part; one out of range has the kind of its part.
 pub fn kind_of(error: DateError, kind: WordKind) -> WordKind
     ensures { result ≡ kind_of error kind }
 {
@@ -129,7 +130,7 @@ pub fn leading_ids(words: &[Word]) -> usize
     words.len()
 }
 
-// The tag of a word, with a space in place of each control character.
+// The tag of a word, each control character becomes a space.
 fn tag_in(alloc: Global, word: &Word) -> Result<Text, WordsError>
     ensures value { Gives (λ tag. tag) result (tag_in (word_of word.now)) }
     ensures good { IfOk result (λ tag. is_tag tag ≡ true) }
@@ -190,7 +191,7 @@ fn push_spaced(alloc: Global, text: &mut String, word: &Word) -> Result<(), Memo
     Ok(())
 }
 
-/// The text of a word, and those of others, each behind a space; with a space in place of each control character.
+/// The text of a word, and those of others, each after a space; each control character becomes a space.
 pub fn spaced(alloc: Global, first: &Word, words: &[Word]) -> Result<Text, Memory>
     ensures value { IfOk result (λ text. text ≡ spaced (cell_text first.now.text.now) (words_of words.now)) }
     ensures printable { IfOk result (λ text. is_printable text ≡ true) }

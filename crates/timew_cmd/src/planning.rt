@@ -1,32 +1,41 @@
 // The intervals after a command.
-ghost use Rattle.std.specs.Prelude.{◌<◌, ◌≤◌, ◌+◌, List, Result, length, IfOk};
-ghost use Rattle.timew_store.specs.declared.interval.Interval.{Interval};
+ghost use Rattle.std.specs.Prelude.{List, ◌+◌, Result, length, ◌<◌, IfOk, ◌≤◌};
 ghost use Rattle.timew_store.specs.Edit.{edited, IsEditOf};
-ghost use Rattle.timew_store.specs.Interval.{AreRows};
+ghost use Rattle.timew_store.specs.Interval.{limit, AreRows};
+ghost use Rattle.timew_store.specs.declared.interval.Interval.{Interval};
+ghost use Rattle.timew_cmd.specs.Given.{IsGivenChange};
+ghost use Rattle.timew_cmd.specs.Planned.{planned, Answers};
 ghost use Rattle.timew_cmd.specs.declared.error.TimewError.{TimewError};
-ghost use Rattle.timew_cmd.specs.Given.{IsGiven};
-ghost use Rattle.timew_cmd.specs.Planned.{Answers, planned};
 
-use crate::command::Command;
-use crate::cut::{delete, split};
+use crate::command::Changing;
+use crate::commands::annotate::annotate;
+use crate::commands::cancel::cancel;
+use crate::commands::continue_::go_on;
+use crate::commands::delete::delete;
+use crate::commands::join::join;
+use crate::commands::lengthen::lengthen;
+use crate::commands::move_to::move_to;
+use crate::commands::shorten::shorten;
+use crate::commands::split::split;
+use crate::commands::start::begin;
+use crate::commands::stop::stop;
+use crate::commands::tag::tag;
+use crate::commands::track::track;
+use crate::commands::untag::untag;
 use crate::error::TimewError;
-use crate::label::{annotate, tag, untag};
-use crate::rows::moment_or;
-use crate::span::{join, lengthen, move_to, shorten};
-use crate::track::{begin, cancel, go_on, stop, track};
+use crate::open::moment_or;
 use std::alloc::Global;
 use timew_store::{Edit, Interval, Intervals};
 
-/// The edit by which a command leads to other intervals at a moment, in seconds since 1970. What it is refused for changes nothing.
-/// A command that only shows leads to the intervals as they are, as an undo does, which goes by the journal.
+/// The edit by which a command leads to other intervals at a moment, in seconds since 1970. A refusal changes nothing.
 pub fn plan(
     alloc: Global,
-    command: &Command,
+    command: &Changing,
     rows: &Intervals,
     now: u64,
 ) -> Result<Edit, TimewError>
-    requires command { IsGiven command.now }
-    requires now { now < 253_370_764_800 }
+    requires command { IsGivenChange command.now }
+    requires now { now < limit }
     ensures planned { Answers (λ e. edited e rows.now) result (planned command.now rows.now now) }
     ensures edit { IfOk result (IsEditOf rows.now) }
 {
@@ -36,65 +45,30 @@ pub fn plan(
 // The same of rows.
 fn plan_rows(
     alloc: Global,
-    command: &Command,
+    command: &Changing,
     rows: &[Interval],
     now: u64,
 ) -> Result<Edit, TimewError>
-    requires command { IsGiven command.now }
+    requires command { IsGivenChange command.now }
     requires rows { AreRows rows.now }
     ensures planned { Answers (λ e. edited e rows.now) result (planned command.now rows.now now) }
     ensures inside { IfOk result (λ e. e.at + e.count ≤ length rows.now) }
 {
     match command {
-        Command::Start {
-            word,
-            moment,
-            tags,
-            adjust,
-        } => begin(alloc, *word, *moment, tags, *adjust, rows, now),
-        Command::Stop { word, moment } => stop(alloc, *word, moment_or(now, *moment), rows),
-        Command::Cancel => cancel(alloc, rows),
-        Command::Continue { id, adjust } => go_on(alloc, *id, *adjust, rows, now),
-        Command::Track {
-            word,
-            start,
-            end,
-            tags,
-            adjust,
-        } => track(alloc, *word, *start, *end, tags, *adjust, rows),
-        Command::Tag { ids, tags } => whole(rows, tag(alloc, ids.as_slice(), tags, rows)),
-        Command::Untag { ids, tags } => whole(rows, untag(alloc, ids.as_slice(), tags, rows)),
-        Command::Annotate { id, text } => whole(rows, annotate(alloc, *id, text, rows)),
-        Command::Delete { ids } => whole(rows, delete(alloc, ids.as_slice(), rows)),
-        Command::Split { ids } => whole(rows, split(alloc, ids.as_slice(), rows, now)),
-        Command::Join {
-            first,
-            second,
-            adjust,
-        } => whole(rows, join(alloc, *first, *second, *adjust, rows)),
-        Command::Move {
-            id,
-            word,
-            start,
-            adjust,
-        } => whole(rows, move_to(alloc, *id, *word, *start, *adjust, rows)),
-        Command::Lengthen {
-            id,
-            word,
-            length,
-            adjust,
-        } => whole(rows, lengthen(alloc, *id, *word, length, *adjust, rows)),
-        Command::Shorten {
-            id,
-            word,
-            length,
-            adjust,
-        } => whole(rows, shorten(alloc, *id, *word, length, *adjust, rows)),
-        Command::Show | Command::Undo | Command::Export(_) | Command::Summary(_) => Ok(Edit {
-            at: 0,
-            count: 0,
-            rows: Vec::new(alloc),
-        }),
+        Changing::Start(it) => begin(alloc, it.word, it.moment, &it.tags, it.adjust, rows, now),
+        Changing::Stop(it) => stop(alloc, it.word, moment_or(now, it.moment), rows),
+        Changing::Cancel => cancel(alloc, rows),
+        Changing::Continue(parts) => go_on(alloc, parts, rows, now),
+        Changing::Track(parts) => track(alloc, parts, rows),
+        Changing::Tag(parts) => whole(rows, tag(alloc, parts, rows)),
+        Changing::Untag(parts) => whole(rows, untag(alloc, parts, rows)),
+        Changing::Annotate(parts) => whole(rows, annotate(alloc, parts, rows)),
+        Changing::Delete(ids) => whole(rows, delete(alloc, ids.as_slice(), rows)),
+        Changing::Split(ids) => whole(rows, split(alloc, ids.as_slice(), rows, now)),
+        Changing::Join(parts) => whole(rows, join(alloc, parts, rows)),
+        Changing::Move(parts) => whole(rows, move_to(alloc, parts, rows)),
+        Changing::Lengthen(parts) => whole(rows, lengthen(alloc, parts, rows)),
+        Changing::Shorten(parts) => whole(rows, shorten(alloc, parts, rows)),
     }
 }
 

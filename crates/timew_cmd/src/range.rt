@@ -1,15 +1,24 @@
 // Ranges of time, and which intervals are in them.
-ghost use Rattle.std.specs.Prelude.{◌≡◌, ◌<◌, ◌≤◌, max};
+ghost use Rattle.std.specs.Prelude.{◌≡◌, ◌<◌};
 ghost use Rattle.tw_time.specs.Moments.{moment};
 ghost use Rattle.timew_store.specs.Interval.{limit, AreRows};
 ghost use Rattle.timew_cmd.specs.Ranges.{or_else, bounds, measured, is_within, seconds_within, total};
 
-use crate::command::Range;
 use timew_store::Interval;
 use tw_time::{Zone, read_moment};
 use tw_world::MOMENT_LIMIT;
 
-// The moment of a word, or where it is out of range another.
+/// Which stretch of time a text is about.
+#[derive(Clone, Copy, Drop)]
+pub enum Range {
+    Day,
+    Week,
+    All,
+    /// From a second up to but not including another.
+    Between(u64, u64),
+}
+
+// The moment of a word, or another if it is out of range.
 fn word_or(word: &str, other: u64, now: u64, zone: &Zone) -> u64
     requires { now < limit }
     ensures { result ≡ or_else other (moment word.now now zone.now) }
@@ -42,7 +51,7 @@ impl Range {
     }
 }
 
-/// Where an interval ends; an open one is measured to now, or to its start where now is earlier.
+/// Where an interval ends; an open one is measured to now, or to its start if now is earlier.
 pub fn measured(now: u64, row: &Interval) -> u64
     ensures { result ≡ measured now row.now }
 {

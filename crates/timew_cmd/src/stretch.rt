@@ -2,31 +2,23 @@
 ghost use Rattle.std.specs.Prelude.{◌≡◌, ◌<◌, IfOk};
 ghost use Rattle.std.specs.Result.{result_map_both};
 ghost use Rattle.tw_time.specs.Civil.{limit};
-ghost use Rattle.tw_time.specs.Tables.{look_up};
 ghost use Rattle.timew_cmd.specs.Parts.{words_of};
-ghost use Rattle.timew_cmd.specs.Reading.{span_in, range_in, resize_in, range_names, span_of};
+ghost use Rattle.timew_cmd.specs.Stretch.{span_of, span_in, range_in, resize_in};
 
-use crate::command::Range;
+use crate::command::Resize;
 use crate::error::{BadWord, WordKind};
 use crate::parts::{MISSING, ended, id_in, length_in, moment_in};
+use crate::range::Range;
 use crate::word::Word;
-use tw_time::{Length, Zone, look_up};
+use tw_time::{Zone, look_up};
 
-/// From a moment to another, with the number of the later one's word, and the words behind it.
+/// From a moment to another, with the number of the later one's word, and the words after it.
 #[derive(Clone, Copy)]
 pub struct Stretch<'a> {
     pub start: u64,
     pub end: u64,
     pub word: u64,
     pub rest: &'a [Word<'a>],
-}
-
-/// An id and a length, with the number of the length's word.
-#[derive(Clone, Copy)]
-pub struct Resize {
-    pub id: u64,
-    pub word: u64,
-    pub length: Length,
 }
 
 const RANGES: [(&str, Range); 3] = [
@@ -81,9 +73,9 @@ pub fn range_in(usual: Range, words: &[Word], now: u64, zone: &Zone) -> Result<R
     ended(Range::Between(stretch.start, stretch.end), stretch.rest)
 }
 
-/// An id and a length, and nothing behind them.
-pub fn resize_in(words: &[Word]) -> Result<Resize, BadWord>
-    ensures { result ≡ resize_in (words_of words.now) }
+/// An id and a length, and nothing after them.
+pub fn resize_in(adjust: bool, words: &[Word]) -> Result<Resize, BadWord>
+    ensures { result ≡ resize_in adjust (words_of words.now) }
 {
     let [word, words @ ..] = words else {
         return Err(MISSING);
@@ -98,6 +90,7 @@ pub fn resize_in(words: &[Word]) -> Result<Resize, BadWord>
             id,
             word: word.number,
             length,
+            adjust,
         },
         words,
     )

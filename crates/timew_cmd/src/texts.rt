@@ -1,13 +1,12 @@
 // Texts of one line.
-ghost use Rattle.std.specs.Prelude.{◌≡◌, ◌<◌, ◌/◌, ◌%◌, ◌++◌, ◌∷◌, option_map, string_bytes, IsAscii, IfOk, OnOk};
-ghost use Rattle.tw_time.specs.Civil.{limit, shown_clock};
-ghost use Rattle.timew_cmd.specs.Texts.{tags_text, tracking, stored, two_digits, clock_text, shown_text, length_text};
+ghost use Rattle.std.specs.Prelude.{◌∷◌, ◌++◌, ◌≡◌, ◌/◌, ◌%◌, ◌<◌, IfOk, string_bytes, OnOk, IsAscii};
+ghost use Rattle.tw_time.specs.Civil.{limit};
+ghost use Rattle.timew_cmd.specs.Texts.{tags_text, two_digits, clock_text, shown_text, length_text};
 
-use crate::kept::open_of;
 use std::alloc::Global;
 use std::str;
-use timew_store::{Intervals, Texts};
-use tw_time::{Clock, Zone, clock_of, print_basic, print_day};
+use timew_store::Texts;
+use tw_time::{Clock, Zone, clock_of, print_day};
 use tw_world::Memory;
 
 fn push_tag(text: &mut String, tag: &str) -> Result<(), Memory>
@@ -28,40 +27,6 @@ pub fn tags_text(alloc: Global, tags: &Texts) -> Result<String, Memory>
     let mut text = String::from_str(alloc, tags.at(0))?;
     for n in 1..tags.len() {
         push_tag(&mut text, tags.at(n))?;
-    }
-    Ok(text)
-}
-
-/// `Tracking <tags> since <moment>.` of the open interval, with a newline, or nothing where none is open (timew(1)). The moment is
-/// in the basic format and in UTC; between two tags stands one space.
-pub fn tracking_text(alloc: Global, rows: &Intervals) -> Result<Option<Vec<u8>>, Memory>
-    ensures { IfOk result (λ text. option_map (λ bytes. bytes.items) text ≡ tracking rows.now) }
-{
-    let Some((_, row)) = open_of(rows.as_slice()) else {
-        return Ok(None);
-    };
-    let tags = tags_text(alloc, &row.tags)?;
-    let mut text = Vec::new(alloc);
-    text.extend_from_slice(b"Tracking ")?;
-    text.extend_from_slice(tags.as_str().as_bytes())?;
-    text.extend_from_slice(b" since ")?;
-    text.extend_from_slice(&print_basic(row.start))?;
-    text.extend_from_slice(b".\n")?;
-    Ok(Some(text))
-}
-
-/// `Stored N intervals.`, which a change ends with, and a newline.
-pub fn stored_text(alloc: Global, count: u64) -> Result<Vec<u8>, Memory>
-    ensures { IfOk result (λ text. text.items ≡ stored count) }
-{
-    let number = format!(in alloc; "{count}")?;
-    let mut text = Vec::new(alloc);
-    text.extend_from_slice(b"Stored ")?;
-    text.extend_from_slice(number.as_str().as_bytes())?;
-    if count == 1 {
-        text.extend_from_slice(b" interval.\n")?;
-    } else {
-        text.extend_from_slice(b" intervals.\n")?;
     }
     Ok(text)
 }

@@ -1,6 +1,6 @@
 // Words with their numbers.
-ghost use Rattle.std.specs.Prelude.{◌≡◌, ◌∷◌, map, string_bytes, IfOk};
-ghost use Rattle.timew_cmd.specs.Parts.{word_of, words_of, words_from, is_adjust, adjusts, unadjusted};
+ghost use Rattle.std.specs.Prelude.{map, ◌≡◌, IfOk, string_bytes};
+ghost use Rattle.timew_cmd.specs.Parts.{words_from, word_of, words_of, is_adjust, adjusts, unadjusted};
 
 use std::alloc::Global;
 use tw_world::Memory;
@@ -12,7 +12,7 @@ pub struct Word<'a> {
     pub text: &'a str,
 }
 
-/// The words behind a command's word, with their numbers.
+/// The words after a command's word, with their numbers.
 pub fn words_behind<'a>(alloc: Global, texts: &'a [String]) -> Result<Vec<Word<'a>>, Memory>
     ensures { IfOk result (λ words. words_of words.items ≡ words_from 1 (map string_bytes texts.now)) }
 {
@@ -34,7 +34,7 @@ fn is_adjust(word: &Word) -> bool
     word.text == ":adjust"
 }
 
-/// Whether `:adjust` stands among words.
+/// Whether `:adjust` is among words.
 pub fn adjusts(words: &[Word]) -> bool
     ensures { result ≡ adjusts (words_of words.now) }
 {
@@ -48,13 +48,13 @@ pub fn adjusts(words: &[Word]) -> bool
 
 /// The words without `:adjust`.
 pub fn unadjusted<'a>(alloc: Global, words: &[Word<'a>]) -> Result<Vec<Word<'a>>, Memory>
-    ensures { IfOk result (λ kept. words_of kept.items ≡ unadjusted (words_of words.now)) }
+    ensures { IfOk result (λ others. words_of others.items ≡ unadjusted (words_of words.now)) }
 {
-    let mut kept = Vec::with_capacity(alloc, words.len())?;
+    let mut others = Vec::with_capacity(alloc, words.len())?;
     for word in words {
         if !is_adjust(word) {
-            kept.push(*word)?;
+            others.push(*word)?;
         }
     }
-    Ok(kept)
+    Ok(others)
 }

@@ -10,8 +10,9 @@ use Rattle.tw_world.specs.Folder.{bytes_cmp}
 use Rattle.timew_store.specs.Exact.{AreWritten, AreTaken, IsFirstTag, spaced}
 use Rattle.timew_store.specs.Interval.{is_printable, is_tag, tags_rise, tags_rise_from}
 use Rattle.timew_store.specs.Tail.{is_special, is_bare, quoted, tag_text, tags_text}
-use Rattle.timew_store.specs.Writable.{IsGoodTag}
-use Rattle.timew_store.proofs.TailBack.{both, neither}
+use Rattle.timew_store.specs.ReadBack.{IsGoodTag}
+use Rattle.timew_store.proofs.TailReadBack.{neither}
+use Rattle.timew_store.proofs.Tests.{both}
 
 not_true : (b : Bool) → not b ≡ true → b ≡ false
 not_true true is = absurd (cc)
@@ -105,7 +106,7 @@ module _ (tags : List (List ℕ)) (rest bytes tag : List ℕ) (taken : AreTaken 
   good : AllByRecursion IsGoodTag (tags ++ tag ∷ [])
   good = good_push tags tag taken.good (tag_of_some tag next.some plain.print, next.utf8)
 
-  -- with a space behind it
+  -- with a space after it
   pub one_more : (after : List ℕ) → rest ≡ tag ++ 32 ∷ after → AreTaken (tags ++ tag ∷ []) after bytes
   one_more after is = record {
     text = taken.text ∙ ap (λ (l : List ℕ). spaced tags ++ l) (is ∙ ap (λ (l : List ℕ). l ++ 32 ∷ after) (sym as_it_is) ∙ sym (append_assoc (tag_text tag) (32 ∷ []) after))
@@ -138,7 +139,7 @@ taken_last tags rest bytes tag taken first rise = the_last tags rest bytes tag t
 taken_first : (bytes tag more : List ℕ) → IsFirstTag tag (Some more) bytes → AreTaken (tag ∷ []) more bytes
 taken_first bytes tag more first = taken_more [] bytes bytes tag more (nothing_taken bytes) first refl
 
--- a tag alone, two tags, and two with more behind them
+-- one tag, two tags, and two with more after them
 pub only_tag : (bytes tag : List ℕ) → IsFirstTag tag None bytes → AreWritten (tag ∷ []) bytes
 only_tag bytes tag first = taken_last [] bytes bytes tag (nothing_taken bytes) first refl
 

@@ -95,7 +95,7 @@ module _ (at second : ℕ) (below : at < limit) (in_day : second < 86_400) (s : 
       ∙ basic_moment-printed (parts_of s.date (clock second in_day)) (in_day_of at second) (parts_of-printable s.date (clock second in_day) late)
       (at_civil-shown (in_day_of at second) dated (omega (arith, below, in_day)) shows late)
 
--- a text that begins as that of a moment, and has another second of its day behind the date
+-- a text that begins as that of a moment, and has another second of its day after the date
 pub moment_in_day : (at second : ℕ) (known text date behind : List ℕ) → at < limit → basic_moment known ≡ Some at → text ≡ date ++ behind → date ≡ take 9 known
     → behind ≡ clock_text second → second < 86_400 → basic_moment text ≡ Some (at - at % 86_400 + second)
 moment_in_day at second known text date behind below is parts front back in_day =

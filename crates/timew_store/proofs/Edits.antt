@@ -16,7 +16,7 @@ are_front [] more are = tt
 are_front (r ∷ []) more are = (are.0, tt, tt)
 are_front (r ∷ s ∷ rows) more are = (are.0, are.1, are_front (s ∷ rows) more are.2)
 
--- ---- parts of the intervals that are kept
+-- ---- parts of the intervals that stay
 
 pub part_rest : (rows rest : List Interval) (end n : ℕ) → n ≤ length rest → length rest ≤ end → rest ≡ part (end - length rest) (length rest) rows → drop n rest ≡ part (end - length (drop n rest)) (length (drop n rest)) rows
 part_rest rows rest end n few inside is =

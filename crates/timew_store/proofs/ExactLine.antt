@@ -1,4 +1,4 @@
--- A line whose tags and annotation stand as they are written is the line of its interval.
+-- A line whose tags and annotation are as they are written is the line of its interval.
 use Rattle.std.specs.Prelude.{codes, IfSome, IfOk}
 use Rattle.std.proofs.Common.{◌≡◌, ℕ, ◌<◌, Bool, true, false, cond, List, [], ◌∷◌, ◌++◌, length, take, drop, Option, Some, None, Result, Ok, Err, refl, sym, ap, subst, ◌∙◌, arith, rules, append_assoc}
 use Rattle.std.proofs.lemmas.List.{append-nil, take-append-drop}
@@ -11,17 +11,17 @@ use Rattle.tw_time.specs.Basic.{basic, basic_moment, utc_parts, text_of_parts}
 use Rattle.tw_time.proofs.TakenFacts.{printed_again}
 use Rattle.tw_world.specs.Folder.{same_bytes}
 use Rattle.timew_store.specs.declared.interval.Interval.{Interval}
-use Rattle.timew_store.specs.declared.line.Line.{Line}
+use Rattle.timew_store.specs.declared.read.line.Line.{Line}
 use Rattle.timew_store.specs.Body.{◌>>=◌}
 use Rattle.timew_store.specs.Exact.{AreWritten, IsTail, IsExact}
 use Rattle.timew_store.specs.Interval.{IsRow}
 use Rattle.timew_store.specs.Line.{end_text, after, moment_at, end_behind, end_at}
 use Rattle.timew_store.specs.Tail.{tags_text, tail_text, marked}
-use Rattle.timew_store.specs.Writable.{IsPrinted, IsGoodTag}
-use Rattle.timew_store.proofs.Finishing.{same_bytes_exact}
-use Rattle.timew_store.proofs.TailBack.{tail_back}
-use Rattle.timew_store.proofs.Tags.{utf8_is}
-use Rattle.timew_store.proofs.Written.{writable_is}
+use Rattle.timew_store.specs.ReadBack.{IsPrinted, IsGoodTag}
+use Rattle.timew_store.proofs.FinishedFiles.{same_bytes_exact}
+use Rattle.timew_store.proofs.TailReadBack.{tail_back}
+use Rattle.timew_store.proofs.RisingTags.{utf8_is}
+use Rattle.timew_store.proofs.RowsReadBack.{writable_is}
 
 pub after_is : (front bytes rest : List ℕ) → after front bytes ≡ Some rest → bytes ≡ front ++ rest
 after_is front bytes rest is = by_case (same_bytes (take (length front) bytes) front) refl is
@@ -121,7 +121,7 @@ pub nothing_is : (bytes : List ℕ) → length bytes < 1 → bytes ≡ []
 nothing_is [] none = refl
 nothing_is (b ∷ bytes) none = absurd (omega (arith, none))
 
--- nothing behind the moments
+-- nothing after the moments
 pub no_tail : (tags : List (List ℕ)) (note bytes : List ℕ) → tags ≡ [] → note ≡ [] → length bytes < 1 → IsTail tags note bytes
 no_tail tags note bytes no_tags no_note none = record {
   text = nothing_is bytes none ∙ (λ i. tail_text (sym no_tags i) (sym no_note i));

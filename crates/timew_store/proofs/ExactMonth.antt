@@ -1,4 +1,4 @@
--- A month file whose lines stand as they are written.
+-- A month file whose lines are as they are written.
 use Rattle.std.proofs.Common.{◌≡◌, ℕ, zero, suc, ◌+◌, ◌<◌, ◌≤◌, Bool, true, false, cond, ◌==◌, List, [], ◌∷◌, ◌++◌, length, take, drop, refl, sym, ap, subst, ◌∙◌, arith, append_assoc, append-nil, length-drop}
 use Rattle.std.proofs.lemmas.List.{take-append-drop}
 use Rattle.std.proofs.lemmas.List.Concat.{flat_map-append}
@@ -8,10 +8,10 @@ use Rattle.timew_store.specs.declared.interval.Interval.{Interval}
 use Rattle.timew_store.specs.Exact.{IsExact, AddsExactly, IsText}
 use Rattle.timew_store.specs.Line.{line_text}
 use Rattle.timew_store.specs.Month.{line_length, lines_text}
-use Rattle.timew_store.specs.Writable.{IsWritable}
+use Rattle.timew_store.specs.ReadBack.{IsWritable}
 use Rattle.timew_store.proofs.MonthTexts.{all_push}
 
--- behind the first line stands a newline
+-- a newline follows the first line
 newline : (bytes : List ℕ) (n : ℕ) → n ≡ line_length bytes → n < length bytes → drop n bytes ≡ 10 ∷ drop 1 (drop n bytes)
 newline [] n is lt = absurd (omega arith)
 newline (b ∷ bytes) zero is lt = by_case (b == 10) refl is
@@ -61,7 +61,7 @@ module _ (bytes rest front back : List ℕ) (size : ℕ) (before after : List In
         writable = subst (AllByRecursion IsWritable) (sym a.1) (all_push IsWritable before a.0 so_far.writable a.2.writable);
       }
 
-  -- the end, behind the last newline
+  -- the end, after the last newline
   pub text_ends : length front ≡ 0 → length back ≡ 0 → IsText bytes after
   text_ends none end =
       let a = none_added front before after none adds in

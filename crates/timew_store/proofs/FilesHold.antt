@@ -6,11 +6,11 @@ use Rattle.timew_store.specs.declared.interval.Interval.{Interval}
 use Rattle.timew_store.specs.Held.{replaced}
 use Rattle.timew_store.specs.Interval.{AreRows}
 use Rattle.timew_store.specs.Rows.{rows_of}
-use Rattle.timew_store.specs.Months.{changes_to}
-use Rattle.timew_store.specs.Writable.{IsWritable}
+use Rattle.timew_store.specs.Changes.{changes_to}
+use Rattle.timew_store.specs.ReadBack.{IsWritable}
 use Rattle.timew_store.proofs.MonthNames.{rows_months_rise, names_good}
 use Rattle.timew_store.proofs.OneLine.{all_back, all_dated}
-use Rattle.timew_store.proofs.Stored.{rows_stored, none_empty}
+use Rattle.timew_store.proofs.ChangedFiles.{rows_stored, none_empty}
 
 pub files_hold_rows : (files : Files) (rows : List Interval) → AreRows rows → AllByRecursion IsWritable rows → rows_of (replaced files (changes_to files rows)) ≡ Ok rows
 files_hold_rows files rows are all = let dated = all_dated rows all in rows_stored files rows are (all_back rows all) (rows_months_rise rows are dated) (names_good rows dated) (none_empty [] rows)

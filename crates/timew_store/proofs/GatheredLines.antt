@@ -4,15 +4,15 @@ use Rattle.std.specs.Prelude.{map, fold, IfSome}
 use Rattle.std.proofs.lemmas.List.{append-nil, map-append, length-map, drop_more, drop_all}
 use Rattle.std.proofs.lemmas.List.Concat.{flat_map-cons}
 use Rattle.timew_store.specs.declared.interval.Interval.{Interval}
-use Rattle.timew_store.specs.declared.gathering.Spot.{Spot}
-use Rattle.timew_store.specs.declared.gathering.Gathered.{Gathered}
+use Rattle.timew_store.specs.declared.read.gathered.Spot.{Spot}
+use Rattle.timew_store.specs.declared.read.gathered.Gathered.{Gathered}
 use Rattle.timew_store.specs.Interval.{IsRow}
 use Rattle.timew_store.specs.Line.{row_of}
 use Rattle.timew_store.specs.Month.{lines}
 use Rattle.timew_store.specs.Rows.{Found, found_from, Seats, seat, seats_from, seated, in_seats}
-use Rattle.timew_store.specs.declared.files.MonthFile.{MonthFile}
-use Rattle.timew_store.specs.Gathered.{NamedBytes, file_of, files_of, lines_in, Place, place_of, spot_place, seats_of, line_found, AreSorted, AreSeats, IsGathered, with_row}
-use Rattle.timew_store.proofs.Seating.{sorted_seated, are_seated}
+use Rattle.timew_store.specs.declared.months.MonthFile.{MonthFile}
+use Rattle.timew_store.specs.Gathered.{NamedBytes, file_of, files_of, lines_in, LineSpot, line_spot, spot_of, seats_of, line_found, AreSorted, AreSeats, IsGathered, with_row}
+use Rattle.timew_store.proofs.SeatedRows.{sorted_seated, are_seated}
 
 seats_more : (n : ℕ) (found : List Found) (f : Found) → seats_from n (found ++ f ∷ []) ≡ seats_from n found ++ seat (n + length found) f.row []
 seats_more n [] f = ap (λ (k : ℕ). seat k f.row []) (omega arith)
@@ -45,17 +45,17 @@ row_are n None seats row are = are
 row_are n (Some r) seats row are = are_seated (n, r) seats row are
 
 -- a line that is not empty was added
-pub gathered_more : (found : List Found) (old new : Gathered) (spot : Spot) (f : Found) → IsGathered found old → IfSome f.row IsRow → spot_place spot ≡ place_of f
+pub gathered_more : (found : List Found) (old new : Gathered) (spot : Spot) (f : Found) → IsGathered found old → IfSome f.row IsRow → spot_of spot ≡ line_spot f
     → new.spots.items ≡ old.spots.items ++ spot ∷ [] → seats_of new.seats.items ≡ with_row (length old.spots.items) f.row (seats_of old.seats.items) → IsGathered (found ++ f ∷ []) new
 gathered_more found old new spot f was row same spots seats = record {
-  spots = ap (map spot_place) spots ∙ map-append spot_place old.spots.items (spot ∷ []) ∙ ap (λ (p : Place). map spot_place old.spots.items ++ p ∷ []) same ∙ ap (λ (l : List Place). l ++ place_of f ∷ []) was.spots ∙ sym (map-append place_of found (f ∷ []));
+  spots = ap (map spot_of) spots ∙ map-append spot_of old.spots.items (spot ∷ []) ∙ ap (λ (p : LineSpot). map spot_of old.spots.items ++ p ∷ []) same ∙ ap (λ (l : List LineSpot). l ++ line_spot f ∷ []) was.spots ∙ sym (map-append line_spot found (f ∷ []));
   seats = seats ∙ ap (λ (n : ℕ). with_row n f.row (seats_of old.seats.items)) so_many ∙ ap (with_row (length found) f.row) was.seats ∙ sym (in_seats_more found f);
   sorted = subst AreSorted (sym seats) (row_sorted (length old.spots.items) f.row (seats_of old.seats.items) was.sorted);
   are = subst AreSeats (sym seats) (row_are (length old.spots.items) f.row (seats_of old.seats.items) row was.are);
 }
   where
     so_many : length old.spots.items ≡ length found
-    so_many = sym (length-map old.spots.items spot_place) ∙ ap length was.spots ∙ length-map found place_of
+    so_many = sym (length-map old.spots.items spot_of) ∙ ap length was.spots ∙ length-map found line_spot
 
 -- an empty line
 pub gathered_none : (found : List Found) (file : List ℕ) (n : ℕ) (bytes : List ℕ) (g : Gathered) → length bytes ≡ 0 → IsGathered found g → IsGathered (found ++ line_found file n bytes) g
@@ -66,8 +66,8 @@ pub line_is : (file : List ℕ) (n : ℕ) (bytes : List ℕ) → (length bytes �
 line_is file n [] some = absurd (some refl)
 line_is file n (b ∷ bytes) some = refl
 
-pub place_is : (file name : List ℕ) (n : ℕ) (i j : Bool) → file ≡ name → i ≡ j → (let p : Place = record { file = file; line = n; is_row = i } in p) ≡ record { file = name; line = n; is_row = j }
-place_is file name n i j same is = ap (λ (l : List ℕ). (let p : Place = record { file = l; line = n; is_row = i } in p)) same ∙ ap (λ (b : Bool). (let p : Place = record { file = name; line = n; is_row = b } in p)) is
+pub place_is : (file name : List ℕ) (n : ℕ) (i j : Bool) → file ≡ name → i ≡ j → (let p : LineSpot = record { file = file; line = n; is_row = i } in p) ≡ record { file = name; line = n; is_row = j }
+place_is file name n i j same is = ap (λ (l : List ℕ). (let p : LineSpot = record { file = l; line = n; is_row = i } in p)) same ∙ ap (λ (b : Bool). (let p : LineSpot = record { file = name; line = n; is_row = b } in p)) is
 
 pub row_kept_sorted : (n : ℕ) (o : Option Interval) (old new : Seats) → AreSorted old → new ≡ with_row n o old → AreSorted new
 row_kept_sorted n o old new sorted is = subst AreSorted (sym is) (row_sorted n o old sorted)

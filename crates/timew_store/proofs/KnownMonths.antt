@@ -10,15 +10,15 @@ use Rattle.std.specs.declared.cmp.Ordering.{Ordering}
 use Rattle.std.specs.declared.cmp.Ordering.TheVariants.{Less, Equal, Greater}
 use Rattle.tw_world.specs.Folder.{bytes_cmp, same_bytes}
 use Rattle.timew_store.specs.declared.interval.Interval.{Interval}
-use Rattle.timew_store.specs.declared.files.MonthFile.{MonthFile}
-use Rattle.timew_store.specs.declared.known.KnownText.{KnownText}
+use Rattle.timew_store.specs.declared.months.MonthFile.{MonthFile}
+use Rattle.timew_store.specs.declared.months.KnownText.{KnownText}
 use Rattle.timew_store.specs.Exact.{IsText}
 use Rattle.timew_store.specs.Interval.{AreRows, IsBefore}
 use Rattle.timew_store.specs.Known.{part, IsKnown, AreKnown, IsOfMonth, first_name}
-use Rattle.timew_store.specs.Months.{month_name}
-use Rattle.timew_store.specs.Writable.{IsWritable}
-use Rattle.timew_store.proofs.Finishing.{tied, same_bytes_itself, same_bytes_exact}
-use Rattle.timew_store.proofs.Grouping.{NotBefore, MonthsRise}
+use Rattle.timew_store.specs.Changes.{month_name}
+use Rattle.timew_store.specs.ReadBack.{IsWritable}
+use Rattle.timew_store.proofs.FinishedFiles.{tied, same_bytes_itself, same_bytes_exact}
+use Rattle.timew_store.proofs.GroupedMonths.{NotBefore, MonthsRise}
 use Rattle.timew_store.proofs.MonthNames.{rows_months_rise}
 use Rattle.timew_store.proofs.OneLine.{all_dated}
 
@@ -66,7 +66,7 @@ all_at P [] n r all lt at = absurd (omega arith)
 all_at P (s ∷ rows) zero r all lt at = subst P (sym at) all.0
 all_at P (s ∷ rows) (suc n) r all lt at = all_at P rows n r all.1 (omega arith) at
 
--- a name that is neither before another nor behind it
+-- a name that is neither before another nor after it
 same_name : (a b : List ℕ) → (bytes_cmp a b ≡ Less → ⊥) → (bytes_cmp b a ≡ Less → ⊥) → same_bytes a b ≡ true
 same_name a b here there = by_case (bytes_cmp a b) refl
   where

@@ -10,12 +10,8 @@ use Rattle.std.proofs.lemmas.Bool.{eqb-true}
 use Rattle.std.proofs.lemmas.Bool.Decides.{nat_tests}
 use Rattle.tw_world.specs.Folder.{same_bytes, is_file_name}
 use Rattle.timew_store.specs.Body.{is_month_name, two_digits}
-use Rattle.timew_store.proofs.Finishing.{same_bytes_exact}
-
-both : (a b : Bool) → (a && b) ≡ true → (a ≡ true) × (b ≡ true)
-both true true e = (refl, refl)
-both true false e = absurd (cc)
-both false b e = absurd (cc)
+use Rattle.timew_store.proofs.FinishedFiles.{same_bytes_exact}
+use Rattle.timew_store.proofs.Tests.{both}
 
 ends_false : (b : Bool) → (b && false) ≡ false
 ends_false true = refl

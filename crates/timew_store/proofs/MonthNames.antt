@@ -17,9 +17,9 @@ use Rattle.tw_world.specs.Folder.{bytes_cmp}
 use Rattle.timew_store.specs.declared.interval.Interval.{Interval}
 use Rattle.timew_store.specs.Body.{is_month_name, two_digits}
 use Rattle.timew_store.specs.Interval.{StartsFrom, AreRows}
-use Rattle.timew_store.specs.Months.{month_name, name_of}
+use Rattle.timew_store.specs.Changes.{month_name, name_of}
 use Rattle.timew_store.proofs.Placed.{own_start, from_earlier}
-use Rattle.timew_store.proofs.Grouping.{NotBefore, MonthsRise}
+use Rattle.timew_store.proofs.GroupedMonths.{NotBefore, MonthsRise}
 
 -- a second with a date
 abbrev pub IsDated : ℕ → Type 0

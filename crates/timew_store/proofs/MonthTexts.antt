@@ -14,14 +14,14 @@ use Rattle.timew_store.specs.declared.interval.Interval.{Interval}
 use Rattle.timew_store.specs.Body.{is_month_name}
 use Rattle.timew_store.specs.Gathered.{NamedBytes}
 use Rattle.timew_store.specs.Interval.{IsRow, AreRows}
-use Rattle.timew_store.specs.Kept.{text_in, with_names, with_months}
+use Rattle.timew_store.specs.NamedFiles.{text_in, with_names, with_months}
 use Rattle.timew_store.specs.Known.{IsMonthOf}
 use Rattle.timew_store.specs.Line.{line_text}
 use Rattle.timew_store.specs.Month.{lines_text}
-use Rattle.timew_store.specs.Months.{month_name, is_in_month, month_text}
-use Rattle.timew_store.specs.Texts.{HaveNames, AddTexts}
-use Rattle.timew_store.specs.Writable.{IsWritable}
-use Rattle.timew_store.proofs.Finishing.{tied, same_bytes_itself, same_bytes_exact}
+use Rattle.timew_store.specs.Changes.{month_name, is_in_month, month_text}
+use Rattle.timew_store.specs.MonthTexts.{HaveNames, AddTexts}
+use Rattle.timew_store.specs.ReadBack.{IsWritable}
+use Rattle.timew_store.proofs.FinishedFiles.{tied, same_bytes_itself, same_bytes_exact}
 
 -- ---- rows
 

@@ -4,14 +4,14 @@ use Rattle.std.proofs.Common.{◌≡◌, ℕ, Bool, true, false, ◌&&◌, List,
 use Rattle.std.specs.List.{list_all}
 use Rattle.std.specs.FinMap.{get, keys}
 use Rattle.tw_world.specs.Folder.{Files, same_bytes, add_name}
-use Rattle.timew_store.specs.declared.files.MonthFile.{MonthFile}
+use Rattle.timew_store.specs.declared.months.MonthFile.{MonthFile}
 use Rattle.timew_store.specs.Body.{FileChange, is_month_name, AreMonths}
 use Rattle.timew_store.specs.Gathered.{NamedBytes, files_of, months_in}
 use Rattle.timew_store.specs.Held.{bytes_of, with_new, replaced}
-use Rattle.timew_store.specs.Kept.{bytes_in, names_in, are_named, bytes_after, names_after, files_after}
+use Rattle.timew_store.specs.NamedFiles.{bytes_in, names_in, are_named, bytes_after, names_after, files_after}
 use Rattle.timew_store.specs.Rows.{month_names}
-use Rattle.timew_store.proofs.Changing.{AreMonthNames, months_good, bytes_kept, names_kept, added_good}
-use Rattle.timew_store.proofs.Finishing.{get-new}
+use Rattle.timew_store.proofs.ChangesByName.{AreMonthNames, months_good, bytes_kept, names_kept, added_good}
+use Rattle.timew_store.proofs.FinishedFiles.{get-new}
 use Rattle.timew_store.proofs.RisingMonths.{month_names_put}
 
 -- ---- bytes and names
@@ -46,7 +46,7 @@ each_file files changes (n ∷ names) good =
     ap (λ (b : List ℕ). let f : NamedBytes = (n, b) in f ∷ named_with (λ name. bytes_after changes name (bytes_in (months_in files) name)) names) same
     ∙ ap (λ (l : List NamedBytes). let f : NamedBytes = (n, bytes_of (replaced files changes) n) in f ∷ l) (each_file files changes names good.1)
 
--- the files that are kept are then those of the folder
+-- the files in memory are then those of the folder
 pub months_after : (files : Files) (kept : List NamedBytes) (changes : List FileChange) → kept ≡ months_in files → AreMonths changes → files_after kept changes ≡ months_in (replaced files changes)
 months_after files kept changes is are =
     ap (λ (k : List NamedBytes). files_after k changes) is

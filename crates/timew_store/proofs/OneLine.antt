@@ -1,6 +1,6 @@
 -- The text of an interval is one line, so it is read back.
 use Rattle.std.specs.Prelude.{not, nat_lt, cond, IfSome}
-use Rattle.std.proofs.Common.{◌≡◌, ℕ, ◌+◌, ◌/◌, ◌%◌, Bool, true, false, ◌&&◌, ◌||◌, ◌==◌, List, [], ◌∷◌, ◌++◌, codes, Option, Some, None, refl, ap, ◌∙◌, arith}
+use Rattle.std.proofs.Common.{◌≡◌, ℕ, ◌+◌, ◌/◌, ◌%◌, Bool, true, false, ◌||◌, ◌==◌, List, [], ◌∷◌, ◌++◌, codes, Option, Some, None, refl, ap, ◌∙◌, arith}
 use Rattle.std.specs.List.{list_all, list_any, AllByRecursion}
 use Rattle.std.proofs.lemmas.Bool.Decides.{nat_tests}
 use Rattle.tw_time.specs.declared.form.Parts.{Parts}
@@ -10,39 +10,32 @@ use Rattle.timew_store.specs.declared.interval.Interval.{Interval}
 use Rattle.timew_store.specs.Interval.{is_printable, is_tag}
 use Rattle.timew_store.specs.Tail.{is_special, is_escaped, escaped, quoted, tag_text, tags_text, note_text, tail_text}
 use Rattle.timew_store.specs.Line.{end_text, line_text}
-use Rattle.timew_store.specs.Writable.{IsPrinted, IsWritable}
-use Rattle.timew_store.proofs.LineBack.{IsBack, line_back}
+use Rattle.timew_store.specs.ReadBack.{IsPrinted, IsWritable}
+use Rattle.timew_store.proofs.LineReadBack.{IsBack, line_back}
 use Rattle.timew_store.proofs.MonthNames.{IsDated, dated}
+use Rattle.timew_store.proofs.Tests.{both, both_true}
 
 abbrev pub stays : ℕ → Bool
 stays b = not (b == 10)
 
-both : (a b : Bool) → a ≡ true → b ≡ true → (a && b) ≡ true
-both true b p q = q
-both false b p q = absurd (cc)
-
-parts : (a b : Bool) → a && b ≡ true → (a ≡ true) × (b ≡ true)
-parts true b e = (refl, e)
-parts false b e = absurd (cc)
-
 joined : (xs ys : List ℕ) → list_all stays xs ≡ true → list_all stays ys ≡ true → list_all stays (xs ++ ys) ≡ true
 joined [] ys p q = q
-joined (x ∷ xs) ys p q = let r = parts (stays x) (list_all stays xs) p in both (stays x) (list_all stays (xs ++ ys)) r.0 (joined xs ys r.1 q)
+joined (x ∷ xs) ys p q = let r = both (stays x) (list_all stays xs) p in both_true (stays x) (list_all stays (xs ++ ys)) r.0 (joined xs ys r.1 q)
 
 printable_stays : (b : ℕ) → not (nat_lt b 32 || (b == 127)) ≡ true → stays b ≡ true
 printable_stays b is = grind (arith, nat_tests)
 
 text_stays : (text : List ℕ) → is_printable text ≡ true → list_all stays text ≡ true
 text_stays [] is = refl
-text_stays (b ∷ text) is = let r = parts (not (nat_lt b 32 || (b == 127))) (is_printable text) is in both (stays b) (list_all stays text) (printable_stays b r.0) (text_stays text r.1)
+text_stays (b ∷ text) is = let r = both (not (nat_lt b 32 || (b == 127))) (is_printable text) is in both_true (stays b) (list_all stays text) (printable_stays b r.0) (text_stays text r.1)
 
 escaped_stays : (text : List ℕ) → list_all stays text ≡ true → list_all stays (escaped text) ≡ true
 escaped_stays [] is = refl
-escaped_stays (b ∷ text) is = let r = parts (stays b) (list_all stays text) is in by_case (is_escaped b) r.0 (escaped_stays text r.1)
+escaped_stays (b ∷ text) is = let r = both (stays b) (list_all stays text) is in by_case (is_escaped b) r.0 (escaped_stays text r.1)
   where
     by_case : (e : Bool) → stays b ≡ true → list_all stays (escaped text) ≡ true → list_all stays (cond e (92 ∷ b ∷ escaped text) (b ∷ escaped text)) ≡ true
-    by_case true here rest = both (stays b) (list_all stays (escaped text)) here rest
-    by_case false here rest = both (stays b) (list_all stays (escaped text)) here rest
+    by_case true here rest = both_true (stays b) (list_all stays (escaped text)) here rest
+    by_case false here rest = both_true (stays b) (list_all stays (escaped text)) here rest
 
 quoted_stays : (text : List ℕ) → list_all stays text ≡ true → list_all stays (quoted text) ≡ true
 quoted_stays text is = joined (escaped text) (34 ∷ []) (escaped_stays text is) refl
@@ -60,9 +53,9 @@ tag_stays tag is = by_case (list_any is_special tag) (text_stays tag (tag_printa
 
 tags_stay : (tags : List (List ℕ)) → list_all is_tag tags ≡ true → list_all stays (tags_text tags) ≡ true
 tags_stay [] is = refl
-tags_stay (tag ∷ []) is = tag_stays tag (parts (is_tag tag) true is).0
+tags_stay (tag ∷ []) is = tag_stays tag (both (is_tag tag) true is).0
 tags_stay (tag ∷ next ∷ tags) is =
-    let r = parts (is_tag tag) (list_all is_tag (next ∷ tags)) is in
+    let r = both (is_tag tag) (list_all is_tag (next ∷ tags)) is in
     joined (tag_text tag) (32 ∷ tags_text (next ∷ tags)) (tag_stays tag r.0) (tags_stay (next ∷ tags) r.1)
 
 note_stays : (text : List ℕ) → is_printable text ≡ true → list_all stays (note_text text) ≡ true

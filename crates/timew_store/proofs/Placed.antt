@@ -25,7 +25,7 @@ at-first (x ∷ xs) ys s c some = elim (has x s) as (λ b. cond b (Some (content
   | false ↦ λ is. at-first xs ys s c is
 ] some
 
--- what is left of an interval in front of a placed one, and behind it
+-- what is left of an interval in front of a placed one, and after it
 one_at : (b : Bool) (r : Interval) (s : ℕ) → at (cond b (r ∷ []) []) s ≡ cond (b && has r s) (Some (content r)) None
 one_at true r s = refl
 one_at false r s = refl
@@ -124,7 +124,7 @@ pub true_or_false : (b : Bool) → (b ≡ true) ⊎ (b ≡ false)
 true_or_false true = inl refl
 true_or_false false = inr refl
 
--- rows behind an interval start after its end
+-- rows after an interval start after its end
 pub behind_end : (end : Option ℕ) (d : ℕ) (rows : List Interval) → end ≡ Some d → IsBefore end rows → StartsFrom d rows
 behind_end end d [] is before = tt
 behind_end end d (r ∷ rows) is before = let b : EndsBy (Some d) r.start = subst (λ (e : Option ℕ). EndsBy e r.start) is before in b
@@ -137,7 +137,7 @@ pub from_earlier : (t u : ℕ) (rows : List Interval) → t ≤ u → StartsFrom
 from_earlier t u [] le from = tt
 from_earlier t u (r ∷ rows) le from = omega (arith, le, from)
 
--- where an interval that goes past a second stands first, the others start after that second
+-- if an interval that goes past a second is first, the others start after that second
 pub past_start : (end : Option ℕ) (t : ℕ) (rows : List Interval) → goes_past end t ≡ true → IsBefore end rows → StartsFrom t rows
 past_start end t [] past before = tt
 past_start None t (r ∷ rows) past before = absurd before
@@ -176,7 +176,7 @@ inserted_before new r rows is = ap (λ b. cond b (r ∷ inserted new rows) (new 
 abbrev span_row : (start : ℕ) (end : Option ℕ) (r : Interval) → IsRow r → start < limit → IsEnd start end → IsRow (spanning start end r)
 span_row start end r is s e = record { start = s; end = e; tags = is.tags; rise = is.rise; annotation = is.annotation }
 
--- where a row stands before the placed one, behind it
+-- if a row is before the placed one, after it
 pub early_first : (r new : Interval) (d : ℕ) → r.end ≡ Some d → IsEnd r.start r.end → IsEnd new.start new.end → d ≤ new.start → is_not_after r new ≡ true
 early_first r new d is own other le = first_of_two r.start r.end new.start new.end d is own other le
   where
@@ -222,7 +222,7 @@ module _ (new : Interval) (is_row : IsRow new) where
       (λ ge. subst (λ (l : List Interval). AreRowsFrom t (inserted new (l ++ pieces))) (sym (ap (λ b. cond b (spanning r.start (Some new.start) r ∷ []) []) ge)) (rest.0, from_earlier t new.start (inserted new pieces) early rest.1))
       (true_or_false (nat_lt r.start new.start))
 
-  -- where it overlaps the first
+  -- if it overlaps the first
   module _ (r : Interval) (rows : List Interval) (are : AreRows (r ∷ rows)) (past : goes_past r.end new.start ≡ true) (so_far : AreRowsFrom new.start (placed new rows)) where
     with_back : (end : Option ℕ) → new.end ≡ end → AreRowsFrom new.start (inserted new (back_of end r ++ flat_map (left_outside new) rows))
     with_back None is = so_far

@@ -10,25 +10,25 @@ use Rattle.tw_world.specs.Turns.InTurns.{at_rest}
 use Rattle.tw_world.specs.Folder.{Files, FolderModel, same_bytes}
 use Rattle.tw_journal.specs.declared.journal.Journal.{Journal}
 use Rattle.timew_store.specs.declared.interval.Interval.{Interval}
-use Rattle.timew_store.specs.declared.write.NewFile.{NewFile}
+use Rattle.timew_store.specs.declared.write.change.NewFile.{NewFile}
 use Rattle.timew_store.specs.declared.store.Store.{Store}
 use Rattle.timew_store.specs.Body.{FileChange, Step, AreMonths, body_of, names_rise, ◌>>=◌}
 use Rattle.timew_store.specs.Body.Step.{Change}
 use Rattle.timew_store.specs.Gathered.{NamedBytes}
 use Rattle.timew_store.specs.History.{History, applied, stepped, with_change}
 use Rattle.timew_store.specs.Held.{Held, OpensTo, OpensToEither, IsAtRest, held_by, bytes_of, replaced, finished, HasOld}
-use Rattle.timew_store.specs.Kept.{bytes_in, text_in, one_change}
-use Rattle.timew_store.specs.Months.{month_text, month_change, changes_to, all_names}
+use Rattle.timew_store.specs.NamedFiles.{bytes_in, text_in, one_change}
+use Rattle.timew_store.specs.Changes.{month_text, month_change, changes_to, all_names}
 use Rattle.timew_store.specs.Writing.{change_of, changes_of, AreFileNames, IsReadyFor, WriteRefused}
 use Rattle.timew_store.specs.Store.{HoldMonths, IsStoreOn, IsMovedTo, IsChangeBody, ChangeRefused, with_any, changed, change_bodies}
 use Rattle.timew_store.specs.declared.error.StoreError.{StoreError}
 use Rattle.timew_store.specs.declared.error.StoreError.TheVariants as write
-use Rattle.timew_store.proofs.Again.{rise_apart}
-use Rattle.timew_store.proofs.Changing.{AreMonthNames}
+use Rattle.timew_store.proofs.AfterLoading.{rise_apart}
+use Rattle.timew_store.proofs.ChangesByName.{AreMonthNames}
 use Rattle.timew_store.proofs.MonthForm.{month_file}
 use Rattle.timew_store.proofs.RisingMonths.{changes_rise}
 use Rattle.timew_store.proofs.StepAgain.{step_again}
-use Rattle.timew_store.proofs.Turning.{open_records}
+use Rattle.timew_store.proofs.CrashOfChange.{open_records}
 
 -- ---- the files of a change
 
@@ -72,7 +72,7 @@ module _ {F D : Type 0} (m : FolderModel F) (n : DiskModel D) where
     records = open_records n journal d bodies y rest.open_on left';
     history = history;
     stands = rest.stands;
-    files_are = ap (λ (s : Files). finished s history.last) (rest.settled x left) ∙ rest.whole;
+    files_are = ap (λ (s : Files). finished s history.last) (rest.stable x left) ∙ rest.whole;
     undoable_are = refl;
   }
 

@@ -12,12 +12,13 @@ use Rattle.std.proofs.lemmas.Cmp.{nat_list_cmp_total}
 use Rattle.tw_world.specs.Folder.{bytes_cmp}
 use Rattle.tw_world.specs.Folder.{add_name as add_tag}
 use Rattle.timew_store.specs.declared.interval.Interval.{Interval}
-use Rattle.timew_store.specs.declared.tail.Mode.{Mode}
-use Rattle.timew_store.specs.declared.tail.Mode.TheVariants.{Ahead, Bare, Quoted, Escaped, Closed, Sign, Noted, Plain, Quote, Backslash, Done, Failed}
+use Rattle.timew_store.specs.declared.read.reader.Mode.{Mode}
+use Rattle.timew_store.specs.declared.read.reader.Mode.TheVariants.{Ahead, Bare, Quoted, Escaped, Closed, Sign, Noted, Plain, Quote, Backslash, Done, Failed}
 use Rattle.timew_store.specs.Interval.{IsRow, IsEnd, AreRows, EndsBy, limit, is_printable, is_tag, tags_rise, tags_rise_from, ends_by, in_order}
 use Rattle.timew_store.specs.Tail.{is_special, is_escaped, Reading, start, in_mode, with_byte, with_tag, with_last, with_note, failed, moved, stepped, ended, ended_in, marked, tail_of}
 use Rattle.timew_store.specs.Body.{◌>>=◌}
 use Rattle.timew_store.specs.Line.{is_end, row_with}
+use Rattle.timew_store.proofs.Tests.{both_true}
 
 -- ---- tags stay in order
 
@@ -34,10 +35,6 @@ less_back a b is = nat_list_cmp_total.antisymm b a ∙ ap ordering_reverse is
 
 lt_is : (o : Ordering) → o ≡ Less → is_lt o ≡ true
 lt_is o e = ap is_lt e
-
-both_true : (a b : Bool) → a ≡ true → b ≡ true → a && b ≡ true
-both_true true b p q = q
-both_true false b p q = absurd (cc)
 
 parts : (a b : Bool) → a && b ≡ true → (a ≡ true) × (b ≡ true)
 parts true b e = (refl, e)

@@ -1,6 +1,6 @@
 -- The names of month files rise, and so do those of a change.
 use Rattle.std.specs.Prelude.{filter, cond, fold}
-use Rattle.std.proofs.Common.{T, ◌≡◌, ℕ, Bool, true, false, ◌&&◌, List, [], ◌∷◌, ◌++◌, map, refl, sym, ap, subst, ◌∙◌}
+use Rattle.std.proofs.Common.{◌≡◌, ℕ, Bool, true, false, ◌&&◌, List, [], ◌∷◌, ◌++◌, map, refl, sym, ap, subst, ◌∙◌}
 use Rattle.std.proofs.lemmas.List.Concat.{flat_map-cons}
 use Rattle.std.specs.List.{flat_map, AllByRecursion}
 use Rattle.std.specs.FinMap.{keys, entries, entries_sorted, insert, entries-insert}
@@ -13,11 +13,12 @@ use Rattle.tw_world.specs.Folder.{Files, bytes_cmp, same_bytes, add_name}
 use Rattle.timew_store.specs.declared.interval.Interval.{Interval}
 use Rattle.timew_store.specs.Body.{FileChange, is_month_name, rises_from, names_rise}
 use Rattle.timew_store.specs.Held.{bytes_of}
-use Rattle.timew_store.specs.Months.{month_name, month_text, month_change, all_names, changes_to}
+use Rattle.timew_store.specs.Changes.{month_name, month_text, month_change, all_names, changes_to}
 use Rattle.timew_store.specs.Rows.{month_names}
-use Rattle.timew_store.proofs.Finishing.{bytes_exact}
-use Rattle.timew_store.proofs.Grouping.{Rise}
-use Rattle.timew_store.proofs.Stored.{month_names_rise}
+use Rattle.timew_store.proofs.FinishedFiles.{bytes_exact}
+use Rattle.timew_store.proofs.Tests.{both, is_less, is_true}
+use Rattle.timew_store.proofs.GroupedMonths.{Rise}
+use Rattle.timew_store.proofs.ChangedFiles.{month_names_rise}
 
 -- ---- names
 
@@ -90,19 +91,6 @@ module _ (files : Files) (rows : List Interval) where
 
 -- ---- the names of a folder, with one more
 
-told_true : (b : Bool) → T b → b ≡ true
-told_true true t = refl
-told_true false t = absurd t
-
-is_less : (o : Ordering) → is_lt o ≡ true → o ≡ Less
-is_less Less is = refl
-is_less Equal is = absurd (cc)
-is_less Greater is = absurd (cc)
-
-both : (a b : Bool) → (a && b) ≡ true → (a ≡ true) × (b ≡ true)
-both true b is = (refl, is)
-both false b is = absurd (cc)
-
 entries_below : (x : List ℕ) (es : List (List ℕ × List ℕ)) → below_all bytes_cmp x es ≡ true → IsBelow x (map (λ e. e.0) es)
 entries_below x [] is = tt
 entries_below x (e ∷ es) is =
@@ -116,7 +104,7 @@ entries_rise (e ∷ es) is =
     (entries_below e.0 es parts.0, entries_rise es parts.1)
 
 keys_rise : (files : Files) → Rise (keys files)
-keys_rise files = entries_rise (entries files) (told_true (is_sorted bytes_cmp (entries files)) (entries_sorted files))
+keys_rise files = entries_rise (entries files) (is_true (is_sorted bytes_cmp (entries files)) (entries_sorted files))
 
 put_keys : (k v : List ℕ) (es : List (List ℕ × List ℕ)) → map (λ e. e.0) (put bytes_cmp k v es) ≡ add_name k (map (λ e. e.0) es)
 put_keys k v [] = refl
@@ -131,7 +119,7 @@ put_keys k v (e ∷ es) = by_case (bytes_cmp k e.0) (put_keys k v es)
 keys_put : (files : Files) (name bytes : List ℕ) → keys (insert files name bytes) ≡ add_name name (keys files)
 keys_put files name bytes = ap (map (λ e. e.0)) (entries-insert nat_list_cmp_total files name bytes) ∙ put_keys name bytes (entries files)
 
--- months among names, behind a lower name
+-- months among names, after a lower name
 below_months : (low : List ℕ) (names : List (List ℕ)) → IsBelow low names → IsBelow low (filter is_month_name names)
 below_months low [] below = tt
 below_months low (n ∷ names) below = by_case (is_month_name n) (below_months low names below.1)

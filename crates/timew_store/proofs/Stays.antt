@@ -2,7 +2,7 @@
 use Rattle.std.proofs.Common.{◌≡◌, ℕ, List, Some, refl, sym, subst, ◌∙◌}
 use Rattle.tw_world.specs.Disk.{DiskModel}
 use Rattle.tw_world.specs.Disk as disk
-use Rattle.tw_world.specs.Crash.{Tells, Settled, Reads, LeavesOnly, Kept}
+use Rattle.tw_world.specs.Crash.{Tells, IsStable, Reads, LeavesOnly, FaultsRise}
 use Rattle.tw_world.specs.Folder.{FolderModel}
 use Rattle.tw_world.proofs.Crashes.{CountsNow}
 use Rattle.tw_journal.specs.Errors.{open_in_all}
@@ -10,17 +10,17 @@ use Rattle.tw_journal.specs.Journal.{IsOpenOn, IsOpened}
 use Rattle.tw_journal.specs.declared.journal.Journal.{Journal}
 use Rattle.tw_journal.specs.declared.error.OpenError.{OpenError}
 use Rattle.tw_journal.specs.declared.error.OpenError.TheVariants as opening
-use Rattle.tw_journal.proofs.Places.{still_open}
+use Rattle.tw_journal.proofs.Offsets.{still_open}
 use Rattle.timew_store.specs.Body.{FileChange}
 use Rattle.timew_store.specs.Held.{magic, OpensTo, AreApart}
 use Rattle.timew_store.specs.Loading.{IsLoaded, IsFinishedTo, StoreSparesDisk, StillOpen, last_of}
 use Rattle.timew_store.specs.Store.{not_loaded, LoadSparesDisk}
 use Rattle.timew_store.specs.declared.error.StoreError.{StoreError}
 use Rattle.timew_store.specs.declared.error.StoreError.TheVariants as store
-use Rattle.timew_store.proofs.Again.{same_opens, finished_opens}
-use Rattle.timew_store.proofs.Loads.{stands, rest_kept, held_read}
+use Rattle.timew_store.proofs.AfterLoading.{same_opens, finished_opens}
+use Rattle.timew_store.proofs.LoadRefusals.{stands, rest_kept, held_read}
 use Rattle.timew_store.proofs.Prepares.{opens_here}
-use Rattle.timew_store.proofs.Turning.{open_records}
+use Rattle.timew_store.proofs.CrashOfChange.{open_records}
 
 -- the folder and the journal may be left as they are read
 abbrev pub MayStay : {F : Type 0} → FolderModel F → Type 0
@@ -40,15 +40,15 @@ module _ {F D : Type 0} (m : FolderModel F) (n : DiskModel D) (may_stay : DiskMa
       apart opening.Memory spares is = cc
 
   -- it was opened, and then only read
-  pub opened_stays : (mid d1 : D) (journal : Journal) → disk.Kept n d0 mid → (disk.Tells n d0 → IsOpened n magic d0 mid journal) → disk.Untouched n mid d1 → StillOpen m n f0 f0 d0 d1
+  pub opened_stays : (mid d1 : D) (journal : Journal) → disk.FaultsRise n d0 mid → (disk.Tells n d0 → IsOpened n magic d0 mid journal) → disk.Untouched n mid d1 → StillOpen m n f0 f0 d0 d1
   opened_stays mid d1 journal kept opened untouched told settled tells held opens =
       let o = opened tells in
       let on : IsOpenOn n magic journal d1 o.bodies = still_open n magic journal mid d1 o.bodies untouched o.now in
       same_opens m n f0 d0 tells settled (may_stay d0 tells) (m.seen f0) (n.seen d1) held refl (o.bodies, o.records, open_records n journal d1 o.bodies (n.seen d1) on (may_stay d1 (untouched.kept.tells ∙ kept.tells ∙ tells))) opens
 
   -- and some of the files were finished
-  pub finishing_stays : MayStay m → CountsNow m → (f1 : F) (mid d1 : D) (journal : Journal) (changes : List FileChange) → Kept m f0 f1 → disk.Kept n d0 mid → (disk.Tells n d0 → IsOpened n magic d0 mid journal) → disk.Untouched n mid d1
-      → ((bodies : List (List ℕ)) → IsOpenOn n magic journal mid bodies → last_of bodies ≡ Some changes) → AreApart changes → (Tells m f0 → Settled m f0 → LeavesOnly m f0 f1 (IsFinishedTo changes (m.seen f0))) → StillOpen m n f0 f1 d0 d1
+  pub finishing_stays : MayStay m → CountsNow m → (f1 : F) (mid d1 : D) (journal : Journal) (changes : List FileChange) → FaultsRise m f0 f1 → disk.FaultsRise n d0 mid → (disk.Tells n d0 → IsOpened n magic d0 mid journal) → disk.Untouched n mid d1
+      → ((bodies : List (List ℕ)) → IsOpenOn n magic journal mid bodies → last_of bodies ≡ Some changes) → AreApart changes → (Tells m f0 → IsStable m f0 → LeavesOnly m f0 f1 (IsFinishedTo changes (m.seen f0))) → StillOpen m n f0 f1 d0 d1
   finishing_stays folder_stays counts_now f1 mid d1 journal changes folder kept opened untouched last apart run told settled tells held opens =
       let o = opened tells in
       let on : IsOpenOn n magic journal d1 o.bodies = still_open n magic journal mid d1 o.bodies untouched o.now in
@@ -57,7 +57,7 @@ module _ {F D : Type 0} (m : FolderModel F) (n : DiskModel D) (may_stay : DiskMa
       (open_records n journal d1 o.bodies (n.seen d1) on (may_stay d1 (untouched.kept.tells ∙ kept.tells ∙ tells))) opens
 
   -- the month files are no intervals
-  pub months_stay : MayStay m → (f1 f2 : F) (d1 : D) (journal : Journal) → Kept m f0 f1 → disk.Kept n d0 d1 → Reads m f1 f2 → (Tells m f0 → Settled m f0 → disk.Tells n d0 → IsLoaded m n f0 f1 d0 d1 journal) → StillOpen m n f0 f2 d0 d1
+  pub months_stay : MayStay m → (f1 f2 : F) (d1 : D) (journal : Journal) → FaultsRise m f0 f1 → disk.FaultsRise n d0 d1 → Reads m f1 f2 → (Tells m f0 → IsStable m f0 → disk.Tells n d0 → IsLoaded m n f0 f1 d0 d1 journal) → StillOpen m n f0 f2 d0 d1
   months_stay folder_stays f1 f2 d1 journal folder kept reads loaded told settled tells held opens =
       let is = loaded told settled tells in
       let rest = rest_kept m n journal f1 f2 d1 is.bodies opens.history reads (is.rest opens.history (stands m n f0 f1 d0 d1 journal is held opens)) in

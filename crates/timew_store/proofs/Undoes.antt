@@ -17,33 +17,33 @@ use Rattle.tw_journal.specs.declared.error.ReadError.TheVariants as reads
 use Rattle.tw_journal.specs.declared.journal.Journal.{Journal}
 use Rattle.tw_journal.specs.declared.error.JournalError.{JournalError}
 use Rattle.tw_journal.specs.declared.error.JournalError.TheVariants as cause
-use Rattle.tw_journal.proofs.Places.{still_open}
+use Rattle.tw_journal.proofs.Offsets.{still_open}
 use Rattle.timew_store.specs.Body.{FileChange, Step, AreMonths, body_of, names_rise, rises_from, ◌>>=◌}
 use Rattle.timew_store.specs.Body.Step.{Undo}
 use Rattle.timew_store.specs.Gathered.{RowsRefused, files_of, months_in, lines_in}
 use Rattle.timew_store.specs.Held.{magic, Held, OpensTo, OpensToEither, IsAtRest, held_by, bytes_of, replaced, HasOld}
 use Rattle.timew_store.specs.History.{History, applied, stepped, undone, exchanged, same_files}
-use Rattle.timew_store.specs.Kept.{first_edited_in}
+use Rattle.timew_store.specs.NamedFiles.{first_edited_in}
 use Rattle.timew_store.specs.Rows.{judged, rows_of}
-use Rattle.timew_store.specs.Undoing.{NoUndo, first_edited, undone_held, unless_edited, unless_unread, taken_back}
-use Rattle.timew_store.specs.Undoing.NoUndo.{Nothing, EditedFile, Bad}
+use Rattle.timew_store.specs.Undo.{NoUndo, first_edited, undone_held, unless_edited, unless_unread, taken_back}
+use Rattle.timew_store.specs.Undo.NoUndo.{Nothing, EditedFile, Bad}
 use Rattle.timew_store.specs.Store.{HoldMonths, IsStoreOn}
-use Rattle.timew_store.specs.Undo.{undo_bodies, IsTakenBack, OpensToEitherOf, not_read_back, not_written, WalkRefused, BackRefused, IsUndoBody, JournalRead, UndoJournalRefused, UndoRefused}
+use Rattle.timew_store.specs.StoreUndo.{undo_bodies, IsTakenBack, OpensToEitherOf, not_read_back, not_written, WalkRefused, BackRefused, IsUndoBody, JournalRead, UndoJournalRefused, UndoRefused}
 use Rattle.timew_store.specs.Writing.{IsReadyFor, RecordRefused, WriteRefused}
-use Rattle.timew_store.specs.declared.files.MonthFile.{MonthFile}
-use Rattle.timew_store.specs.declared.rows.RowsError.{RowsError}
-use Rattle.timew_store.specs.declared.rows.RowsError.TheVariants as read
+use Rattle.timew_store.specs.declared.months.MonthFile.{MonthFile}
+use Rattle.timew_store.specs.declared.read.rows.RowsError.{RowsError}
+use Rattle.timew_store.specs.declared.read.rows.RowsError.TheVariants as read
 use Rattle.timew_store.specs.declared.error.StoreError.{StoreError}
 use Rattle.timew_store.specs.declared.error.StoreError.TheVariants as write
 use Rattle.timew_store.specs.declared.error.UndoError.{UndoError}
 use Rattle.timew_store.specs.declared.error.UndoError.TheVariants as undo
 use Rattle.timew_store.specs.declared.interval.Interval.{Interval}
 use Rattle.timew_store.specs.declared.store.Store.{Store}
-use Rattle.timew_store.specs.declared.kept.Months.{Months}
-use Rattle.timew_store.proofs.Again.{rise_apart}
-use Rattle.timew_store.proofs.Changing.{bytes_kept}
+use Rattle.timew_store.specs.declared.months.Months.{Months}
+use Rattle.timew_store.proofs.AfterLoading.{rise_apart}
+use Rattle.timew_store.proofs.ChangesByName.{bytes_kept}
 use Rattle.timew_store.proofs.FilesRead.{judged_files}
-use Rattle.timew_store.proofs.Finishing.{same_bytes_exact, same_bytes_itself}
+use Rattle.timew_store.proofs.FinishedFiles.{same_bytes_exact, same_bytes_itself}
 use Rattle.timew_store.proofs.Prepares.{opens_here}
 use Rattle.timew_store.proofs.StepAgain.{step_again}
 
@@ -101,7 +101,7 @@ module _ {F D : Type 0} (m : FolderModel F) (n : DiskModel D) where
   pub rest_read : (journal : Journal) (f : F) (d0 d1 : D) (bodies : List (List ℕ)) (history : History) → disk.Untouched n d0 d1 → IsAtRest m n journal f d0 bodies history → IsAtRest m n journal f d1 bodies history
   rest_read journal f d0 d1 bodies history untouched rest = record {
     tells = rest.tells;
-    settled = rest.settled;
+    stable = rest.stable;
     open_on = still_open n magic journal d0 d1 bodies untouched rest.open_on;
     stands = rest.stands;
     whole = rest.whole;
@@ -113,7 +113,7 @@ module _ {F D : Type 0} (m : FolderModel F) (n : DiskModel D) where
   read_turns journal f d0 d1 bodies history P untouched rest wide =
       disk_run n d0 d1 _ (moments.weaker n d0 d1 (n.leaves d0) (λ y. (x : Files) → m.leaves f x → P x y) (untouched.run rest.open_on.rest.tells) (λ y left' x left. wide x y (opens_here m n journal f d0 bodies history x y rest left left')))
 
-  -- where there was a change to take back
+  -- if there was a change to take back
   module _ (store : Store) (f0 : F) (d0 : D) (bodies : List (List ℕ)) (history : History) (on : IsStoreOn m n store f0 d0 bodies history) where
     pub nothing_left : None ≡ slice_get history.undoable 0 → undone_held (held_by m f0 history) ≡ Err Nothing
     nothing_left none = of_stack history.undoable (none_of history.undoable none)

@@ -1,10 +1,14 @@
 -- The journal's records of a store: which month files a change replaces, with their bytes before and after.
-use Rattle.std.specs.Prelude.{◌≡◌, ℕ, zero, suc, ◌+◌, ◌-◌, ◌*◌, Bool, true, ◌&&◌, ◌==◌, nat_lt, nat_le, if◌then◌else◌, List, [], ◌∷◌, ◌++◌, length, take, drop, slice_index, codes, Option, Some, None}
-use Rattle.std.specs.Int.{Width, w32, byte_len, from_be_bytes, to_be_bytes}
+use Rattle.std.specs.Prelude.{◌≡◌, ℕ, zero, suc, ◌+◌, ◌-◌, ◌*◌, Bool, true, ◌&&◌, ◌==◌, nat_le, if◌then◌else◌}
+use Rattle.std.specs.Prelude.{List, [], ◌∷◌, ◌++◌, length, take, drop, slice_index, codes, Option, Some, None}
+use Rattle.std.specs.Int.{w32, to_be_bytes}
 use Rattle.std.specs.Char.{is_ascii_digit}
 use Rattle.std.specs.List.{flat_map, list_all, AllByRecursion}
 use Rattle.std.specs.Ordering.{is_lt}
 use Rattle.tw_world.specs.Folder.{bytes_cmp, same_bytes}
+use Rattle.tw_fields.specs.Fields.{field_bytes}
+use Rattle.tw_fields.specs.Reading.{number_at, bytes_at, many_at}
+pub use Rattle.tw_fields.specs.Reading.{◌>>=◌}
 
 -- what a change makes of one month file; one that is not there counts as empty
 pub record FileChange : Type 0 where
@@ -16,10 +20,6 @@ pub record FileChange : Type 0 where
 pub data Step : Type 0 where
   Change : List FileChange → Step
   Undo : List FileChange → Step
-
--- four bytes of length, and that many bytes
-abbrev pub field_bytes : List ℕ → List ℕ
-field_bytes bytes = to_be_bytes w32 (length bytes) ++ bytes
 
 abbrev pub file_bytes : FileChange → List ℕ
 file_bytes f = field_bytes f.name ++ (field_bytes f.old ++ field_bytes f.new)
@@ -47,7 +47,7 @@ is_month_name name =
 abbrev pub AreMonths : List FileChange → Type 0
 AreMonths files = AllByRecursion (λ f. is_month_name f.name ≡ true) files
 
--- the names rise in byte order, so none stands twice
+-- the names rise in byte order, so none is there twice
 abbrev pub rises_from : List ℕ → List FileChange → Bool
 rises_from name [] = true
 rises_from name (f ∷ files) = is_lt (bytes_cmp name f.name) && rises_from f.name files
@@ -58,43 +58,23 @@ names_rise (f ∷ files) = rises_from f.name files
 
 -- ---- reading
 
-infixl 10 ◌>>=◌
-abbrev pub ◌>>=◌ : {A B : Type 0} → Option A → (A → Option B) → Option B
-(Some x) >>= f = f x
-None >>= f = None
-
-abbrev pub number_at : Width → List ℕ → Option (ℕ × List ℕ)
-number_at w bytes = if nat_lt (length bytes) (byte_len w) then None else Some (from_be_bytes w (take (byte_len w) bytes), drop (byte_len w) bytes)
-
-unfoldable pub field_at : List ℕ → Option (List ℕ × List ℕ)
-field_at bytes = do
-  n ← number_at w32 bytes
-  if nat_lt (length n.1) n.0 then None else Some (take n.0 n.1, drop n.0 n.1)
-
 -- a name of a month file
 abbrev pub named : List ℕ → Option (List ℕ)
 named name = if is_month_name name then Some name else None
 
 unfoldable pub file_at : List ℕ → Option (FileChange × List ℕ)
 file_at bytes = do
-  name ← field_at bytes
-  old ← field_at name.1
-  new ← field_at old.1
+  name ← bytes_at bytes
+  old ← bytes_at name.1
+  new ← bytes_at old.1
   month ← named name.0
   Some (record { name = month; old = old.0; new = new.0 }, new.1)
-
-abbrev pub files_at : ℕ → List ℕ → Option (List FileChange × List ℕ)
-files_at zero bytes = Some ([], bytes)
-files_at (suc n) bytes = do
-  first ← file_at bytes
-  others ← files_at n first.1
-  Some (first.0 ∷ others.0, others.1)
 
 -- so many files with rising names, which end with the bytes
 unfoldable pub files_of : List ℕ → Option (List FileChange)
 files_of bytes = do
   n ← number_at w32 bytes
-  files ← files_at n.0 n.1
+  files ← many_at file_at n.0 n.1
   if length files.1 == 0 && names_rise files.0 then Some files.0 else None
 
 -- the step that a body holds, all of it

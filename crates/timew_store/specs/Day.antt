@@ -2,7 +2,10 @@
 use Rattle.std.specs.Prelude.{ℕ, ◌/◌, ◌%◌, List, ◌∷◌, codes}
 use Rattle.tw_time.specs.Forms.{digit_at}
 
--- what a moment's text has behind its date, at a second of the day: 100000Z at the second 36,000
+-- hours, minutes and seconds, with two digits each
+abbrev pub clock_digits : ℕ → ℕ → ℕ → List ℕ
+clock_digits h m s = digit_at h 10 ∷ digit_at h 1 ∷ digit_at m 10 ∷ digit_at m 1 ∷ digit_at s 10 ∷ digit_at s 1 ∷ codes "Z"
+
+-- what a moment's text has after its date, at a second of the day: 100000Z at the second 36,000
 abbrev pub clock_text : ℕ → List ℕ
-clock_text second =
-    digit_at (second / 3600) 10 ∷ digit_at (second / 3600) 1 ∷ digit_at (second / 60 % 60) 10 ∷ digit_at (second / 60 % 60) 1 ∷ digit_at (second % 60) 10 ∷ digit_at (second % 60) 1 ∷ codes "Z"
+clock_text second = clock_digits (second / 3600) (second / 60 % 60) (second % 60)

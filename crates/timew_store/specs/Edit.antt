@@ -4,7 +4,7 @@ use Rattle.timew_store.specs.declared.interval.Interval.{Interval}
 use Rattle.timew_store.specs.declared.edit.Edit.{Edit}
 use Rattle.timew_store.specs.Interval.{AreRows}
 
--- so many intervals from a place on give way to others
+-- so many intervals from an index on give way to others
 abbrev pub spliced : ℕ → ℕ → List Interval → List Interval → List Interval
 spliced at count new rows = take at rows ++ (new ++ drop (at + count) rows)
 

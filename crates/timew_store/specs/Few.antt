@@ -1,7 +1,7 @@
 -- Texts as they are held. No public clause cites this module.
 use Rattle.std.specs.Prelude.{ℕ, List, [], ◌∷◌}
-use Rattle.timew_store.specs.declared.interval.Few.{Few}
-use Rattle.timew_store.specs.declared.interval.Few.TheVariants.{Empty, One, Two, More}
+use Rattle.timew_store.specs.declared.interval.texts.Few.{Few}
+use Rattle.timew_store.specs.declared.interval.texts.Few.TheVariants.{Empty, One, Two, More}
 
 abbrev pub few_texts : Few → List (List ℕ)
 few_texts Empty = []

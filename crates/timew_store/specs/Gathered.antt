@@ -1,19 +1,20 @@
 -- The lines of month files with their intervals in order, as they are gathered.
-use Rattle.std.specs.Prelude.{◌≡◌, ℕ, ◌+◌, Bool, true, false, cond, not, ◌||◌, ◌==◌, nat_lt, List, [], ◌∷◌, map, Option, Some, None, is_some, Result, Err}
+use Rattle.std.specs.Prelude.{◌≡◌, ℕ, ◌+◌, Bool, true, false, cond, not, ◌||◌, ◌==◌, nat_lt, List}
+use Rattle.std.specs.Prelude.{[], ◌∷◌, ◌++◌, map, fold, Option, Some, None, is_some, Result, Err}
 use Rattle.std.specs.List.{flat_map, AllByRecursion}
 use Rattle.tw_world.specs.Folder.{Files}
 use Rattle.timew_store.specs.declared.interval.Interval.{Interval}
-use Rattle.timew_store.specs.declared.files.MonthFile.{MonthFile}
-use Rattle.timew_store.specs.declared.gathering.Seat.{Seat}
-use Rattle.timew_store.specs.declared.gathering.Spot.{Spot}
-use Rattle.timew_store.specs.declared.gathering.Gathered.{Gathered}
-use Rattle.timew_store.specs.declared.rows.RowsError.{RowsError}
-use Rattle.timew_store.specs.declared.rows.RowsError.TheVariants.{BadLine, Memory}
+use Rattle.timew_store.specs.declared.months.MonthFile.{MonthFile}
+use Rattle.timew_store.specs.declared.read.gathered.Seat.{Seat}
+use Rattle.timew_store.specs.declared.read.gathered.Spot.{Spot}
+use Rattle.timew_store.specs.declared.read.gathered.Gathered.{Gathered}
+use Rattle.timew_store.specs.declared.read.rows.RowsError.{RowsError}
+use Rattle.timew_store.specs.declared.read.rows.RowsError.TheVariants.{BadLine, Memory}
 use Rattle.timew_store.specs.Held.{bytes_of}
 use Rattle.timew_store.specs.Interval.{IsRow}
 use Rattle.timew_store.specs.Month.{lines}
 use Rattle.timew_store.specs.Placing.{is_not_after}
-use Rattle.timew_store.specs.Rows.{Found, Seats, seated, found_from, month_names, seats_from, in_seats}
+use Rattle.timew_store.specs.Rows.{Found, Seats, seated, found_from, month_names, seats_from, in_seats, late_from}
 use Rattle.timew_store.specs.Line.{row_of}
 
 -- ---- month files
@@ -43,20 +44,20 @@ RowsRefused Memory judged_as = Unit {0}
 
 -- ---- gathering
 
--- where a line stands, and whether it is an interval
-pub record Place : Type 0 where
+-- the file and the number of a line, and whether it is an interval
+pub record LineSpot : Type 0 where
   pub file : List ℕ
   pub line : ℕ
   pub is_row : Bool
 
-abbrev pub place_of : Found → Place
-place_of f = record { file = f.file; line = f.line; is_row = is_some f.row }
+abbrev pub line_spot : Found → LineSpot
+line_spot f = record { file = f.file; line = f.line; is_row = is_some f.row }
 
-abbrev pub spot_place : Spot → Place
-spot_place s = record { file = s.file; line = s.line; is_row = s.is_row }
+abbrev pub spot_of : Spot → LineSpot
+spot_of s = record { file = s.file; line = s.line; is_row = s.is_row }
 
 abbrev pub seat_of : Seat → ℕ × Interval
-seat_of s = (s.place, s.row)
+seat_of s = (s.index, s.row)
 
 abbrev pub seats_of : List Seat → Seats
 seats_of = map seat_of
@@ -66,12 +67,12 @@ abbrev pub line_found : List ℕ → ℕ → List ℕ → List Found
 line_found file n [] = []
 line_found file n (b ∷ line) = record { file = file; line = n; row = row_of (b ∷ line) } ∷ []
 
--- an interval takes its seat, where the line is one
+-- an interval takes its seat, if the line is one
 abbrev pub with_row : ℕ → Option Interval → Seats → Seats
-with_row place None seats = seats
-with_row place (Some r) seats = seated (place, r) seats
+with_row index None seats = seats
+with_row index (Some r) seats = seated (index, r) seats
 
--- each stands before those behind it, or beside them
+-- each is before those that follow it, or equal to them
 abbrev pub AreSorted : Seats → Type 0
 AreSorted [] = Unit {0}
 AreSorted (s ∷ seats) = AllByRecursion (λ t. is_not_after s.1 t.1 ≡ true) seats × AreSorted seats
@@ -81,23 +82,31 @@ AreSeats seats = AllByRecursion (λ s. IsRow s.1) seats
 
 -- what was gathered of lines
 pub record IsGathered (found : List Found) (g : Gathered) : Type 0 where
-  pub spots : map spot_place g.spots.items ≡ map place_of found
+  pub spots : map spot_of g.spots.items ≡ map line_spot found
   pub seats : seats_of g.seats.items ≡ in_seats (seats_from 0 found)
   pub sorted : AreSorted (seats_of g.seats.items)
   pub are : AreSeats (seats_of g.seats.items)
 
+-- these lines are gathered after whatever was
+abbrev pub Gathers : List Found → (before after : Gathered) → Type 0
+Gathers more before after = (found : List Found) → IsGathered found before → IsGathered (found ++ more) after
+
 -- ---- judging
 
--- the least place
+-- the least index
 abbrev pub lesser : Option ℕ → ℕ → Option ℕ
-lesser None place = Some place
-lesser (Some least) place = Some (cond (nat_lt place least) place least)
+lesser None index = Some index
+lesser (Some least) index = Some (cond (nat_lt index least) index least)
 
-abbrev pub is_place : Option ℕ → ℕ → Bool
-is_place None n = false
-is_place (Some place) n = place == n
+abbrev pub is_at : Option ℕ → ℕ → Bool
+is_at None n = false
+is_at (Some index) n = index == n
 
--- the first line that is no interval, or stands at this place
-abbrev pub first_spot : ℕ → Option ℕ → List Place → Option (List ℕ × ℕ)
+-- the first line that is no interval, or has this index
+abbrev pub first_spot : ℕ → Option ℕ → List LineSpot → Option (List ℕ × ℕ)
 first_spot n late [] = None
-first_spot n late (p ∷ places) = cond (not p.is_row || is_place late n) (Some (p.file, p.line)) (first_spot (n + 1) late places)
+first_spot n late (p ∷ spots) = cond (not p.is_row || is_at late n) (Some (p.file, p.line)) (first_spot (n + 1) late spots)
+
+-- the first line that is no interval, or overlaps one before it in order
+abbrev pub bad_spot : Gathered → Option (List ℕ × ℕ)
+bad_spot g = first_spot 0 (fold lesser None (late_from [] (seats_of g.seats.items))) (map spot_of g.spots.items)

@@ -1,4 +1,4 @@
--- The changes that records stand for.
+-- The changes to which records lead.
 use Rattle.std.specs.Prelude.{◌≡◌, Bool, ◌&&◌, cond, List, [], ◌∷◌, map, Option, Some, None}
 use lib.Pointwise.{pointwise}
 use Rattle.tw_world.specs.Folder.{same_bytes}

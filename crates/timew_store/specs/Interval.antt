@@ -1,14 +1,16 @@
 -- Intervals of time, and lists of them.
-use Rattle.std.specs.Prelude.{◌≡◌, ℕ, ◌<◌, ◌≤◌, Bool, true, false, cond, not, ◌&&◌, ◌||◌, ◌==◌, nat_lt, nat_le, if◌then◌else◌, ◌-◌, length, slice_get, List, [], ◌∷◌, Option, Some, None}
+use Rattle.std.specs.Prelude.{◌≡◌, ℕ, ◌<◌, ◌≤◌, Bool, true, false, cond, not, ◌&&◌, ◌||◌, ◌==◌}
+use Rattle.std.specs.Prelude.{nat_lt, nat_le, if◌then◌else◌, ◌-◌, length, slice_get, List, [], ◌∷◌, Option, Some, None}
 use Rattle.std.specs.Coded.{×_prop, Unit-prop, le_prop}
 use Rattle.std.specs.List.{list_all}
 use Rattle.std.specs.Ordering.{is_lt}
 use Rattle.tw_world.specs.Folder.{bytes_cmp}
+use Rattle.tw_world.specs.declared.moment.TheConstants.{MOMENT_LIMIT}
 use Rattle.timew_store.specs.declared.interval.Interval.{Interval}
 
 -- 9999-01-01T00:00:00Z
 abbrev pub limit : ℕ
-limit = 253_370_764_800
+limit = MOMENT_LIMIT
 
 -- what an interval says of its seconds
 pub record Content : Type 0 where
@@ -32,7 +34,7 @@ abbrev pub at : List Interval → ℕ → Option Content
 at [] second = None
 at (r ∷ rows) second = cond (has r second) (Some (content r)) (at rows second)
 
--- Two intervals overlap where they share a second; and one without a second overlaps one that starts before it and goes past it.
+-- Two intervals overlap if they share a second; and one without a second overlaps one that starts before it and goes past it.
 abbrev pub overlaps : Interval → Interval → Bool
 overlaps r s = goes_past r.end s.start && goes_past s.end r.start
 

@@ -2,13 +2,14 @@
 use Rattle.std.specs.Prelude.{◌≡◌, ℕ, ◌+◌, ◌<◌, ◌≤◌, true, List, [], ◌∷◌, length, take, drop, slice_index_or}
 use Rattle.std.specs.List.{AllByRecursion}
 use Rattle.timew_store.specs.declared.interval.Interval.{Interval}
-use Rattle.timew_store.specs.declared.files.MonthFile.{MonthFile}
-use Rattle.timew_store.specs.declared.known.KnownText.{KnownText}
+use Rattle.timew_store.specs.declared.months.MonthFile.{MonthFile}
+use Rattle.timew_store.specs.declared.months.KnownText.{KnownText}
+use Rattle.timew_store.specs.declared.read.month.MonthRows.{MonthRows}
 use Rattle.tw_world.specs.Folder.{same_bytes}
 use Rattle.timew_store.specs.Exact.{IsText}
 use Rattle.timew_store.specs.Month.{lines_text}
-use Rattle.timew_store.specs.Months.{month_name}
-use Rattle.timew_store.specs.Writable.{IsWritable}
+use Rattle.timew_store.specs.Changes.{month_name}
+use Rattle.timew_store.specs.ReadBack.{IsWritable}
 
 -- so many intervals, from one on
 abbrev pub part : ℕ → ℕ → List Interval → List Interval
@@ -21,6 +22,14 @@ pub record IsKnown (files : List MonthFile) (rows : List Interval) (k : KnownTex
 
 abbrev pub AreKnown : List MonthFile → List Interval → List KnownText → Type 0
 AreKnown files rows known = AllByRecursion (IsKnown files rows) known
+
+-- the file with a number, if there is one, is the text of a month's intervals if this is said of them
+abbrev pub IsTextAs : List MonthFile → ℕ → MonthRows → Type 0
+IsTextAs files number month = (f : MonthFile) → f ≡ slice_index_or files number f → month.is_text ≡ true → IsText f.bytes.items month.rows.items
+
+-- what was known of files stays so with the intervals of one more
+abbrev pub StayKnown : ℕ → MonthRows → (rows0 rows1 : List Interval) → (known0 known1 : List KnownText) → Type 0
+StayKnown n month rows0 rows1 known0 known1 = (files : List MonthFile) → IsTextAs files n month → AreKnown files rows0 known0 → AreKnown files rows1 known1
 
 -- ---- months
 

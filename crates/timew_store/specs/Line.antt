@@ -18,7 +18,7 @@ line_text r = codes "inc " ++ (basic r.start ++ (end_text r.end ++ tail_text r.t
 
 -- ---- reading
 
--- what follows a text, where the bytes begin with it
+-- what follows a text, if the bytes begin with it
 abbrev pub after : List ℕ → List ℕ → Option (List ℕ)
 after front bytes = if same_bytes (take (length front) bytes) front then Some (drop (length front) bytes) else None
 
@@ -30,7 +30,7 @@ abbrev pub end_behind : Option (List ℕ) → List ℕ → Option (Option ℕ ×
 end_behind None bytes = Some (None, bytes)
 end_behind (Some rest) bytes = moment_at rest >>= λ at. Some (Some at.0, at.1)
 
--- an end, where there is one
+-- an end, if there is one
 abbrev pub end_at : List ℕ → Option (Option ℕ × List ℕ)
 end_at bytes = end_behind (after (codes " - ") bytes) bytes
 
@@ -44,7 +44,7 @@ row_with start end bytes = do
   tail ← tail_of bytes
   if is_end start end then Some (record { start = start; end = end; tags = tail.0; annotation = tail.1 }) else None
 
--- the interval of a line, where it is one and does not end before it starts
+-- the interval of a line, if it is one and does not end before it starts
 unfoldable pub row_of : List ℕ → Option Interval
 row_of line = do
   rest ← after (codes "inc ") line

@@ -2,9 +2,10 @@
 use Rattle.std.specs.Prelude.{◌≡◌, ◌⊎◌, ◌<◌, ◌≤◌, ℕ, true, List, [], ◌∷◌, ◌++◌, length, take, slice_index_or, Option, Some, None}
 use Rattle.tw_world.specs.Disk.{DiskModel, Rose}
 use Rattle.tw_world.specs.Disk as disk
-use Rattle.tw_world.specs.Crash.{Settled, Tells, Kept, LeavesOnly}
+use Rattle.tw_world.specs.Crash.{IsStable, Tells, FaultsRise, LeavesOnly}
 use Rattle.tw_world.specs.Folder.{Files, FolderModel}
-use Rattle.tw_journal.specs.Form.{place_in}
+use Rattle.tw_world.specs.Turns.{InTurns, crash_of}
+use Rattle.tw_journal.specs.Form.{offset_in}
 use Rattle.tw_journal.specs.Open.{Records, IsDamagedAt}
 use Rattle.tw_journal.specs.Journal.{IsOpenOn}
 use Rattle.tw_journal.specs.declared.error.ReadError.{ReadError}
@@ -17,7 +18,7 @@ use Rattle.timew_store.specs.Body.Step.{Change, Undo}
 use Rattle.timew_store.specs.History.{History, Stands}
 use Rattle.timew_store.specs.declared.error.StoreError.{StoreError}
 use Rattle.timew_store.specs.declared.error.StoreError.TheVariants.{Folder, Journal as OfJournal, Memory}
-use Rattle.timew_store.specs.Held.{magic, Held, OpensTo, IsAtRest, finished}
+use Rattle.timew_store.specs.Held.{magic, Held, OpensTo, OnStable, OnRecords, IsAtRest, finished_file, finished}
 
 -- the first so many of the files are finished
 abbrev pub IsFinishedTo : List FileChange → Files → Files → Type 0
@@ -25,16 +26,24 @@ IsFinishedTo changes before files = (j : ℕ) × (j ≤ length changes) × (file
 
 -- what finishing knows from file to file
 pub record Finishing {F : Type 0} (m : FolderModel F) (changes : List FileChange) (first now : F) (i : ℕ) : Type 0 where
-  pub kept : Kept m first now
+  pub faults : FaultsRise m first now
   pub seen : Tells m first → m.seen now ≡ finished (m.seen first) (take i changes)
-  pub settled : Tells m first → Settled m first → Settled m now
-  pub moments : Tells m first → Settled m first → LeavesOnly m first now (IsFinishedTo changes (m.seen first))
+  pub stable : Tells m first → IsStable m first → IsStable m now
+  pub moments : Tells m first → IsStable m first → LeavesOnly m first now (IsFinishedTo changes (m.seen first))
+
+-- a file of a change is finished, or nothing is done
+abbrev pub IsFinishedOrNot : Files → FileChange → Files → Type 0
+IsFinishedOrNot before f files = (files ≡ before) ⊎ (files ≡ finished_file before f)
 
 -- The folder and the journal open to what the folder opened to with something that a crash could leave of the journal before.
 pub record OpensAlike {F D : Type 0} (m : FolderModel F) (n : DiskModel D) (folder : F) (disk : D) (files : Files) (journal : List ℕ) : Type 0 where
   pub before : List ℕ
   pub left : n.leaves disk before
   pub alike : (held : Held) → OpensTo (m.seen folder) before held → OpensTo files journal held
+
+-- a crash of a loading leaves a folder and a journal that open to what they opened to
+abbrev pub LeavesAlike : {F D : Type 0} → FolderModel F → DiskModel D → (f0 f1 : F) (d0 d1 : D) → Type 0
+LeavesAlike m n f0 f1 d0 d1 = OnStable m n f0 d0 (InTurns m (crash_of n) (OpensAlike m n f0 d0) f0 d0 f1 d1)
 
 -- ---- the last change
 
@@ -46,24 +55,28 @@ abbrev pub files_or : Option Step → Option (List FileChange)
 files_or None = None
 files_or (Some step) = Some (files_in step)
 
--- what the last record does to the files, where it is a record of a store; before the first one nothing was done
+-- what the last record does to the files, if it is a record of a store; before the first one nothing was done
 abbrev pub last_of : List (List ℕ) → Option (List FileChange)
 last_of [] = Some []
 last_of (body ∷ []) = files_or (step_of body)
 last_of (body ∷ next ∷ bodies) = last_of (next ∷ bodies)
 
--- the records of a file stand where they stood in the one before
+-- the records of a file are where they were in the one before
 abbrev pub StandAsBefore : (before after : List ℕ) → List (List ℕ) → Type 0
-StandAsBefore before after bodies = (k : ℕ) → k < length bodies → place_in magic after bodies k ≡ place_in magic before bodies k
+StandAsBefore before after bodies = (k : ℕ) → k < length bodies → offset_in magic after bodies k ≡ offset_in magic before bodies k
 
 -- The journal was opened and the last change is finished.
 pub record IsLoaded {F D : Type 0} (m : FolderModel F) (n : DiskModel D) (f0 f1 : F) (d0 d1 : D) (journal : Journal) : Type 0 where
   pub bodies : List (List ℕ)
   pub records : Records magic (n.seen d0) bodies
-  pub places : StandAsBefore (n.seen d0) (n.seen d1) bodies
+  pub offsets : StandAsBefore (n.seen d0) (n.seen d1) bodies
   pub open_on : IsOpenOn n magic journal d1 bodies
   pub rest : (history : History) → Stands bodies history → IsAtRest m n journal f1 d1 bodies history
   pub finished_now : (history : History) → Stands bodies history → m.seen f1 ≡ finished (m.seen f0) history.last
+
+-- a journal is so loaded, if the folder and the disk tell what they hold and the folder is stable
+abbrev pub Loads : {F D : Type 0} → FolderModel F → DiskModel D → (f0 f1 : F) (d0 d1 : D) → Journal → Type 0
+Loads m n f0 f1 d0 d1 journal = OnStable m n f0 d0 (IsLoaded m n f0 f1 d0 d1 journal)
 
 -- why month files are not read
 abbrev pub FilesRefused : {F : Type 0} → FolderModel F → (old new : F) → StoreError → Type 0
@@ -71,30 +84,30 @@ FilesRefused m old new Folder = Rose (m.faults old) (m.faults new)
 FilesRefused m old new (OfJournal e) = ⊥
 FilesRefused m old new Memory = Unit {0}
 
--- of a file with these bodies the one with this number is that of no step, and its record stands at this offset
+-- of a file with these bodies the one with this number is that of no step, and its record is at this offset
 abbrev pub IsNoStep : List ℕ → List (List ℕ) → ℕ → ℕ → Type 0
-IsNoStep file bodies k offset = (step_of (slice_index_or bodies k []) ≡ None) × (offset ≡ place_in magic file bodies k)
+IsNoStep file bodies k offset = (step_of (slice_index_or bodies k []) ≡ None) × (offset ≡ offset_in magic file bodies k)
 
--- why the record with this number is not read: as damaged only where it holds no step
+-- why the record with this number is not read: as damaged only if it holds no step
 abbrev pub StepRefused : {D : Type 0} → DiskModel D → (before after : D) → Journal → ℕ → ReadError → Type 0
 StepRefused n before after journal k reads.Disk = Rose (n.faults before) (n.faults after)
 StepRefused n before after journal k reads.Memory = Unit {0}
-StepRefused n before after journal k (reads.Damaged offset) = disk.Tells n before → (bodies : List (List ℕ)) → IsOpenOn n magic journal before bodies → IsNoStep (n.seen before) bodies k offset
+StepRefused n before after journal k (reads.Damaged at) = disk.Tells n before → OnRecords n journal before (λ bodies. IsNoStep (n.seen before) bodies k at)
 StepRefused n before after journal k reads.Closed = journal.closed ≡ true
 
--- the last of a file's bodies is that of no step, and its record stands at this offset
+-- the last of a file's bodies is that of no step, and its record is at this offset
 pub record EndsInNoStep (file : List ℕ) (bodies : List (List ℕ)) (offset : ℕ) : Type 0 where
   pub front : List (List ℕ)
   pub body : List ℕ
   pub split : bodies ≡ front ++ body ∷ []
   pub none : step_of body ≡ None
-  pub place : offset ≡ place_in magic file bodies (length front)
+  pub offset_is : offset ≡ offset_in magic file bodies (length front)
 
--- why the last record is not read: as damaged only where it holds no step
+-- why the last record is not read: as damaged only if it holds no step
 abbrev pub LastRefused : {D : Type 0} → DiskModel D → (before after : D) → Journal → ReadError → Type 0
 LastRefused n before after journal reads.Disk = Rose (n.faults before) (n.faults after)
 LastRefused n before after journal reads.Memory = Unit {0}
-LastRefused n before after journal (reads.Damaged offset) = disk.Tells n before → (bodies : List (List ℕ)) → IsOpenOn n magic journal before bodies → EndsInNoStep (n.seen before) bodies offset
+LastRefused n before after journal (reads.Damaged at) = disk.Tells n before → OnRecords n journal before (λ bodies. EndsInNoStep (n.seen before) bodies at)
 LastRefused n before after journal reads.Closed = journal.closed ≡ true
 
 -- the file has records, the last of which holds no step
@@ -144,4 +157,4 @@ StoreSparesDisk e = Unit {0}
 
 -- what the folder and the journal opened to they still open to
 abbrev pub StillOpen : {F D : Type 0} → FolderModel F → DiskModel D → (f0 f1 : F) (d0 d1 : D) → Type 0
-StillOpen m n f0 f1 d0 d1 = Tells m f0 → Settled m f0 → disk.Tells n d0 → (held : Held) → OpensTo (m.seen f0) (n.seen d0) held → OpensTo (m.seen f1) (n.seen d1) held
+StillOpen m n f0 f1 d0 d1 = OnStable m n f0 d0 ((held : Held) → OpensTo (m.seen f0) (n.seen d0) held → OpensTo (m.seen f1) (n.seen d1) held)

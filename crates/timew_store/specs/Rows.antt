@@ -11,7 +11,7 @@ use Rattle.timew_store.specs.Month.{lines}
 use Rattle.timew_store.specs.Placing.{is_not_after}
 use Rattle.timew_store.specs.declared.interval.Interval.{Interval}
 
--- a line that is not empty: its file, its number from 1, and its interval, where it is one
+-- a line that is not empty: its file, its number from 1, and its interval, if it is one
 pub record Found : Type 0 where
   pub file : List ℕ
   pub line : ℕ
@@ -32,7 +32,7 @@ found_in files names = flat_map (λ name. found_from name 1 (lines (bytes_of fil
 
 -- ---- in order
 
--- intervals with the places of their lines among all
+-- intervals with the indexes of their lines among all
 abbrev pub Seats : Type 0
 Seats = List (ℕ × Interval)
 
@@ -44,7 +44,7 @@ abbrev pub seats_from : ℕ → List Found → Seats
 seats_from n [] = []
 seats_from n (f ∷ found) = seat n f.row (seats_from (n + 1) found)
 
--- an interval in its place, behind its equals
+-- an interval in its order, after its equals
 abbrev pub seated : ℕ × Interval → Seats → Seats
 seated s [] = s ∷ []
 seated s (t ∷ seats) = cond (is_not_after t.1 s.1) (t ∷ seated s seats) (s ∷ t ∷ seats)
@@ -56,7 +56,7 @@ in_seats seats = fold (λ had s. seated s had) [] seats
 abbrev pub rows_in : Seats → List Interval
 rows_in seats = map (λ s. s.1) seats
 
--- the places of those that overlap one that stands before them in order
+-- the indexes of those that overlap one before them in order
 abbrev pub late_from : List Interval → Seats → List ℕ
 late_from before [] = []
 late_from before (s ∷ seats) = cond (list_any (overlaps s.1) before) (s.0 ∷ late_from (before ++ s.1 ∷ []) seats) (late_from (before ++ s.1 ∷ []) seats)
@@ -66,7 +66,7 @@ late_from before (s ∷ seats) = cond (list_any (overlaps s.1) before) (s.0 ∷ 
 -- the first line that is none, or is among the late ones
 abbrev pub first_bad : ℕ → List ℕ → List Found → Option (List ℕ × ℕ)
 first_bad n late [] = None
-first_bad n late (f ∷ found) = cond (is_none f.row || list_any (λ place. place == n) late) (Some (f.file, f.line)) (first_bad (n + 1) late found)
+first_bad n late (f ∷ found) = cond (is_none f.row || list_any (λ index. index == n) late) (Some (f.file, f.line)) (first_bad (n + 1) late found)
 
 abbrev pub unless_bad : Option (List ℕ × ℕ) → List Interval → Result (List Interval) (List ℕ × ℕ)
 unless_bad None rows = Ok rows

@@ -1,9 +1,9 @@
 -- A store: month files with their intervals, over a journal.
 use Rattle.std.specs.Prelude.{◌≡◌, ℕ, ◌+◌, Bool, List, [], ◌∷◌, ◌++◌, length, Ok, Err}
 use Rattle.tw_world.specs.Disk.{DiskModel, Rose}
-use Rattle.tw_world.specs.Disk as disk
-use Rattle.tw_world.specs.Crash.{Settled, Tells}
+use Rattle.tw_world.specs.Crash.{Tells}
 use Rattle.tw_world.specs.Folder.{Files, FolderModel}
+use Rattle.tw_world.specs.Turns.{InTurns, crash_of}
 use Rattle.tw_journal.specs.Open.{Records}
 use Rattle.tw_journal.specs.Journal.{is_closed, journal_end, IsOpenOn}
 use Rattle.tw_journal.specs.declared.journal.Journal.{Journal}
@@ -11,17 +11,20 @@ use Rattle.tw_journal.specs.declared.error.JournalError.{JournalError}
 use Rattle.timew_store.specs.Body.{FileChange, body_of}
 use Rattle.timew_store.specs.Body.Step.{Change}
 use Rattle.timew_store.specs.History.{History, Stands}
-use Rattle.timew_store.specs.Held.{magic, Held, OpensTo, IsAtRest, finished, held_by, replaced}
-use Rattle.timew_store.specs.Months.{changes_to}
+use Rattle.timew_store.specs.Held.{magic, Bodies, Held, OpensTo, OpensToEither, OnStable, IsAtRest, finished, held_by}
+use Rattle.timew_store.specs.Changes.{changes_to, changed_files}
 use Rattle.timew_store.specs.Gathered.{files_of, months_in}
 use Rattle.timew_store.specs.Loading.{OpeningRefused, IsJournalFault, StandAsBefore, SparesDisk}
-use Rattle.timew_store.specs.Writing.{RecordRefused}
+use Rattle.timew_store.specs.Writing.{changes_of, RestsOn, LeavesWritten, HasRecordMore, RecordRefused, WriteRefused}
 use Rattle.timew_store.specs.Rows.{rows_of}
 use Rattle.timew_store.specs.declared.interval.Interval.{Interval}
-use Rattle.timew_store.specs.declared.kept.Months.{Months}
+use Rattle.timew_store.specs.declared.edit.Edit.{Edit}
+use Rattle.timew_store.specs.declared.months.Months.{Months}
+use Rattle.timew_store.specs.declared.write.prepared.Prepared.{Prepared}
+use Rattle.timew_store.specs.Edit.{edited}
 use Rattle.timew_store.specs.declared.store.Store.{Store}
-use Rattle.timew_store.specs.declared.rows.RowsError.{RowsError}
-use Rattle.timew_store.specs.declared.rows.RowsError.TheVariants as read
+use Rattle.timew_store.specs.declared.read.rows.RowsError.{RowsError}
+use Rattle.timew_store.specs.declared.read.rows.RowsError.TheVariants as read
 use Rattle.timew_store.specs.declared.error.StoreError.{StoreError}
 use Rattle.timew_store.specs.declared.error.StoreError.TheVariants as store
 use Rattle.timew_store.specs.declared.error.LoadError.{LoadError}
@@ -32,14 +35,26 @@ pub record HoldMonths (files : Files) (months : Months) : Type 0 where
   pub files_are : files_of months.files.items ≡ months_in files
   pub rows_are : rows_of files ≡ Ok months.rows
 
+-- this is so of each folder of which these are the months
+abbrev pub OnFolders : Months → (Files → Type 0) → Type 0
+OnFolders months P = (files : Files) → HoldMonths files months → P files
+
 -- the store is open on a folder and a journal, which rest
-pub record IsStoreOn {F D : Type 0} (m : FolderModel F) (n : DiskModel D) (store : Store) (folder : F) (disk : D) (bodies : List (List ℕ)) (history : History) : Type 0 where
-  pub rest : IsAtRest m n store.journal folder disk bodies history
-  pub months : HoldMonths (m.seen folder) store.months
+pub record IsStoreOn {F D : Type 0} (m : FolderModel F) (n : DiskModel D) (s : Store) (f : F) (d : D) (bodies : Bodies) (history : History) : Type 0 where
+  pub rest : IsAtRest m n s.journal f d bodies history
+  pub months : HoldMonths (m.seen f) s.months
+
+-- this is so of the records and the history of an open store
+abbrev pub OnStore : {F D : Type 0} → FolderModel F → DiskModel D → Store → F → D → (Bodies → History → Type 0) → Type 0
+OnStore m n store folder disk P = (bodies : Bodies) (history : History) → IsStoreOn m n store folder disk bodies history → P bodies history
 
 -- its intervals
-abbrev pub rows_kept : Store → List Interval
-rows_kept store = store.months.rows
+abbrev pub intervals_of : Store → List Interval
+intervals_of store = store.months.rows
+
+-- its intervals after an edit
+abbrev pub rows_after : Edit → Store → List Interval
+rows_after edit store = edited edit (intervals_of store)
 
 -- whether a fault of the journal has closed it
 abbrev pub is_store_closed : Store → Bool
@@ -55,12 +70,16 @@ store_end store = journal_end store.journal
 pub record IsLoadedStore {F D : Type 0} (m : FolderModel F) (n : DiskModel D) (f0 f1 : F) (d0 d1 : D) (store : Store) : Type 0 where
   pub bodies : List (List ℕ)
   pub records : Records magic (n.seen d0) bodies
-  pub places : StandAsBefore (n.seen d0) (n.seen d1) bodies
+  pub offsets : StandAsBefore (n.seen d0) (n.seen d1) bodies
   pub on : (history : History) → Stands bodies history → IsStoreOn m n store f1 d1 bodies history
   pub finished_now : (history : History) → Stands bodies history → m.seen f1 ≡ finished (m.seen f0) history.last
-  -- whatever the records stand for
+  -- whatever the records lead to
   pub open_on : IsOpenOn n magic store.journal d1 bodies
   pub months : HoldMonths (m.seen f1) store.months
+
+-- a store is so loaded, if the folder and the disk tell what they hold and the folder is stable
+abbrev pub LoadsStore : {F D : Type 0} → FolderModel F → DiskModel D → (f0 f1 : F) (d0 d1 : D) → Store → Type 0
+LoadsStore m n f0 f1 d0 d1 store = OnStable m n f0 d0 (IsLoadedStore m n f0 f1 d0 d1 store)
 
 abbrev pub not_loaded : StoreError → LoadError
 not_loaded store.Folder = Folder
@@ -95,7 +114,7 @@ IsBadLine m n f0 f1 d0 d1 line = (held : Held) → OpensTo (m.seen f0) (n.seen d
 abbrev pub LoadRefused : {F D : Type 0} → FolderModel F → DiskModel D → (f0 f1 : F) (d0 d1 : D) → LoadError → Type 0
 LoadRefused m n f0 f1 d0 d1 Folder = Rose (m.faults f0) (m.faults f1)
 LoadRefused m n f0 f1 d0 d1 (OfJournal e) = OpeningRefused n d0 d1 e
-LoadRefused m n f0 f1 d0 d1 (BadLine file line) = Tells m f0 → Settled m f0 → disk.Tells n d0 → IsBadLine m n f0 f1 d0 d1 (file, line)
+LoadRefused m n f0 f1 d0 d1 (BadLine file line) = OnStable m n f0 d0 (IsBadLine m n f0 f1 d0 d1 (file, line))
 LoadRefused m n f0 f1 d0 d1 Memory = Unit {0}
 
 -- a refusal that has nothing to do with the bytes of the journal
@@ -112,41 +131,81 @@ LoadSparesDisk e = Unit {0}
 
 -- ---- changing
 
--- the changes that an undo can take back, with this one where it changes something
+-- the changes that an undo can take back, with this one if it changes something
 abbrev pub with_any : List FileChange → List (List FileChange) → List (List FileChange)
 with_any [] undoable = undoable
 with_any (f ∷ files) undoable = (f ∷ files) ∷ undoable
 
 -- the state after a change to these intervals
 abbrev pub changed : Held → List Interval → Held
-changed held rows = record { files = replaced held.files (changes_to held.files rows); undoable = with_any (changes_to held.files rows) held.undoable }
+changed held rows = record { files = changed_files held.files rows; undoable = with_any (changes_to held.files rows) held.undoable }
 
--- the bodies that a change adds: one, or none where nothing changes
+-- the bodies that a change adds: one, or none if nothing changes
 abbrev pub change_bodies : List FileChange → List (List ℕ)
 change_bodies [] = []
 change_bodies (f ∷ files) = body_of (Change (f ∷ files)) ∷ []
 
 -- the store is open on these records, and holds this
-pub record IsMovedTo {F D : Type 0} (m : FolderModel F) (n : DiskModel D) (store : Store) (folder : F) (disk : D) (bodies : List (List ℕ)) (held : Held) : Type 0 where
+pub record IsMovedTo {F D : Type 0} (m : FolderModel F) (n : DiskModel D) (s : Store) (f : F) (d : D) (bodies : Bodies) (held : Held) : Type 0 where
   pub history : History
-  pub on : IsStoreOn m n store folder disk bodies history
-  pub holds : held_by m folder history ≡ held
+  pub on : IsStoreOn m n s f d bodies history
+  pub holds : held_by m f history ≡ held
+
+-- from these records and this history the store has moved to those after a change to these intervals
+abbrev pub IsMovedBy : {F D : Type 0} → FolderModel F → DiskModel D → Store → (f0 f1 : F) (d1 : D) → List Interval → Bodies → History → Type 0
+IsMovedBy m n s f0 f1 d1 rows bodies h = IsMovedTo m n s f1 d1 (bodies ++ change_bodies (changes_to (m.seen f0) rows)) (changed (held_by m f0 h) rows)
+
+-- a change of an open store has led to these intervals
+abbrev pub IsChangedTo : {F D : Type 0} → FolderModel F → DiskModel D → (old new : Store) (f0 f1 : F) (d0 d1 : D) → List Interval → Type 0
+IsChangedTo m n old new f0 f1 d0 d1 rows = OnStore m n old f0 d0 (IsMovedBy m n new f0 f1 d1 rows)
+
+-- files and a journal open to a state, or to the one after a change to these intervals
+abbrev pub OpensToChanged : Held → List Interval → Files → List ℕ → Type 0
+OpensToChanged held rows = OpensToEither held (changed held rows)
+
+-- a crash of such a change leaves one of the two
+abbrev pub LeavesChange : {F D : Type 0} → FolderModel F → DiskModel D → Store → (f0 f1 : F) (d0 d1 : D) → List Interval → Type 0
+LeavesChange m n s f0 f1 d0 d1 rows = OnStore m n s f0 d0 (λ bodies h. InTurns m (crash_of n) (OpensToChanged (held_by m f0 h) rows) f0 d0 f1 d1)
 
 -- the journal refused this body, and the folder was not used
 pub record IsRefusedBody {D : Type 0} (n : DiskModel D) (old new : Store) (d0 d1 : D) (body : List ℕ) (e : JournalError) : Type 0 where
   pub refused : RecordRefused n old.journal new.journal d0 d1 (length body + 5) e
   pub months : new.months ≡ old.months
 
--- the record of this body stands
+-- the record of this body is written
 abbrev pub StandsMore : {D : Type 0} → DiskModel D → (old new : Store) (d0 d1 : D) (body : List ℕ) → Type 0
-StandsMore n old new d0 d1 body = (bodies : List (List ℕ)) → IsOpenOn n magic old.journal d0 bodies → IsOpenOn n magic new.journal d1 (bodies ++ body ∷ [])
+StandsMore n old new d0 d1 body = HasRecordMore n old.journal new.journal d0 d1 body
 
 -- a change of an open store to these intervals writes this body
 abbrev pub IsChangeBody : {F D : Type 0} → FolderModel F → DiskModel D → Store → F → D → List Interval → List ℕ → Type 0
-IsChangeBody m n store folder disk rows body = (bodies : List (List ℕ)) (history : History) → IsStoreOn m n store folder disk bodies history → change_bodies (changes_to (m.seen folder) rows) ≡ body ∷ []
+IsChangeBody m n store folder disk rows body = OnStore m n store folder disk (λ bodies history. change_bodies (changes_to (m.seen folder) rows) ≡ body ∷ [])
 
--- Why a change is not made. Where the journal refuses, the folder is not used; where the folder fails, the record stands.
+-- the record of the change is written
+abbrev pub HasChangeRecord : {F D : Type 0} → FolderModel F → DiskModel D → (old new : Store) (f0 : F) (d0 d1 : D) → List Interval → Type 0
+HasChangeRecord m n old new f0 d0 d1 rows = (body : List ℕ) × IsChangeBody m n old f0 d0 rows body × StandsMore n old new d0 d1 body
+
+-- the journal refused the body of the change
+abbrev pub BodyRefused : {F D : Type 0} → FolderModel F → DiskModel D → (old new : Store) (f0 : F) (d0 d1 : D) → List Interval → JournalError → Type 0
+BodyRefused m n old new f0 d0 d1 rows e = (body : List ℕ) × IsChangeBody m n old f0 d0 rows body × IsRefusedBody n old new d0 d1 body e
+
+-- ---- what was prepared
+
+-- the store rests on the record of what was prepared
+abbrev pub RestsOnPrepared : {F D : Type 0} → FolderModel F → DiskModel D → (old new : Store) (f0 f1 : F) (d0 d1 : D) → Prepared → Type 0
+RestsOnPrepared m n old new f0 f1 d0 d1 p = RestsOn m n old.journal new.journal f0 f1 d0 d1 p.body.items (changes_of p.changes.items)
+
+-- a crash while it is written leaves the state before, or the one after
+abbrev pub LeavesPrepared : {F D : Type 0} → FolderModel F → DiskModel D → Store → (f0 f1 : F) (d0 d1 : D) → Prepared → Type 0
+LeavesPrepared m n store f0 f1 d0 d1 p = LeavesWritten m n store.journal f0 f1 d0 d1 p.body.items (changes_of p.changes.items)
+
+-- why it is not written
+abbrev pub PreparedRefused : {F D : Type 0} → FolderModel F → DiskModel D → (old new : Store) (f0 f1 : F) (d0 d1 : D) → Prepared → StoreError → Type 0
+PreparedRefused m n old new f0 f1 d0 d1 p e = WriteRefused m n old.journal new.journal f0 f1 d0 d1 p.body.items e
+
+-- ---- why a change is refused
+
+-- Why a change is not made. If the journal refuses, the folder is not used; if the folder fails, the record is written.
 abbrev pub ChangeRefused : {F D : Type 0} → FolderModel F → DiskModel D → (old new : Store) (f0 f1 : F) (d0 d1 : D) → List Interval → StoreError → Type 0
-ChangeRefused m n old new f0 f1 d0 d1 rows store.Folder = Rose (m.faults f0) (m.faults f1) × ((body : List ℕ) × IsChangeBody m n old f0 d0 rows body × StandsMore n old new d0 d1 body)
-ChangeRefused m n old new f0 f1 d0 d1 rows (store.Journal e) = (f1 ≡ f0) × ((body : List ℕ) × IsChangeBody m n old f0 d0 rows body × IsRefusedBody n old new d0 d1 body e)
+ChangeRefused m n old new f0 f1 d0 d1 rows store.Folder = Rose (m.faults f0) (m.faults f1) × HasChangeRecord m n old new f0 d0 d1 rows
+ChangeRefused m n old new f0 f1 d0 d1 rows (store.Journal e) = (f1 ≡ f0) × BodyRefused m n old new f0 d0 d1 rows e
 ChangeRefused m n old new f0 f1 d0 d1 rows store.Memory = (new ≡ old) × (f1 ≡ f0) × (d1 ≡ d0)

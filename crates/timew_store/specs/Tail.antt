@@ -3,9 +3,9 @@ use Rattle.std.specs.Prelude.{ℕ, Bool, not, cond, ◌&&◌, ◌||◌, ◌==◌
 use Rattle.std.specs.List.{list_any}
 use Rattle.std.specs.Str.{is_utf8}
 use Rattle.tw_world.specs.Folder.{add_name as add_tag}
-use Rattle.timew_store.specs.declared.tail.Mode.{Mode}
-use Rattle.timew_store.specs.declared.tail.Mode.TheVariants.{Ahead, Bare, Quoted, Escaped, Closed, Sign, Noted, Plain, Quote, Backslash, Done, Failed}
-use Rattle.timew_store.specs.declared.tail.Reader.{Reader}
+use Rattle.timew_store.specs.declared.read.reader.Mode.{Mode}
+use Rattle.timew_store.specs.declared.read.reader.Mode.TheVariants.{Ahead, Bare, Quoted, Escaped, Closed, Sign, Noted, Plain, Quote, Backslash, Done, Failed}
+use Rattle.timew_store.specs.declared.read.reader.Reader.{Reader}
 
 -- ---- writing
 
@@ -28,7 +28,7 @@ escaped (b ∷ text) = cond (is_escaped b) (92 ∷ b ∷ escaped text) (b ∷ es
 abbrev pub quoted : List ℕ → List ℕ
 quoted text = 34 ∷ (escaped text ++ 34 ∷ [])
 
--- a tag, in quotes where it has a special character
+-- a tag, in quotes if it has a special character
 abbrev pub tag_text : List ℕ → List ℕ
 tag_text tag = cond (list_any is_special tag) (quoted tag) tag
 
@@ -38,12 +38,12 @@ tags_text [] = []
 tags_text (tag ∷ []) = tag_text tag
 tags_text (tag ∷ next ∷ tags) = tag_text tag ++ 32 ∷ tags_text (next ∷ tags)
 
--- an annotation, where there is one
+-- an annotation, if there is one
 abbrev pub note_text : List ℕ → List ℕ
 note_text [] = []
 note_text (b ∷ text) = codes " # " ++ quoted (b ∷ text)
 
--- what a line has behind its moments
+-- what a line has after its moments
 abbrev pub tail_text : List (List ℕ) → List ℕ → List ℕ
 tail_text [] [] = []
 tail_text [] (b ∷ text) = codes " #" ++ note_text (b ∷ text)
@@ -51,7 +51,7 @@ tail_text (tag ∷ tags) annotation = codes " # " ++ (tags_text (tag ∷ tags) +
 
 -- ---- reading
 
--- where a reader is: how far, the text so far, and the tags before it
+-- what a reader has: how far it is, the text so far, and the tags before it
 pub record Reading : Type 0 where
   pub mode : Mode
   pub text : List ℕ
@@ -118,11 +118,11 @@ ended_in Failed r = None
 abbrev pub ended : Reading → Option (List (List ℕ) × List ℕ)
 ended r = ended_in r.mode r
 
--- the tags and the annotation behind ` # `
+-- the tags and the annotation after ` # `
 unfoldable pub marked : List ℕ → Option (List (List ℕ) × List ℕ)
 marked bytes = ended (fold stepped start bytes)
 
--- what a line has behind its moments, where it is so written
+-- what a line has after its moments, if it is so written
 abbrev pub tail_of : List ℕ → Option (List (List ℕ) × List ℕ)
 tail_of [] = Some ([], [])
 tail_of (a ∷ []) = None

@@ -1,112 +1,39 @@
--- An undo, and why it is refused.
-use Rattle.std.specs.Prelude.{◌≡◌, true, ◌<◌, ◌+◌, ◌^◌, ℕ, List, [], ◌∷◌, ◌++◌, length, Some, None, Result, Ok, Err}
-use Rattle.tw_world.specs.Disk.{DiskModel, Rose, Untouched}
-use Rattle.tw_world.specs.Disk as disk
-use Rattle.tw_world.specs.Folder.{Files, FolderModel}
-use Rattle.tw_journal.specs.Journal.{IsOpenOn}
-use Rattle.tw_journal.specs.declared.journal.Journal.{Journal}
-use Rattle.tw_journal.specs.declared.error.ReadError.{ReadError}
-use Rattle.tw_journal.specs.declared.error.ReadError.TheVariants as reads
-use Rattle.tw_journal.specs.declared.error.JournalError.{JournalError}
-use Rattle.tw_journal.specs.declared.error.JournalError.TheVariants as cause
-use Rattle.timew_store.specs.Body.{FileChange, body_of}
-use Rattle.timew_store.specs.Body.Step.{Undo}
-use Rattle.timew_store.specs.History.{History, exchanged}
-use Rattle.timew_store.specs.Held.{magic, Held, OpensTo, OpensToEither, held_by, replaced}
-use Rattle.timew_store.specs.Loading.{IsNoStep}
+-- What an undo makes of the month files.
+use Rattle.std.specs.Prelude.{ℕ, cond, List, [], ◌∷◌, Option, Some, None, Result, Ok, Err}
+use Rattle.tw_world.specs.Folder.{Files, same_bytes}
+use Rattle.timew_store.specs.Body.{FileChange}
+use Rattle.timew_store.specs.History.{exchanged}
+use Rattle.timew_store.specs.Held.{Held, bytes_of, replaced}
 use Rattle.timew_store.specs.Rows.{rows_of}
-use Rattle.timew_store.specs.Store.{HoldMonths, IsStoreOn, IsMovedTo, StandsMore}
-use Rattle.timew_store.specs.declared.kept.Months.{Months}
-use Rattle.timew_store.specs.Undoing.{NoUndo, first_edited, undone_held}
-use Rattle.timew_store.specs.Undoing.NoUndo.{Nothing, EditedFile, Bad}
-use Rattle.timew_store.specs.declared.rows.RowsError.{RowsError}
-use Rattle.timew_store.specs.declared.rows.RowsError.TheVariants as read
-use Rattle.timew_store.specs.declared.store.Store.{Store}
-use Rattle.timew_store.specs.declared.error.StoreError.{StoreError}
-use Rattle.timew_store.specs.declared.error.StoreError.TheVariants as store
-use Rattle.timew_store.specs.declared.error.UndoError.{UndoError}
-use Rattle.timew_store.specs.declared.error.UndoError.TheVariants.{Folder, Journal as OfJournal, BadLine, Edited, NothingToUndo, Memory}
+use Rattle.timew_store.specs.declared.interval.Interval.{Interval}
 
-abbrev pub not_written : StoreError → UndoError
-not_written store.Folder = Folder
-not_written (store.Journal e) = OfJournal e
-not_written store.Memory = Memory
+-- why there is no undo
+pub data NoUndo : Type 0 where
+  Nothing : NoUndo
+  EditedFile : List ℕ → NoUndo
+  Bad : List ℕ × ℕ → NoUndo
 
-abbrev pub not_read_back : RowsError → UndoError
-not_read_back (read.BadLine file line) = BadLine file line
-not_read_back read.Memory = Memory
+-- the first file of a change that does not have the bytes that the change left
+abbrev pub first_edited : Files → List FileChange → Option (List ℕ)
+first_edited files [] = None
+first_edited files (f ∷ changes) = cond (same_bytes (bytes_of files f.name) f.new) (first_edited files changes) (Some f.name)
 
--- Why the change is not found: as damaged only at a record that holds no step.
-abbrev pub WalkRefused : {D : Type 0} → DiskModel D → (before after : D) → Journal → ReadError → Type 0
-WalkRefused n before after journal reads.Disk = Rose (n.faults before) (n.faults after)
-WalkRefused n before after journal reads.Memory = Unit {0}
-WalkRefused n before after journal (reads.Damaged offset) = disk.Tells n before → (bodies : List (List ℕ)) → IsOpenOn n magic journal before bodies → (k : ℕ) × (k < length bodies) × IsNoStep (n.seen before) bodies k offset
-WalkRefused n before after journal reads.Closed = journal.closed ≡ true
+-- the state with the old bytes put back
+abbrev pub taken_back : Held → List FileChange → List (List FileChange) → Held
+taken_back held change earlier = record { files = replaced held.files (exchanged change); undoable = earlier }
 
--- why the old bytes of a change are not put back into these month files
-abbrev pub BackRefused : Months → List FileChange → UndoError → Type 0
-BackRefused months change Folder = ⊥
-BackRefused months change (OfJournal e) = ⊥
-BackRefused months change (BadLine file line) = (files : Files) → HoldMonths files months → (first_edited files change ≡ None) × (rows_of (replaced files (exchanged change)) ≡ Err (file, line))
-BackRefused months change (Edited file) = (files : Files) → HoldMonths files months → first_edited files change ≡ Some file
-BackRefused months change NothingToUndo = ⊥
-BackRefused months change Memory = Unit {0}
+abbrev pub unless_unread : Held → Result (List Interval) (List ℕ × ℕ) → Result Held NoUndo
+unless_unread back (Err spot) = Err (Bad spot)
+unless_unread back (Ok rows) = Ok back
 
--- ---- the call
+abbrev pub unless_edited : Held → Option (List ℕ) → Result Held NoUndo
+unless_edited back (Some name) = Err (EditedFile name)
+unless_edited back None = unless_unread back (rows_of back.files)
 
--- the bodies that an undo adds
-abbrev pub undo_bodies : List (List FileChange) → List (List ℕ)
-undo_bodies [] = []
-undo_bodies (change ∷ earlier) = body_of (Undo (exchanged change)) ∷ []
+abbrev pub before_last : Held → List (List FileChange) → Result Held NoUndo
+before_last held [] = Err Nothing
+before_last held (change ∷ earlier) = unless_edited (taken_back held change earlier) (first_edited held.files change)
 
--- the last change was taken back
-pub record IsTakenBack {F D : Type 0} (m : FolderModel F) (n : DiskModel D) (store : Store) (f0 f1 : F) (d1 : D) (bodies : List (List ℕ)) (history : History) : Type 0 where
-  pub back : Held
-  pub is : undone_held (held_by m f0 history) ≡ Ok back
-  pub moved : IsMovedTo m n store f1 d1 (bodies ++ undo_bodies history.undoable) back
-
--- a crash leaves the state before, or the one to which an undo leads, if it leads to one
-abbrev pub OpensToEitherOf : Held → Result Held NoUndo → Files → List ℕ → Type 0
-OpensToEitherOf held (Ok back) files journal = OpensToEither held back files journal
-OpensToEitherOf held (Err why) files journal = OpensTo files journal held
-
--- an open store has no undo for this reason
-abbrev pub HasNoUndo : {F D : Type 0} → FolderModel F → DiskModel D → Store → F → D → NoUndo → Type 0
-HasNoUndo m n store folder disk why = (bodies : List (List ℕ)) (history : History) → IsStoreOn m n store folder disk bodies history → undone_held (held_by m folder history) ≡ Err why
-
--- nothing was written
-abbrev pub NothingWritten : {F D : Type 0} → DiskModel D → (old new : Store) (f0 f1 : F) (d0 d1 : D) → Type 0
-NothingWritten n old new f0 f1 d0 d1 = (new ≡ old) × (f1 ≡ f0) × Untouched n d0 d1
-
--- the body of an undo, of a store that is open
-abbrev pub IsUndoBody : {F D : Type 0} → FolderModel F → DiskModel D → Store → F → D → List ℕ → Type 0
-IsUndoBody m n store folder disk body = (bodies : List (List ℕ)) (history : History) → IsStoreOn m n store folder disk bodies history → undo_bodies history.undoable ≡ body ∷ []
-
--- an undo leads back, and writes a record of so many bytes
-pub record WritesBytes {F : Type 0} (m : FolderModel F) (folder : F) (history : History) (bytes : ℕ) : Type 0 where
-  pub back : Held
-  pub is : undone_held (held_by m folder history) ≡ Ok back
-  pub body : List ℕ
-  pub one : undo_bodies history.undoable ≡ body ∷ []
-  pub size : bytes ≡ length body + 5
-
--- the journal was only read
-abbrev pub JournalRead : {D : Type 0} → DiskModel D → (old new : Store) (d0 d1 : D) → Type 0
-JournalRead n old new d0 d1 = (new ≡ old) × Untouched n d0 d1
-
--- why the journal is not read, or refuses the body of an undo
-abbrev pub UndoJournalRefused : {F D : Type 0} → FolderModel F → DiskModel D → (old new : Store) (f0 : F) (d0 d1 : D) → JournalError → Type 0
-UndoJournalRefused m n old new f0 d0 d1 cause.Disk = Rose (n.faults d0) (n.faults d1)
-UndoJournalRefused m n old new f0 d0 d1 cause.Memory = JournalRead n old new d0 d1
-UndoJournalRefused m n old new f0 d0 d1 (cause.Damaged offset) = disk.Tells n d0 → (bodies : List (List ℕ)) → IsOpenOn n magic old.journal d0 bodies → (k : ℕ) × (k < length bodies) × IsNoStep (n.seen d0) bodies k offset
-UndoJournalRefused m n old new f0 d0 d1 (cause.TooLong bytes) = (2 ^ 30 < bytes) × JournalRead n old new d0 d1 × ((bodies : List (List ℕ)) (history : History) → IsStoreOn m n old f0 d0 bodies history → WritesBytes m f0 history bytes)
-UndoJournalRefused m n old new f0 d0 d1 cause.Closed = old.journal.closed ≡ true
-
--- Why a change is not taken back. Where the journal refuses, the folder is not used; where the folder fails, the record stands.
-abbrev pub UndoRefused : {F D : Type 0} → FolderModel F → DiskModel D → (old new : Store) (f0 f1 : F) (d0 d1 : D) → UndoError → Type 0
-UndoRefused m n old new f0 f1 d0 d1 Folder = Rose (m.faults f0) (m.faults f1) × ((body : List ℕ) × IsUndoBody m n old f0 d0 body × StandsMore n old new d0 d1 body)
-UndoRefused m n old new f0 f1 d0 d1 (OfJournal e) = (f1 ≡ f0) × (new.months ≡ old.months) × UndoJournalRefused m n old new f0 d0 d1 e
-UndoRefused m n old new f0 f1 d0 d1 (BadLine file line) = NothingWritten n old new f0 f1 d0 d1 × HasNoUndo m n old f0 d0 (Bad (file, line))
-UndoRefused m n old new f0 f1 d0 d1 (Edited file) = NothingWritten n old new f0 f1 d0 d1 × HasNoUndo m n old f0 d0 (EditedFile file)
-UndoRefused m n old new f0 f1 d0 d1 NothingToUndo = NothingWritten n old new f0 f1 d0 d1 × HasNoUndo m n old f0 d0 Nothing
-UndoRefused m n old new f0 f1 d0 d1 Memory = NothingWritten n old new f0 f1 d0 d1
+-- the state before the last change that is not undone
+abbrev pub undone_held : Held → Result Held NoUndo
+undone_held held = before_last held held.undoable

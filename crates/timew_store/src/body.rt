@@ -1,16 +1,17 @@
-// Reading the body of a record.
-ghost use Rattle.std.specs.Prelude.{◌≡◌, IfOk, true};
+// The body of a record: what a change or an undo did to month files.
+ghost use Rattle.std.specs.Prelude.{◌≡◌, IfOk, true, ◌++◌, OnOk};
 ghost use Rattle.std.specs.Ordering.{is_lt};
 ghost use Rattle.tw_world.specs.Folder.{bytes_cmp};
-ghost use Rattle.timew_store.specs.Body.{AreMonths, is_month_name, named, file_at, files_at, files_of, step_of, names_rise};
-ghost use Rattle.timew_store.specs.Reading.{Gives, step_in, files_held};
-ghost use Rattle.timew_store.specs.Writing.{change_of, changes_of};
+ghost use Rattle.timew_store.specs.Body.{AreMonths, is_month_name, named, file_at, files_of, step_of, names_rise, file_bytes, files_bytes, body_of};
+ghost use Rattle.timew_store.specs.Writing.{change_of, changes_of, step_in, files_held};
+ghost use Rattle.tw_fields.specs.Reading.{Gives, many_at};
+ghost use Rattle.timew_store.specs.Body.Step.{Change, Undo};
 
-use crate::fields::{ReadError, field_at, u32_at};
-use crate::name::is_month_name;
-use crate::write::NewFile;
+use crate::month_name::is_month_name;
+use crate::write::change::NewFile;
 use std::alloc::Global;
-use tw_world::Text;
+use tw_fields::{ReadError, bytes_at, put_bytes, put_count, u32_at};
+use tw_world::{Memory, Text};
 
 /// What a record holds: what a change did to month files, or what an undo did.
 #[derive(Drop)]
@@ -37,9 +38,9 @@ fn read_file(alloc: Global, bytes: &[u8]) -> Result<(NewFile, &[u8]), ReadError>
     ensures value { Gives (λ x. (change_of x.0, x.1.now)) result (file_at bytes.now) }
     ensures name { IfOk result (λ x. is_month_name x.0.name ≡ true) }
 {
-    let (name, rest) = field_at(bytes)?;
-    let (old, rest) = field_at(rest)?;
-    let (new, rest) = field_at(rest)?;
+    let (name, rest) = bytes_at(bytes)?;
+    let (old, rest) = bytes_at(rest)?;
+    let (new, rest) = bytes_at(rest)?;
     let name = read_name(alloc, name)?;
     let old = old.to_vec(alloc)?;
     let new = new.to_vec(alloc)?;
@@ -47,7 +48,7 @@ fn read_file(alloc: Global, bytes: &[u8]) -> Result<(NewFile, &[u8]), ReadError>
 }
 
 fn read_files(alloc: Global, count: u32, bytes: &[u8]) -> Result<(Vec<NewFile>, &[u8]), ReadError>
-    ensures value { Gives (λ x. (changes_of x.0.items, x.1.now)) result (files_at count bytes.now) }
+    ensures value { Gives (λ x. (changes_of x.0.items, x.1.now)) result (many_at file_at count bytes.now) }
     ensures names { IfOk result (λ x. AreMonths (changes_of x.0.items)) }
 {
     let mut files = Vec::new(alloc);
@@ -120,4 +121,42 @@ impl Record {
             Record::Undo(files) => files,
         }
     }
+}
+
+fn put_file(out: &mut Vec<u8>, file: &NewFile) -> Result<(), Memory>
+    ensures { OnOk result (out.new.items ≡ out.old.items ++ file_bytes (change_of file.now)) }
+{
+    put_bytes(out, file.name.as_str().as_bytes())?;
+    put_bytes(out, &file.old)?;
+    put_bytes(out, &file.new)
+}
+
+fn put_files(out: &mut Vec<u8>, files: &Vec<NewFile>) -> Result<(), Memory>
+    ensures { OnOk result (out.new.items ≡ out.old.items ++ files_bytes (changes_of files.now.items)) }
+{
+    put_count(out, files.len())?;
+    for file in files {
+        put_file(out, file)?;
+    }
+    Ok(())
+}
+
+/// The body of a change.
+pub(crate) fn change_body(alloc: Global, files: &Vec<NewFile>) -> Result<Vec<u8>, Memory>
+    ensures { IfOk result (λ body. body.items ≡ body_of (Change (changes_of files.now.items))) }
+{
+    let mut body = Vec::new(alloc);
+    body.push(1)?;
+    put_files(&mut body, files)?;
+    Ok(body)
+}
+
+/// The body of an undo.
+pub(crate) fn undo_body(alloc: Global, files: &Vec<NewFile>) -> Result<Vec<u8>, Memory>
+    ensures { IfOk result (λ body. body.items ≡ body_of (Undo (changes_of files.now.items))) }
+{
+    let mut body = Vec::new(alloc);
+    body.push(2)?;
+    put_files(&mut body, files)?;
+    Ok(body)
 }

@@ -3,10 +3,10 @@ ghost use Rattle.std.specs.Prelude.{◌≡◌, ◌≤◌, ◌+◌, ◌-◌, leng
 ghost use Rattle.timew_store.specs.Edit.{edited};
 
 use crate::interval::Interval;
-use crate::same::is_same;
+use crate::interval::same::is_same;
 use tw_world::Memory;
 
-/// So many intervals from a place on, counted from 0, give way to others.
+/// So many intervals from an index on, counted from 0, give way to others.
 #[derive(Drop)]
 pub struct Edit {
     pub at: usize,

@@ -1,6 +1,6 @@
 // Why calls of a store are refused.
 
-use crate::rows::RowsError;
+use crate::read::rows::RowsError;
 use std::alloc::AllocFailed;
 use tw_journal::{JournalError, OpenError, ReadError};
 use tw_world::{FolderError, Memory, Text};
@@ -83,7 +83,7 @@ pub enum LoadError {
     Folder,
     /// The journal refused: a fault of its disk, or a file that is damaged at an offset.
     Journal(JournalError),
-    /// The line with this number, from 1, of this month file is no interval, or overlaps one that stands before it in order.
+    /// The line with this number, from 1, of this month file is no interval, or overlaps one before it in order.
     BadLine { file: Text, line: u64 },
     /// There was no memory.
     Memory,
@@ -121,11 +121,11 @@ impl From<RowsError> for LoadError {
 /// Why a change is not taken back.
 #[derive(Drop)]
 pub enum UndoError {
-    /// The folder failed. The record stands, and the next load finishes the undo.
+    /// The folder failed. The record is written, and the next load finishes the undo.
     Folder,
     /// The journal refused, and the folder was not used.
     Journal(JournalError),
-    /// Without the change this line of this month file would be no interval, or overlap one that stands before it in order.
+    /// Without the change this line of this month file would be no interval, or overlap one before it in order.
     BadLine { file: Text, line: u64 },
     /// This file no longer has the bytes that the change left.
     Edited { file: Text },
@@ -137,7 +137,7 @@ pub enum UndoError {
 
 impl From<StoreError> for UndoError {
     ghost use Rattle.std.specs.Prelude.{◌≡◌};
-    ghost use Rattle.timew_store.specs.Undo.{not_written};
+    ghost use Rattle.timew_store.specs.StoreUndo.{not_written};
 
     ghost from_gives = { λ error e. e ≡ not_written error };
 
@@ -152,7 +152,7 @@ impl From<StoreError> for UndoError {
 
 impl From<RowsError> for UndoError {
     ghost use Rattle.std.specs.Prelude.{◌≡◌};
-    ghost use Rattle.timew_store.specs.Undo.{not_read_back};
+    ghost use Rattle.timew_store.specs.StoreUndo.{not_read_back};
 
     ghost from_gives = { λ error e. e ≡ not_read_back error };
 

@@ -6,11 +6,10 @@ ghost use Rattle.timew_store.specs.declared.interval.Interval.{Interval};
 ghost use Rattle.timew_store.specs.Interval.{at, has, content, IsRow, AreRows};
 ghost use Rattle.timew_store.specs.Placing.{placed};
 ghost use Rattle.timew_store.specs.Month.{lines_text, month_rows};
-ghost use Rattle.timew_store.specs.Writable.{IsWritable};
+ghost use Rattle.timew_store.specs.ReadBack.{IsWritable};
 ghost use Rattle.timew_store.specs.Body.{is_month_name};
-ghost use Rattle.timew_store.specs.Held.{bytes_of, replaced};
 ghost use Rattle.timew_store.specs.Rows.{rows_of};
-ghost use Rattle.timew_store.specs.Months.{changes_to, month_text};
+ghost use Rattle.timew_store.specs.Changes.{changed_files, HasMonthText};
 
 /// An interval that is placed has its own seconds, and every other second has what it had.
 pub fn a_placed_interval_has_its_seconds()
@@ -29,10 +28,10 @@ pub fn lines_are_read_back()
 
 /// After a change to intervals the month files hold these intervals, whatever they held before.
 pub fn month_files_hold_the_intervals()
-    ensures { (files : Files) (rows : List Interval) → AreRows rows → AllByRecursion IsWritable rows → rows_of (replaced files (changes_to files rows)) ≡ Ok rows }
+    ensures { (files : Files) (rows : List Interval) → AreRows rows → AllByRecursion IsWritable rows → rows_of (changed_files files rows) ≡ Ok rows }
 {}
 
 /// After a change to intervals each month file is the one text of the intervals that start in its month.
 pub fn a_month_file_is_the_text_of_its_month()
-    ensures { (files : Files) (rows : List Interval) (name : List ℕ) → is_month_name name ≡ true → bytes_of (replaced files (changes_to files rows)) name ≡ month_text name rows }
+    ensures { (files : Files) (rows : List Interval) (name : List ℕ) → is_month_name name ≡ true → HasMonthText files rows name }
 {}

@@ -1,22 +1,21 @@
 // Loading a store: the last change is finished.
-ghost use Rattle.std.specs.Prelude.{◌≡◌, ◌⊎◌, ◌<◌, [], List, ℕ, slice_index_or, OnOk, IfOk, IfErr, IsErrOf, true, false, Some};
+ghost use Rattle.std.specs.Prelude.{◌≡◌, ◌<◌, [], slice_index_or, OnOk, IfOk, IfErr, IsErrOf, true, false, Some};
 ghost use Rattle.tw_world.specs.Disk.{Rose, Untouched};
 ghost use Rattle.tw_world.specs.Disk as tells;
-ghost use Rattle.tw_world.specs.Turns.{InTurns, crash_of};
-ghost use Rattle.tw_journal.specs.Journal.{IsOpenOn, is_closed, journal_end, journal_count};
+ghost use Rattle.tw_journal.specs.Journal.{is_closed, journal_end, journal_count};
 ghost use Rattle.timew_store.specs.Body.{AreMonths, names_rise, step_of};
-ghost use Rattle.timew_store.specs.Reading.{step_in, files_held};
-ghost use Rattle.tw_world.specs.Crash.{Tells, Settled, LeavesOnly, Kept, Reads};
+ghost use Rattle.tw_world.specs.Crash.{Tells, IsStable, FaultsRise, Reads};
 ghost use Rattle.tw_world.specs.Folder.{same_bytes, is_file_name};
-ghost use Rattle.timew_store.specs.Held.{magic, bytes_of, finished_file, finished, Held, OpensTo};
-ghost use Rattle.timew_store.specs.Loading.{IsFinishedTo, IsLoaded, OpensAlike, last_of, StepRefused, LastRefused, FinishRefused, IsStoreFault, StoreSparesDisk, StillOpen};
-ghost use Rattle.timew_store.specs.Writing.{change_of, changes_of, AreFileNames};
+ghost use Rattle.timew_store.specs.Held.{bytes_of, finished_file, finished, IfTheyOpen, OnRecords, LeavesFiles};
+ghost use Rattle.timew_store.specs.Loading.{IsFinishedTo, last_of, StepRefused, LastRefused, FinishRefused, IsStoreFault};
+ghost use Rattle.timew_store.specs.Loading.{StoreSparesDisk, StillOpen, IsFinishedOrNot, Loads, LeavesAlike};
+ghost use Rattle.timew_store.specs.Writing.{change_of, changes_of, step_in, files_held, AreFileNames};
 
 use crate::body::{Record, read_record};
 use crate::error::StoreError;
-use crate::fields::ReadError as BodyError;
-use crate::write::NewFile;
+use crate::write::change::NewFile;
 use std::alloc::Global;
+use tw_fields::ReadError as BodyError;
 use tw_journal::{Journal, ReadError};
 use tw_world::{Disk, Folder, FolderError};
 
@@ -38,13 +37,13 @@ fn has_bytes<F: Folder>(
     }
 }
 
-// Gives a file of a change its new bytes, where it has its old ones.
+// Gives a file of a change its new bytes, if it has its old ones.
 fn finish_file<F: Folder>(alloc: Global, folder: &mut F, file: &NewFile) -> Result<(), FolderError>
     requires { is_file_name file.now.name ≡ true }
     ensures done { OnOk result (Tells F.model folder.old → F.model.seen folder.new ≡ finished_file (F.model.seen folder.old) (change_of file.now)) }
-    ensures settled { OnOk result (Tells F.model folder.old → Settled F.model folder.old → Settled F.model folder.new) }
-    ensures any_moment { Tells F.model folder.old → Settled F.model folder.old → LeavesOnly F.model folder.old folder.new (λ x. (x ≡ F.model.seen folder.old) ⊎ (x ≡ finished_file (F.model.seen folder.old) (change_of file.now))) }
-    ensures kept { Kept F.model folder.old folder.new }
+    ensures stable { OnOk result (Tells F.model folder.old → IsStable F.model folder.old → IsStable F.model folder.new) }
+    ensures any_moment { LeavesFiles F.model folder.old folder.new (IsFinishedOrNot (F.model.seen folder.old) (change_of file.now)) }
+    ensures faults { FaultsRise F.model folder.old folder.new }
     ensures failed { IsErrOf result FolderError.Failed → Rose (F.model.faults folder.old) (F.model.faults folder.new) }
 {
     if has_bytes(alloc, folder, file.name.as_str(), &file.old)? {
@@ -57,9 +56,9 @@ fn finish_file<F: Folder>(alloc: Global, folder: &mut F, file: &NewFile) -> Resu
 fn finish<F: Folder>(alloc: Global, folder: &mut F, files: &Vec<NewFile>) -> Result<(), FolderError>
     requires { AreFileNames files.now.items }
     ensures done { OnOk result (Tells F.model folder.old → F.model.seen folder.new ≡ finished (F.model.seen folder.old) (changes_of files.now.items)) }
-    ensures settled { OnOk result (Tells F.model folder.old → Settled F.model folder.old → Settled F.model folder.new) }
-    ensures any_moment { Tells F.model folder.old → Settled F.model folder.old → LeavesOnly F.model folder.old folder.new (IsFinishedTo (changes_of files.now.items) (F.model.seen folder.old)) }
-    ensures kept { Kept F.model folder.old folder.new }
+    ensures stable { OnOk result (Tells F.model folder.old → IsStable F.model folder.old → IsStable F.model folder.new) }
+    ensures any_moment { LeavesFiles F.model folder.old folder.new (IsFinishedTo (changes_of files.now.items) (F.model.seen folder.old)) }
+    ensures faults { FaultsRise F.model folder.old folder.new }
     ensures failed { IsErrOf result FolderError.Failed → Rose (F.model.faults folder.old) (F.model.faults folder.new) }
 {
     for file in files {
@@ -68,7 +67,7 @@ fn finish<F: Folder>(alloc: Global, folder: &mut F, files: &Vec<NewFile>) -> Res
     Ok(())
 }
 
-/// The step of the record with a number, from 0, or `Damaged` at its gate where it holds none.
+/// The step of the record with a number, from 0, or `Damaged` at its offset if it holds none.
 pub(crate) fn read_step<D: Disk>(
     alloc: Global,
     journal: &Journal,
@@ -77,7 +76,7 @@ pub(crate) fn read_step<D: Disk>(
 ) -> Result<Record, ReadError>
     requires inside { n < journal_count journal.now }
     requires length { is_closed journal.now ≡ false → D.model.len disk.old ≡ journal_end journal.now }
-    ensures step { IfOk result (λ held. (bodies : List (List ℕ)) → IsOpenOn D.model magic journal.now disk.old bodies → step_of (slice_index_or bodies n []) ≡ Some (step_in held)) }
+    ensures step { IfOk result (λ held. OnRecords D.model journal.now disk.old (λ bodies. step_of (slice_index_or bodies n []) ≡ Some (step_in held))) }
     ensures names { IfOk result (λ held. AreMonths (changes_of (files_held held))) }
     ensures rise { IfOk result (λ held. names_rise (changes_of (files_held held)) ≡ true) }
     ensures untouched { Untouched D.model disk.old disk.new }
@@ -101,7 +100,7 @@ fn last_files<D: Disk>(
     disk: &mut D,
 ) -> Result<Vec<NewFile>, ReadError>
     requires length { is_closed journal.now ≡ false → D.model.len disk.old ≡ journal_end journal.now }
-    ensures value { IfOk result (λ files. (bodies : List (List ℕ)) → IsOpenOn D.model magic journal.now disk.old bodies → last_of bodies ≡ Some (changes_of files.items)) }
+    ensures value { IfOk result (λ files. OnRecords D.model journal.now disk.old (λ bodies. last_of bodies ≡ Some (changes_of files.items))) }
     ensures names { IfOk result (λ files. AreFileNames files.items) }
     ensures rise { IfOk result (λ files. names_rise (changes_of files.items) ≡ true) }
     ensures untouched { Untouched D.model disk.old disk.new }
@@ -121,14 +120,14 @@ pub(crate) fn open_and_finish<F: Folder, D: Disk>(
     folder: &mut F,
     disk: &mut D,
 ) -> Result<Journal, StoreError>
-    ensures loaded { IfOk result (λ journal. Tells F.model folder.old → Settled F.model folder.old → tells.Tells D.model disk.old → IsLoaded F.model D.model folder.old folder.new disk.old disk.new journal) }
+    ensures loaded { IfOk result (Loads F.model D.model folder.old folder.new disk.old disk.new) }
     ensures length { IfOk result (λ journal. (D.model.len disk.new ≡ journal_end journal) × (is_closed journal ≡ false)) }
-    ensures any_moment { Tells F.model folder.old → Settled F.model folder.old → tells.Tells D.model disk.old → InTurns F.model (crash_of D.model) (OpensAlike F.model D.model folder.old disk.old) folder.old disk.old folder.new disk.new }
+    ensures any_moment { LeavesAlike F.model D.model folder.old folder.new disk.old disk.new }
     ensures refused { IfErr result (λ e. FinishRefused F.model D.model folder.old folder.new disk.old disk.new e) }
     ensures stays { IfErr result (λ e. StoreSparesDisk e → StillOpen F.model D.model folder.old folder.new disk.old disk.new) }
-    ensures sound { (held : Held) → tells.Tells D.model disk.old → OpensTo (F.model.seen folder.old) (D.model.seen disk.old) held → IfErr result IsStoreFault }
-    ensures folder { Kept F.model folder.old folder.new }
-    ensures disk { tells.Kept D.model disk.old disk.new }
+    ensures sound { IfTheyOpen F.model D.model folder.old disk.old (IfErr result IsStoreFault) }
+    ensures folder { FaultsRise F.model folder.old folder.new }
+    ensures disk { tells.FaultsRise D.model disk.old disk.new }
 {
     let journal = Journal::open(alloc, disk, b"TIMEWJ01")?;
     let files = last_files(alloc, &journal, disk)?;

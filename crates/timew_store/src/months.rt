@@ -1,85 +1,46 @@
-// The month files of intervals.
-ghost use Rattle.std.specs.Prelude.{◌≡◌, ◌<◌, ◌≤◌, ◌≤ℤ◌, ◌++◌, pos, true, unsigned_abs, IfOk, OnOk};
-ghost use Rattle.tw_time.specs.Forms.{digit_at};
-ghost use Rattle.timew_store.specs.Body.{is_month_name};
-ghost use Rattle.timew_store.specs.Interval.{IsRow, AreRows};
-ghost use Rattle.timew_store.specs.Months.{month_name, month_text, name_of, row_text};
+// Month files and their intervals, as a store has them in memory.
+ghost use Rattle.std.specs.Prelude.{◌≡◌, true, ◌<◌};
+ghost use Rattle.timew_store.specs.NamedFiles.{are_named};
+ghost use Rattle.timew_store.specs.Known.{AreKnown};
+ghost use Rattle.timew_store.specs.Interval.{IsEnd-prop};
+ghost use Rattle.std.proofs.Props.{props};
 
-use crate::interval::Interval;
-use crate::intervals::Intervals;
-use crate::writing::put_line;
+use crate::interval::list::Intervals;
 use std::alloc::Global;
-use tw_time::print_basic;
-use tw_world::Memory;
+use tw_world::Text;
 
-/// The name of the month file for a second.
-pub(crate) fn month_name(at: u64) -> [u8; 12]
-    requires { at < 253_370_764_800 }
-    ensures name { result ≡ month_name at }
-    ensures good { is_month_name (month_name at) ≡ true }
-{
-    let text = print_basic(at);
-    [
-        text[0], text[1], text[2], text[3], b'-', text[4], text[5], b'.', b'd', b'a', b't', b'a',
-    ]
+/// A month file: its name, and its bytes.
+#[derive(Drop)]
+pub(crate) struct MonthFile {
+    pub name: Text,
+    pub bytes: Vec<u8>,
 }
 
-fn digit(number: u16, unit: u16) -> u8
-    requires { 0 < unit }
-    ensures { result ≡ digit_at number unit }
-{
-    b'0' + (number / unit % 10) as u8
+/// The file with a number, from 0, is the text of so many intervals, from one on.
+#[derive(Clone, Copy)]
+pub(crate) struct KnownText {
+    pub file: usize,
+    pub first: usize,
+    pub count: usize,
 }
 
-// The name of the month file of a year and a month.
-fn name_of(year: u16, month: u8) -> [u8; 12]
-    ensures { result ≡ name_of year month }
-{
-    [
-        digit(year, 1000),
-        digit(year, 100),
-        digit(year, 10),
-        digit(year, 1),
-        b'-',
-        digit(u16::from(month), 10),
-        digit(u16::from(month), 1),
-        b'.',
-        b'd',
-        b'a',
-        b't',
-        b'a',
-    ]
+/// Month files, in byte order of their names, the intervals that they hold, and which files are known to be the text of some of them.
+#[derive(Drop)]
+pub(crate) struct Months {
+    pub files: Vec<MonthFile>,
+    pub rows: Intervals,
+    pub known: Vec<KnownText>,
+    ghost named: { are_named files.items ≡ true },
+    ghost known_are: { AreKnown files.items rows known.items } by { Prim.hlevel (props, IsEnd-prop) },
 }
 
-// Writes the line of an interval, where it starts in the month.
-fn put_row_of(out: &mut Vec<u8>, row: &Interval, name: &[u8]) -> Result<(), Memory>
-    requires { IsRow row.now }
-    ensures { OnOk result (out.new.items ≡ out.old.items ++ row_text name.now row.now) }
-{
-    if month_name(row.start).as_slice() == name {
-        put_line(out, row)?;
-        out.push(b'\n')?;
+impl Months {
+    /// No month files.
+    pub(crate) fn none(alloc: Global) -> Months {
+        Months {
+            files: Vec::new(alloc),
+            rows: Intervals::new(alloc),
+            known: Vec::new(alloc),
+        }
     }
-    Ok(())
-}
-
-// The text of a month file.
-fn month_text(alloc: Global, rows: &[Interval], name: &[u8]) -> Result<Vec<u8>, Memory>
-    requires { AreRows rows.now }
-    ensures { IfOk result (λ text. text.items ≡ month_text name.now rows.now) }
-{
-    let mut out = Vec::new(alloc);
-    for row in rows {
-        put_row_of(&mut out, row, name)?;
-    }
-    Ok(out)
-}
-
-/// The text of the month file of a year and a month: the lines of the intervals that start in that month of UTC,
-/// in their order.
-pub fn write_month(alloc: Global, rows: &Intervals, year: i16, month: u8) -> Result<Vec<u8>, Memory>
-    ensures { IfOk result (λ text. text.items ≡ month_text (name_of (unsigned_abs year) month) rows.now) }
-{
-    let name = name_of(year.unsigned_abs(), month);
-    month_text(alloc, rows.as_slice(), &name)
 }

@@ -1,30 +1,28 @@
 // Taking the last change back.
-ghost use Rattle.std.specs.Prelude.{◌≡◌, true, false, not, List, ℕ, option_map, slice_get, None, IfOk, IfErr, IfSome, OnOk};
+ghost use Rattle.std.specs.Prelude.{◌≡◌, true, false, not, option_map, slice_get, None, IfOk, IfErr, IfSome, OnOk};
 ghost use Rattle.tw_world.specs.Disk.{Untouched};
-ghost use Rattle.tw_world.specs.Folder.{Files, same_bytes};
-ghost use Rattle.tw_journal.specs.Journal.{IsOpenOn, is_closed, journal_end};
+ghost use Rattle.tw_world.specs.Folder.{same_bytes};
+ghost use Rattle.tw_journal.specs.Journal.{is_closed, journal_end};
 ghost use Rattle.timew_store.specs.Body.{AreMonths, body_of, names_rise};
 ghost use Rattle.timew_store.specs.Body.Step.{Undo};
 ghost use Rattle.timew_store.specs.Gathered.{files_of};
-ghost use Rattle.timew_store.specs.Held.{magic, replaced};
-ghost use Rattle.timew_store.specs.History.{History, Stands, exchanged};
-ghost use Rattle.timew_store.specs.Kept.{bytes_in, first_edited_in};
-ghost use Rattle.timew_store.specs.Store.{HoldMonths};
-ghost use Rattle.timew_store.specs.Undoing.{first_edited};
-ghost use Rattle.timew_store.specs.Undo.{WalkRefused, BackRefused};
+ghost use Rattle.timew_store.specs.Held.{replaced, OnHistory};
+ghost use Rattle.timew_store.specs.History.{exchanged};
+ghost use Rattle.timew_store.specs.NamedFiles.{bytes_in, first_edited_in};
+ghost use Rattle.timew_store.specs.Store.{HoldMonths, OnFolders};
+ghost use Rattle.timew_store.specs.Undo.{first_edited};
+ghost use Rattle.timew_store.specs.StoreUndo.{WalkRefused, BackRefused};
 ghost use Rattle.timew_store.specs.Writing.{changes_of};
 
-use crate::after::files_after;
-use crate::body::Record;
-use crate::changes::bytes_in;
+use crate::body::{Record, undo_body};
 use crate::error::UndoError;
-use crate::files::MonthFile;
-use crate::kept::Months;
 use crate::load::read_step;
-use crate::prepared::Prepared;
-use crate::record::undo_body;
-use crate::rows::read_rows;
-use crate::write::NewFile;
+use crate::months::{MonthFile, Months};
+use crate::read::rows::read_rows;
+use crate::write::after::files_after;
+use crate::write::change::NewFile;
+use crate::write::changes::bytes_in;
+use crate::write::prepared::Prepared;
 use std::alloc::Global;
 use tw_journal::{Journal, ReadError};
 use tw_world::{Disk, Memory, Text};
@@ -36,7 +34,7 @@ pub(crate) fn last_change<D: Disk>(
     disk: &mut D,
 ) -> Result<Option<Vec<NewFile>>, ReadError>
     requires length { is_closed journal.now ≡ false → D.model.len disk.old ≡ journal_end journal.now }
-    ensures found { IfOk result (λ found. (bodies : List (List ℕ)) (history : History) → IsOpenOn D.model magic journal.now disk.old bodies → Stands bodies history → option_map (λ files. changes_of files.items) found ≡ slice_get history.undoable 0) }
+    ensures found { IfOk result (λ found. OnHistory D.model journal.now disk.old (λ h. option_map (λ f. changes_of f.items) found ≡ slice_get h.undoable 0)) }
     ensures months { IfOk result (λ found. IfSome found (λ files. AreMonths (changes_of files.items))) }
     ensures rise { IfOk result (λ found. IfSome found (λ files. names_rise (changes_of files.items) ≡ true)) }
     ensures untouched { Untouched D.model disk.old disk.new }
@@ -59,18 +57,18 @@ pub(crate) fn last_change<D: Disk>(
     Ok(None)
 }
 
-fn is_edited(kept: &Vec<MonthFile>, file: &NewFile) -> bool
-    ensures { result ≡ not (same_bytes (bytes_in (files_of kept.now.items) file.now.name) file.now.new.items) }
+fn is_edited(files: &Vec<MonthFile>, file: &NewFile) -> bool
+    ensures { result ≡ not (same_bytes (bytes_in (files_of files.now.items) file.now.name) file.now.new.items) }
 {
-    bytes_in(kept, &file.name) != file.new.as_slice()
+    bytes_in(files, &file.name) != file.new.as_slice()
 }
 
 // The first file of a change that does not have the bytes that the change left.
-fn first_edited<'a>(kept: &Vec<MonthFile>, change: &'a Vec<NewFile>) -> Option<&'a Text>
-    ensures { option_map (λ name. name.now) result ≡ first_edited_in (files_of kept.now.items) (changes_of change.now.items) }
+fn first_edited<'a>(files: &Vec<MonthFile>, change: &'a Vec<NewFile>) -> Option<&'a Text>
+    ensures { option_map (λ name. name.now) result ≡ first_edited_in (files_of files.now.items) (changes_of change.now.items) }
 {
     for file in change {
-        if is_edited(kept, file) {
+        if is_edited(files, file) {
             return Some(&file.name);
         }
     }
@@ -101,8 +99,8 @@ pub(crate) fn prepared_undo(
     requires named { AreMonths (changes_of change.items) }
     ensures body { IfOk result (λ p. p.body.items ≡ body_of (Undo (changes_of p.changes.items))) }
     ensures changes { IfOk result (λ p. changes_of p.changes.items ≡ exchanged (changes_of change.items)) }
-    ensures unedited { OnOk result ((files : Files) → HoldMonths files months.now → first_edited files (changes_of change.items) ≡ None) }
-    ensures months { IfOk result (λ p. (files : Files) → HoldMonths files months.now → HoldMonths (replaced files (changes_of p.changes.items)) p.months) }
+    ensures unedited { OnOk result (OnFolders months.now (λ files. first_edited files (changes_of change.items) ≡ None)) }
+    ensures months { IfOk result (λ p. OnFolders months.now (λ files. HoldMonths (replaced files (changes_of p.changes.items)) p.months)) }
     ensures refused { IfErr result (λ e. BackRefused months.now (changes_of change.items) e) }
 {
     if let Some(file) = first_edited(&months.files, &change) {

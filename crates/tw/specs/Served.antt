@@ -3,9 +3,8 @@ use Rattle.std.specs.Prelude.{ℕ, ◌^◌, ◌-◌, ◌==◌, ◌&&◌, nat_le,
 use Rattle.tw_text.specs.Natural.{natural}
 use Rattle.tw_files.specs.declared.connection.Limits.{Limits}
 use Rattle.tw.specs.declared.server_words.Service.{Service}
-use Rattle.tw_journal.specs.declared.error.JournalError.TheVariants as journal
-use Rattle.tw_server.specs.declared.server.ServerError.{ServerError}
-use Rattle.tw_server.specs.declared.server.ServerError.TheVariants as refused
+use Rattle.tw_server.specs.declared.error.ServerOpenError.{ServerOpenError}
+use Rattle.tw_server.specs.declared.error.ServerOpenError.TheVariants as refused
 use Rattle.tw_server.specs.declared.serve.ServeEnd.{ServeEnd}
 use Rattle.tw_server.specs.declared.serve.ServeEnd.TheVariants.{Served, PeerFault, DiskFault, Closed, Damaged, Memory}
 
@@ -37,12 +36,9 @@ service_of words =
     else None
 
 -- the status of a server that is not opened
-abbrev pub status_of_refusal : ServerError → ℕ
-status_of_refusal (refused.Journal journal.Disk) = 3
-status_of_refusal (refused.Journal journal.Closed) = 3
-status_of_refusal (refused.Journal (journal.Damaged offset)) = 7
-status_of_refusal (refused.Journal (journal.TooLong bytes)) = 3
-status_of_refusal (refused.Journal journal.Memory) = 4
+abbrev pub status_of_refusal : ServerOpenError → ℕ
+status_of_refusal refused.Disk = 3
+status_of_refusal (refused.Damaged offset) = 7
 status_of_refusal refused.Memory = 4
 
 -- the status that the end of a connection ends the server with, if it does

@@ -1,4 +1,4 @@
--- What the program takes from its surroundings, and how it ends where it does not begin.
+-- What the program takes from its surroundings, and how it ends if it does not begin.
 use Rattle.std.specs.Prelude.{◌==◌, ℕ, List, ◌++◌, Option, Some, None, Result, Ok, Err, cond, codes, string_len, String}
 use Rattle.std.specs.Str.{bytes_eq}
 use Rattle.std.specs.declared.env.VarError.{VarError}
@@ -15,7 +15,7 @@ status_of Failed = 3
 status_of InUse = 3
 status_of Memory = 4
 
--- the line that tells why it does not begin
+-- the line that says why it does not begin
 abbrev pub line_of : StartError → List ℕ
 line_of CommandLine = codes "tw: bad command line\n"
 line_of Failed = codes "tw: start failed\n"
@@ -32,7 +32,7 @@ part_of word =
     (cond (bytes_eq word (codes "server")) (Some Server)
     None))))
 
--- what a variable says: nothing where it is not set, or empty
+-- what a variable says: nothing if it is not set, or empty
 abbrev pub value_of : {Z : Type 0} → Result (String Z) VarError → Result (Option (String Z)) StartError
 value_of (Ok text) = cond (string_len text == 0) (Ok None) (Ok (Some text))
 value_of (Err variable.NotPresent) = Ok None

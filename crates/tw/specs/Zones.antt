@@ -8,12 +8,12 @@ use Rattle.tw_time.specs.declared.zone.ZoneError.TheVariants.{Rule}
 use Rattle.tw.specs.declared.start.StartError.{StartError}
 use Rattle.tw.specs.declared.start.StartError.TheVariants.{CommandLine, Memory}
 
--- the zone of a text, and a faulty command line where it is of none
+-- the zone of a text, and a faulty command line if it is of none
 abbrev pub ReadsRule : List ℕ → Result TimeZone StartError → Type 0
 ReadsRule text (Ok zone) = ReadsZone text (Ok zone)
 ReadsRule text (Err e) = (e ≡ CommandLine) × ReadsZone text (Err Rule)
 
--- the zone of a variable, which is UTC where it is not set
+-- the zone of a variable, which is UTC if it is not set
 abbrev pub ReadsVariable : {Z : Type 0} → Result (String Z) VarError → Result TimeZone StartError → Type 0
 ReadsVariable (Ok text) zone = ReadsRule (string_bytes text) zone
 ReadsVariable (Err variable.NotPresent) zone = zone ≡ Ok UTC

@@ -1,6 +1,6 @@
 // What `tw --help` and `tw --version` print.
 
-/// What the program is, its commands, and where its data lies.
+/// What the program is, its commands, and where its data is.
 pub const HELP: &str = "\
 tw keeps tasks and working hours, for people who use several machines.
 

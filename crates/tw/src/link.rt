@@ -1,5 +1,5 @@
 // A server at the other end of a TCP connection as a link.
-ghost use Rattle.std.specs.Prelude.{◌≡◌, OnOk, IsErrOf};
+ghost use Rattle.std.specs.Prelude.{◌≡◌, None, Err, OnOk, IsErrOf, IsSomeAnd};
 ghost use Rattle.tw_world.specs.Disk.{Rose};
 ghost use Rattle.tw_http.specs.Link.{IsExchange, IsAnswered};
 ghost use Rattle.tw_files.specs.Asked.{Asked};
@@ -9,18 +9,18 @@ use tw_files::{AskError, Dialer, Timer, ask};
 use tw_http::{Link, LinkError};
 
 /// A server by its host, a name or an address, and its port, with how many exchanges it was asked for and how many of
-/// them failed. Each exchange is a connection of its own. It tells nothing of what it brings.
+/// them failed. Each exchange is a connection of its own, and fails if there is no address. It tells nothing of what it brings.
 #[derive(Drop)]
 pub struct TcpLink<S: Dialer + Timer> {
     system: S,
-    address: Address,
+    address: Option<Address>,
     exchanges: u64,
     faults: u64,
 }
 
 impl<S: Dialer + Timer> TcpLink<S> {
     /// A link that was asked for no exchange.
-    pub fn new(system: S, address: Address) -> TcpLink<S>
+    pub fn new(system: S, address: Option<Address>) -> TcpLink<S>
         ensures { result ≡ record { system = system; address = address; exchanges = 0; faults = 0 } }
     {
         TcpLink {
@@ -46,18 +46,23 @@ impl<S: Dialer + Timer + Copy> Link for TcpLink<S> {
         ensures answered { IsAnswered tcp_model self.old self.new request.now reply.new.items result }
         ensures failed { IsErrOf result LinkError.Failed → Rose self.old.faults self.new.faults }
 
+        ensures unaddressed { self.old.address ≡ None → result ≡ Err LinkError.Failed }
         // A connection to the server's address got the request, and gave the reply.
-        ensures asked { OnOk result (Asked (S.is_of self.old.address.host self.old.address.port) S.leads_to S.has_shown
-            S.Stream.contents S.Stream.remaining request.now reply.new.items) }
+        ensures asked { OnOk result (IsSomeAnd self.old.address (λ address. Asked (S.is_of address.host address.port) S.leads_to S.has_shown
+            S.Stream.contents S.Stream.remaining request.now reply.new.items)) }
         ensures well { OnOk result (self.new.faults ≡ self.old.faults) }
     {
         self.exchanges = self.exchanges.saturating_add(1);
-        let host = self.address.host.as_str();
+        let Some(address) = &self.address else {
+            self.faults = self.faults.saturating_add(1);
+            return Err(LinkError::Failed);
+        };
+        let host = address.host.as_str();
         match ask(
             &self.system,
             self.system,
             host,
-            self.address.port,
+            address.port,
             request,
             reply,
         ) {

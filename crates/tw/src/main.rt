@@ -3,22 +3,22 @@
 //! the calls of `tw_cli`, `timew_cli` and `tw_server`, and ends with the status that they give.
 #![tactic(auto)]
 
-mod failing_link;
+mod disk;
 mod help;
-mod hours;
 mod link;
 mod print;
 mod server;
 mod server_words;
 mod settings;
 mod start;
-mod store;
 mod task;
+mod task_paths;
 mod timew;
+mod timew_paths;
 mod zone;
 
 use help::{HELP, VERSION};
-use print::{print, tell};
+use print::{print, print_error};
 use server::run_server;
 use start::{Part, StartError, part_of, take_first, words};
 use std::alloc::Global;
@@ -46,7 +46,7 @@ fn main(rt: HostRuntime) -> ExitCode {
     let alloc = rt.alloc();
     let status = match run(&rt, alloc) {
         Ok(status) => status,
-        Err(error) => tell(&rt, error),
+        Err(error) => print_error(&rt, error),
     };
     ExitCode::from(status)
 }

@@ -1,4 +1,4 @@
-// What the program itself prints and tells.
+// What the program itself prints, and its own errors.
 
 use crate::start::StartError;
 use tw_files::Stream;
@@ -13,7 +13,7 @@ pub fn print(rt: &HostRuntime, text: &str) -> u8 {
 }
 
 /// Writes to the standard error why the program ends, and gives the status to end with.
-pub fn tell(rt: &HostRuntime, error: StartError) -> u8 {
+pub fn print_error(rt: &HostRuntime, error: StartError) -> u8 {
     let _ = Stream::new(rt.stderr()).write_all(error.line().as_bytes());
     error.status()
 }

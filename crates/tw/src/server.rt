@@ -11,8 +11,7 @@ use std::io;
 use std::io::ErrorKind;
 use std::net::{Ipv4Addr, TcpListener, TcpStream};
 use tw_files::{Busy, Connection, Limits, StreamPeer, TimedStream, Timer, open_disk};
-use tw_journal::JournalError;
-use tw_server::{ServeEnd, Server, ServerError, serve_one};
+use tw_server::{ServeEnd, Server, ServerOpenError, serve_one};
 use tw_world::{Disk, IdWords};
 
 // A client that is silent, or not done in time, is cut off, and the next one is served.
@@ -22,8 +21,8 @@ const LIMITS: Limits = Limits {
 };
 
 /// Serves the sync protocol on a port of 127.0.0.1, one connection after another, and gives the program's status:
-/// 0 after the last connection, 3 where the file failed, 4 where there was no memory to read it, 5 where the port
-/// can't be listened on, 7 where the file is damaged. The file is not touched before the port is taken. A file that another
+/// 0 after the last connection, 3 if the file failed, 4 if there was no memory to read it, 5 if the port
+/// can't be listened on, 7 if the file is damaged. The file is not touched before the port is taken. A file that another
 /// program uses is an error.
 pub fn run_server(rt: &HostRuntime, alloc: Global, words: &Vec<String>) -> Result<u8, StartError> {
     let Some(service) = read_service(words) else {
@@ -97,19 +96,20 @@ fn serve_stream<D: Disk>(
     let mut peer = StreamPeer::new(connection);
     let end = serve_one(alloc, &mut peer, disk, server, ids);
     if let ServeEnd::Served { .. } = end {
-        peer.into_stream().close();
+        let mut connection = peer.into_stream();
+        connection.close();
     }
     end
 }
 
 // The status of a server that is not opened.
-fn status_of_refusal(error: ServerError) -> u8
+fn status_of_refusal(error: ServerOpenError) -> u8
     ensures { result ≡ status_of_refusal error }
 {
     match error {
-        ServerError::Journal(JournalError::Damaged { .. }) => 7,
-        ServerError::Journal(JournalError::Memory) | ServerError::Memory => 4,
-        ServerError::Journal(_) => 3,
+        ServerOpenError::Disk => 3,
+        ServerOpenError::Damaged { .. } => 7,
+        ServerOpenError::Memory => 4,
     }
 }
 

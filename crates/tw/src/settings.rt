@@ -9,7 +9,7 @@ use std::io::ErrorKind;
 use std::{fs, io};
 
 /// The bytes of the settings file, which `TASKRC` names, else `.taskrc` in the folder that `HOME` names. There are none
-/// where that file is not there, or neither variable is set.
+/// if that file is not there, or neither variable is set.
 pub fn settings(rt: &HostRuntime, alloc: Global) -> Result<Vec<u8>, StartError> {
     let taskrc = variable(rt, "TASKRC")?;
     let home = variable(rt, "HOME")?;

@@ -1,34 +1,37 @@
 // `tw timew`.
 
-use crate::hours::{database, journal_path, months_path};
+use crate::disk::disk_at;
 use crate::start::{StartError, moment, variable};
+use crate::timew_paths::{months_path, timew_folder, undo_path};
 use crate::zone::zone;
 use std::alloc::Global;
 use std::io::ErrorKind;
 use timew_cli::timew_run;
 use timew_cmd::{WordsError, read_words};
-use tw_files::{Busy, FailingFolder, Stream, open_disk, open_folder};
+use tw_files::{FailingFolder, Stream, open_folder};
 use tw_time::Zone;
 use tw_world::{Disk, FailingDisk, Folder, Moment};
 
-/// Does what the words behind `timew` ask for, and gives the program's status. Nothing is opened or made for bad words; the zone is
-/// judged before them. Where the journal's file or the folder can't be opened, it works on one whose every call fails.
+/// Does what the words after `timew` ask for, and gives the program's status. Nothing is opened or made for bad words; the zone is
+/// judged before them. If the journal's file or the folder can't be opened, it works on one whose every call fails.
 pub fn run_timew(rt: &HostRuntime, alloc: Global, words: &Vec<String>) -> Result<u8, StartError> {
     let zone = zone(rt)?;
     let now = moment(rt)?;
-    let database = database_of(rt, alloc)?;
-    if are_good(alloc, words, now, &zone)? {
-        over_journal(rt, alloc, words, now, &zone, database.as_str())
+    let folder = folder_of(rt, alloc)?;
+    let path = undo_path(alloc, folder.as_str())?;
+    // The journal's file is locked before the folder of the months is looked at.
+    let opened = if are_good(alloc, words, now, &zone)? {
+        disk_at(rt, path.as_str())?
     } else {
-        Ok(run_over(
-            rt,
-            alloc,
-            words,
-            now,
-            &zone,
-            &mut FailingFolder::new(),
-            &mut FailingDisk::new(),
-        ))
+        None
+    };
+    match opened {
+        Some(mut disk) => over_months(rt, alloc, words, now, &zone, folder.as_str(), &mut disk),
+        None => {
+            let mut months = FailingFolder::new();
+            let mut disk = FailingDisk::new();
+            Ok(run_over(rt, alloc, words, now, &zone, &mut months, &mut disk))
+        }
     }
 }
 
@@ -46,56 +49,30 @@ fn are_good(
     }
 }
 
-fn database_of(rt: &HostRuntime, alloc: Global) -> Result<String, StartError> {
+fn folder_of(rt: &HostRuntime, alloc: Global) -> Result<String, StartError> {
     let named = variable(rt, "TIMEWARRIORDB")?;
     let home = variable(rt, "HOME")?;
-    Ok(database(alloc, &named, &home)?)
+    Ok(timew_folder(alloc, &named, &home)?)
 }
 
-// The journal's file is locked before the folder is looked at.
-fn over_journal(
+// Carries the words out over the month files and a journal.
+fn over_months<D: Disk>(
     rt: &HostRuntime,
     alloc: Global,
     words: &Vec<String>,
     now: Moment,
     zone: &Zone,
-    database: &str,
-) -> Result<u8, StartError> {
-    let path = journal_path(alloc, database)?;
-    let mut system = rt;
-    match open_disk(&mut system, path.as_str(), Busy::Wait) {
-        Ok(mut journal) => over_folder(rt, alloc, words, now, zone, database, &mut journal),
-        Err(error) if error.kind() == ErrorKind::OutOfMemory => Err(StartError::Memory),
-        Err(_) => {
-            let mut journal = FailingDisk::new();
-            let mut folder = FailingFolder::new();
-            Ok(run_over(rt, alloc, words, now, zone, &mut folder, &mut journal))
-        }
-    }
-}
-
-fn over_folder<D: Disk>(
-    rt: &HostRuntime,
-    alloc: Global,
-    words: &Vec<String>,
-    now: Moment,
-    zone: &Zone,
-    database: &str,
+    folder: &str,
     journal: &mut D,
 ) -> Result<u8, StartError> {
-    let path = months_path(alloc, database)?;
+    let path = months_path(alloc, folder)?;
     match open_folder(alloc, rt, path.as_str()) {
-        Ok(mut folder) => Ok(run_over(rt, alloc, words, now, zone, &mut folder, journal)),
+        Ok(mut months) => Ok(run_over(rt, alloc, words, now, zone, &mut months, journal)),
         Err(error) if error.kind() == ErrorKind::OutOfMemory => Err(StartError::Memory),
-        Err(_) => Ok(run_over(
-            rt,
-            alloc,
-            words,
-            now,
-            zone,
-            &mut FailingFolder::new(),
-            journal,
-        )),
+        Err(_) => {
+            let mut months = FailingFolder::new();
+            Ok(run_over(rt, alloc, words, now, zone, &mut months, journal))
+        }
     }
 }
 
@@ -105,10 +82,10 @@ fn run_over<F: Folder, D: Disk>(
     words: &Vec<String>,
     now: Moment,
     zone: &Zone,
-    folder: &mut F,
+    months: &mut F,
     journal: &mut D,
 ) -> u8 {
     let mut out = Stream::new(rt.stdout());
     let mut err = Stream::new(rt.stderr());
-    timew_run(alloc, words, now, zone, folder, journal, &mut out, &mut err).status
+    timew_run(alloc, words, now, zone, months, journal, &mut out, &mut err).status
 }

@@ -6,7 +6,7 @@ use std::env;
 use std::env::VarError;
 use tw_time::Zone;
 
-/// The zone of the POSIX rule that the variable `TZ` holds (tzset(3)), and UTC where it is not set, or empty. Where it holds
+/// The zone of the POSIX rule that the variable `TZ` holds (tzset(3)), and UTC if it is not set, or empty. If it holds
 /// anything else, a zone's name among others, the command line is faulty.
 pub fn zone(rt: &HostRuntime) -> Result<Zone, StartError> {
     zone_of_variable(env::var(rt, "TZ"))

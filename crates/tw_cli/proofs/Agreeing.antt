@@ -15,8 +15,8 @@ use Rattle.tw_sync.specs.Fold.{Agrees}
 use Rattle.tw_sync.specs.Sync.{server_chain, IsEndIn}
 use Rattle.tw_sync.specs.declared.report.SyncReport.{SyncReport}
 use Rattle.tw_sync.proofs.Folds.{agrees_is_kept}
-use Rattle.tw_replica.proofs.Commits.{changes_are_group}
-use Rattle.tw_sync.proofs.Steps.{commit_agrees, undo_agrees}
+use Rattle.tw_replica.proofs.CommittedChanges.{changes_are_group}
+use Rattle.tw_sync.proofs.LocalSteps.{commit_agrees, undo_agrees}
 use Rattle.tw_sync.proofs.Ends.{sync_end_agrees}
 use Rattle.tw_world.specs.declared.ids.IdWords.{IdWords}
 use Rattle.tw_model.specs.declared.changes.Change.{Change}
@@ -42,7 +42,7 @@ use Rattle.tw_cli.specs.Agreement.{OpensAgreeing, AllAgree, AgreementStays}
 use Rattle.tw_cli.specs.declared.asked.Job.{Job}
 use Rattle.tw_cli.specs.declared.asked.Job.TheVariants.{Here, Sync, Generate}
 use Rattle.tw_cli.specs.declared.asked.LineError.{LineError}
-use Rattle.tw_words.specs.declared.server.ServerSettings.{ServerSettings}
+use Rattle.tw_words.specs.declared.settings.server.ServerSettings.{ServerSettings}
 use Rattle.tw_cli.specs.declared.cause.Cause.{Cause}
 use Rattle.tw_cli.specs.declared.cause.Cause.TheVariants.{Done, OutFault}
 use Rattle.tw_cli.proofs.Openings.{opens_one, leaves_either}

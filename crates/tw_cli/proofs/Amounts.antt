@@ -23,7 +23,7 @@ use Rattle.tw_words.specs.declared.word_error.WordError.{WordError}
 use Rattle.tw_words.specs.declared.word_error.WordError.TheVariants.{Bad}
 use Rattle.tw_commands.specs.declared.request.Request.{Request}
 use Rattle.tw_cli.specs.Asked.{syncing, job_by, job_judged, job_set, asked_by, HasFew}
-use Rattle.tw_words.specs.declared.server.ServerSettings.{ServerSettings}
+use Rattle.tw_words.specs.declared.settings.server.ServerSettings.{ServerSettings}
 use Rattle.tw_words.specs.Servers.{server_set}
 
 -- of two faults there is none

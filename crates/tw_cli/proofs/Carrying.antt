@@ -1,6 +1,6 @@
 -- What is known of a command behind an opening, before and after its step is written.
 use Rattle.std.proofs.Common.{◌≡◌, ◌⊎◌, inl, inr, ◌∙◌, ap, sym, subst, refl, List, ℕ, ◌++◌, ◌<◌, ◌≤◌, ◌^◌, false, Result, Ok, Err, IfOk, IfErr, arith}
-use Rattle.tw_world.specs.Disk.{DiskModel, Tells, Settled, Rose, Kept, LeavesOnly}
+use Rattle.tw_world.specs.Disk.{DiskModel, Tells, IsStable, Rose, FaultsRise, LeavesOnly}
 use Rattle.tw_world.specs.Source.{SourceModel}
 use Rattle.tw_world.specs.declared.ids.IdWords.{IdWords}
 use Rattle.tw_journal.specs.Journal.{IsOpenOn, is_closed}
@@ -11,11 +11,11 @@ use Rattle.tw_replica.specs.Opening.{IsOpenedReplica, opened_bodies}
 use Rattle.tw_replica.specs.Replica.{magic, OpensToEither, IsReplicaOn, held_state, is_replica_closed, OpeningRefused}
 use Rattle.tw_replica.specs.Prepared.{step_bodies, prepared_bodies, prepared_state, HasSize, RecordsOrAll, PreparedRefused}
 use Rattle.tw_replica.specs.declared.replica.Replica.{Replica}
-use Rattle.tw_replica.proofs.Preparing.{prepared_on, prepared_leaves}
+use Rattle.tw_replica.proofs.PreparedWritten.{prepared_on, prepared_leaves}
 use Rattle.tw_words.specs.declared.command.Command.{Command}
 use Rattle.tw_commands.specs.Carried.{Carried, carried_out}
 use Rattle.tw_commands.specs.Commands.{ids_after, MayHaveDrawn}
-use Rattle.tw_commands.specs.Ready.{IsReady, NotReady}
+use Rattle.tw_commands.specs.Ready.{IsDecided, DoesNothing}
 use Rattle.tw_commands.specs.declared.ready.Ready.{Ready}
 use Rattle.tw_commands.specs.declared.request.Request.{Request}
 use Rattle.tw_commands.specs.declared.refusal.Refusal.{Refusal}
@@ -105,16 +105,16 @@ module _ {D : Type 0} (m : DiskModel D) (request : Request) (ids : IdWords) wher
     can_in : (d1 : D) (can : CanBeCarriedOut m request ids d0 d1) → carried_out request ids (held_state old) ≡ Ok can.carried
     can_in d1 can = subst (λ s. carried_out request ids s ≡ Ok can.carried) (held_is m d0 mid old can.state (opened can.tells) can.opens) can.is
 
-    pub refuses : (refusal : Refusal) → NotReady request ids old refusal → Refuses m request ids d0 mid refusal
+    pub refuses : (refusal : Refusal) → DoesNothing request ids old refusal → Refuses m request ids d0 mid refusal
     refuses refusal why = record { state = held_state old; is = why; stays = stays_open m d0 mid old opened }
 
-    pub refuses_never : (refusal : Refusal) → NotReady request ids old refusal → CanBeCarriedOut m request ids d0 mid → ⊥
+    pub refuses_never : (refusal : Refusal) → DoesNothing request ids old refusal → CanBeCarriedOut m request ids d0 mid → ⊥
     refuses_never refusal why can =
         let there : carried_out request ids (held_state old) ≡ Ok can.carried = can_in mid can in
         let none : carried_out request ids (held_state old) ≡ Err refusal = why in
         absurd (cc)
 
-    module _ (d1 : D) (ready : Ready) (is : IsReady request ids old ready) where
+    module _ (d1 : D) (ready : Ready) (is : IsDecided request ids old ready) where
       -- what the command comes to
       come : Carried
       come = record { step = is.step; new = prepared_state ready.prepared; text = ready.text.items }
@@ -128,7 +128,7 @@ module _ {D : Type 0} (m : DiskModel D) (request : Request) (ids : IdWords) wher
       unfolding come
       shows_text new state opens = (record { old = held_state old; carried = come; is = comes; disk = λ tells. by (opened tells) }, refl)
         where
-          by : IsOpenedReplica m d0 mid old → HasMore (m.seen d0) (m.seen d1) (step_bodies is.step) (held_state old) (prepared_state ready.prepared) × Settled m d1
+          by : IsOpenedReplica m d0 mid old → HasMore (m.seen d0) (m.seen d1) (step_bodies is.step) (held_state old) (prepared_state ready.prepared) × IsStable m d1
           by o =
               let left : List (List ℕ) = opened_bodies (has_areas (m.seen d0)) (held_state old) o.bodies in
               let n : IsReplicaOn m new d1 (left ++ step_bodies is.step) = prepared_on m old is.step ready.prepared is.prepared left mid d1 o.now new state opens in
@@ -154,7 +154,7 @@ module _ {D : Type 0} (m : DiskModel D) (request : Request) (ids : IdWords) wher
           above_limit bytes refused.1 (can.fits bytes (subst (λ (c : Carried). HasSize (step_bodies c.step) bytes) same size))
 
       -- a write that fails
-      pub fails_later : Kept m d0 mid → PreparedRefused m ready.prepared mid d1 writes.Disk → Rose (m.faults d0) (m.faults d1)
+      pub fails_later : FaultsRise m d0 mid → PreparedRefused m ready.prepared mid d1 writes.Disk → Rose (m.faults d0) (m.faults d1)
       fails_later kept refused = rose_later (m.faults d0) (m.faults mid) (m.faults d1) kept.faults refused
 
       -- the journal of a replica that was opened is not closed

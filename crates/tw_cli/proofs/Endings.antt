@@ -12,11 +12,12 @@ use Rattle.tw_sync.specs.declared.error.SyncError.TheVariants as syncs
 use Rattle.tw_commands.specs.declared.request.Request.{Request}
 use Rattle.tw_commands.specs.declared.refusal.Refusal.{Refusal}
 use Rattle.tw_commands.specs.declared.refusal.Refusal.TheVariants as refusal
+use Rattle.tw_ending.specs.Ending.{EndsPrinting}
+use Rattle.tw_ending.specs.Ending.End.{Failed}
 use Rattle.tw_cli.specs.Cause.{end_of, open_cause, input_cause, refusal_cause, carry_cause, journal_cause, sync_cause, failure_cause}
-use Rattle.tw_cli.specs.Cause.End.{Failed}
-use Rattle.tw_cli.specs.Run.{NotCarried, GivesBy, Gives, EndsPrinting, IsDoneOrWant}
+use Rattle.tw_cli.specs.Run.{NotCarried, GivesBy, Gives, IsDoneOrWant}
 use Rattle.tw_cli.specs.Syncing.{NotSynced, SyncGivesBy, SyncGives}
-use Rattle.tw_words.specs.declared.server.ServerSettings.{ServerSettings}
+use Rattle.tw_words.specs.declared.settings.server.ServerSettings.{ServerSettings}
 use Rattle.tw_replica.specs.declared.error.OpenError.{OpenError}
 use Rattle.tw_replica.specs.declared.error.OpenError.TheVariants as opening
 use Rattle.tw_cli.specs.declared.input.InputError.{InputError}
@@ -90,10 +91,10 @@ failed_sync_gives m s links server d0 d1 o l0 l1 e cause is why =
 
 module _ {O : Type 0} (s : SinkModel O) (o0 o1 : O) (text : List ℕ) (cause : Cause) where
   -- what holds at both ends of a print holds at its end
-  pub at_end : (P : Cause → Type 0) → EndsPrinting s o0 o1 text cause → (Got s o0 o1 text → P Done) → (GotPart s o0 o1 text → Rose (s.faults o0) (s.faults o1) → P OutFault) → P cause
+  pub at_end : (P : Cause → Type 0) → EndsPrinting s o0 o1 text Done OutFault cause → (Got s o0 o1 text → P Done) → (GotPart s o0 o1 text → Rose (s.faults o0) (s.faults o1) → P OutFault) → P cause
   at_end P (inl done) whole part = subst P (sym done.0) (whole done.1)
   at_end P (inr failed) whole part = subst P (sym failed.0) (part failed.1 failed.2)
 
-  pub ends_well : EndsPrinting s o0 o1 text cause → (Rose (s.faults o0) (s.faults o1) → ⊥) → IsDoneOrWant cause
+  pub ends_well : EndsPrinting s o0 o1 text Done OutFault cause → (Rose (s.faults o0) (s.faults o1) → ⊥) → IsDoneOrWant cause
   ends_well (inl done) well = inl done.0
   ends_well (inr failed) well = absurd (well failed.2)

@@ -1,7 +1,7 @@
 -- A run is an event of a world.
 use Rattle.std.proofs.Common.{◌≡◌, ◌⊎◌, inl, inr, ⊎_elim, ◌∙◌, refl, sym, ap, subst, ℕ, List, [], ◌∷◌, ◌++◌, IsTrue, Option, Some, None, Result, Ok, Err}
 use Rattle.std.proofs.lemmas.List.{append-nil}
-use Rattle.tw_world.specs.Disk.{DiskModel, Tells, Settled, LeavesOnly}
+use Rattle.tw_world.specs.Disk.{DiskModel, Tells, IsStable, LeavesOnly}
 use Rattle.tw_world.specs.Sink.{SinkModel}
 use Rattle.tw_world.specs.Source.{SourceModel}
 use Rattle.tw_world.specs.declared.ids.IdWords.{IdWords}
@@ -17,12 +17,12 @@ use Rattle.tw_replica.specs.State.{State, applied, undone}
 use Rattle.tw_replica.specs.Prepared.{step_bodies}
 use Rattle.tw_replica.specs.Replica.{magic, OpensTo, OpensToEither}
 use Rattle.tw_replica.specs.Opening.{IsOpening, opened_bodies}
-use Rattle.tw_replica.proofs.Commits.{changes_are_group}
+use Rattle.tw_replica.proofs.CommittedChanges.{changes_are_group}
 use Rattle.tw_sync.specs.Answers.{IsLinkKept}
 use Rattle.tw_sync.specs.Sync.{server_chain, IsEndIn}
 use Rattle.tw_sync.specs.World.{IsAmong, IsCommit, Makes, with_next, Runs}
 use Rattle.tw_sync.specs.declared.report.SyncReport.{SyncReport}
-use Rattle.tw_words.specs.declared.server.ServerSettings.{ServerSettings}
+use Rattle.tw_words.specs.declared.settings.server.ServerSettings.{ServerSettings}
 use Rattle.tw_commands.specs.Marks.{mask_changes}
 use Rattle.tw_commands.specs.Plan.{Plan, Work, step_in}
 use Rattle.tw_commands.specs.Plan.Work.{Changes, TakeBack}
@@ -34,8 +34,9 @@ use Rattle.tw_commands.proofs.Applied.{by_plan}
 use Rattle.tw_cli.specs.Opening.{HasMore}
 use Rattle.tw_cli.specs.Input.{with_input}
 use Rattle.tw_cli.specs.Run.{CarriedOut, GivesBy}
-use Rattle.tw_cli.specs.Cause.{End, end_of}
-use Rattle.tw_cli.specs.Cause.End.{Well, Output, Failed}
+use Rattle.tw_ending.specs.Ending.{End}
+use Rattle.tw_ending.specs.Ending.End.{Well, Output, Failed}
+use Rattle.tw_cli.specs.Cause.{end_of}
 use Rattle.tw_cli.specs.Crash.{LeavesRecords, IsStepOf, LeavesEither, LeavesCommand, LeavesOneEnd, LeavesSync, new_of, next_of}
 use Rattle.tw_cli.specs.Syncing.{Synced, SyncGivesBy}
 use Rattle.tw_cli.specs.Whole.{went, RunGives, RunLeaves, IsHonestFor, IsRun}
@@ -142,7 +143,7 @@ module _ {D : Type 0} (m : DiskModel D) (d0 d1 : D) (states : List State) (stand
     }
 
     -- it was carried out: the disk is settled, and opens to what the run makes
-    ends_well : (one : State) → Makes chain now seen.0 (Some one) → Settled m d1 → OpensTo (m.seen d1) one → (next : Option State) → Makes chain now seen.0 next → LeavesOnly m d0 d1 (OpensAmong (with_next states next)) → RunsOn m d0 d1 opens cause chain now states
+    ends_well : (one : State) → Makes chain now seen.0 (Some one) → IsStable m d1 → OpensTo (m.seen d1) one → (next : Option State) → Makes chain now seen.0 next → LeavesOnly m d0 d1 (OpensAmong (with_next states next)) → RunsOn m d0 d1 opens cause chain now states
     ends_well one makes settled there next cut_makes leaves = record {
       left = one ∷ [];
       runs = record { state = seen.0; among = seen.1; next = Some one; makes = makes; leaves = inr (one, refl, refl); grows = grows; served = served };
@@ -155,8 +156,8 @@ module _ {D : Type 0} (m : DiskModel D) (d0 d1 : D) (states : List State) (stand
 
     -- what is known at an end
     abbrev pub IsKnownAt : End → Type 0
-    IsKnownAt Well = (one : State) × Makes chain now seen.0 (Some one) × Settled m d1 × OpensTo (m.seen d1) one
-    IsKnownAt Output = (one : State) × Makes chain now seen.0 (Some one) × Settled m d1 × OpensTo (m.seen d1) one
+    IsKnownAt Well = (one : State) × Makes chain now seen.0 (Some one) × IsStable m d1 × OpensTo (m.seen d1) one
+    IsKnownAt Output = (one : State) × Makes chain now seen.0 (Some one) × IsStable m d1 × OpensTo (m.seen d1) one
     IsKnownAt Failed = Unit {0}
 
     not_done : end_of cause ≡ Failed → (cause ≡ Done) ⊎ (cause ≡ OutFault) → ⊥
@@ -185,7 +186,7 @@ module _ {D S O L : Type 0} (m : DiskModel D) (sources : SourceModel S) (s : Sin
   opened_is more old new h = opens_one (m.seen d0) old here.0 (record { bodies = h.bodies; records = h.had; stands = h.stood }) here.2
 
   -- a command
-  carried_known : (chain : List Version) (request : Request) (ids : IdWords) → CarriedOut m request ids d0 d1 → (one : State) × Makes chain chain here.0 (Some one) × Settled m d1 × OpensTo (m.seen d1) one
+  carried_known : (chain : List Version) (request : Request) (ids : IdWords) → CarriedOut m request ids d0 d1 → (one : State) × Makes chain chain here.0 (Some one) × IsStable m d1 × OpensTo (m.seen d1) one
   carried_known chain request ids run =
       let has = run.disk tells in
       let is : run.old ≡ here.0 = opened_is (step_bodies run.carried.step) run.old run.carried.new has.0 in
@@ -209,7 +210,7 @@ module _ {D S O L : Type 0} (m : DiskModel D) (sources : SourceModel S) (s : Sin
   end_makes state None end = tt
   end_makes state (Some next) end = inr (inr (record { own = links.own l0; own_now = links.own l1; report = end.0; ended = end.1 }))
 
-  synced_known : (server : ServerSettings) (report : SyncReport) → IsHonest links l0 server.client → Synced m links server d0 d1 l0 l1 report → (one : State) × Makes (links.chain l0) (links.chain l1) here.0 (Some one) × Settled m d1 × OpensTo (m.seen d1) one
+  synced_known : (server : ServerSettings) (report : SyncReport) → IsHonest links l0 server.client → Synced m links server d0 d1 l0 l1 report → (one : State) × Makes (links.chain l0) (links.chain l1) here.0 (Some one) × IsStable m d1 × OpensTo (m.seen d1) one
   synced_known server report honest run =
       let has = run.disk tells in
       let is : run.old ≡ here.0 = opened_is has.bodies run.old run.new has.more in

@@ -15,11 +15,11 @@ use Rattle.tw_replica.specs.declared.error.OpenError.TheVariants as opening
 use Rattle.tw_replica.proofs.Replaying.{opens_as_before}
 use Rattle.tw_sync.specs.declared.error.SyncError.{SyncError}
 use Rattle.tw_sync.specs.declared.error.SyncError.TheVariants as syncs
-use Rattle.tw_words.specs.declared.server.ServerSettings.{ServerSettings}
+use Rattle.tw_words.specs.declared.settings.server.ServerSettings.{ServerSettings}
 use Rattle.tw_commands.specs.declared.request.Request.{Request}
 use Rattle.tw_cli.specs.Opening.{Stays, KeepsState}
 use Rattle.tw_cli.specs.Cause.{open_cause, carry_cause, sync_cause, failure_cause}
-use Rattle.tw_cli.specs.Cause.End.{Failed}
+use Rattle.tw_ending.specs.Ending.End.{Failed}
 use Rattle.tw_cli.specs.Run.{NotCarried, GivesBy}
 use Rattle.tw_cli.specs.Syncing.{SyncEnds, NotSynced, SyncGivesBy}
 use Rattle.tw_cli.specs.Whole.{went, RunGives}

@@ -10,7 +10,7 @@ use Rattle.tw_words.specs.Lines.{Parts, parts_of_line}
 use Rattle.tw_words.specs.Settings.{Pair, settings_in}
 use Rattle.tw_words.specs.Servers.{server_set}
 use Rattle.tw_words.specs.Faults.{judged, number_behind}
-use Rattle.tw_words.specs.declared.server.ServerSettings.{ServerSettings}
+use Rattle.tw_words.specs.declared.settings.server.ServerSettings.{ServerSettings}
 use Rattle.tw_words.specs.declared.command.Command.{Command}
 use Rattle.tw_words.specs.declared.command.Command.TheVariants as command
 use Rattle.tw_words.specs.declared.word_error.WordError.{WordError}
@@ -21,12 +21,13 @@ use Rattle.tw_cli.specs.declared.asked.Job.TheVariants.{Here, Sync, Generate}
 use Rattle.tw_cli.specs.declared.asked.LineError.{LineError}
 use Rattle.tw_cli.specs.declared.asked.LineError.TheVariants.{Words, NoServer}
 
--- a sync, where a server is known
+-- a sync, if a server is known
 abbrev pub syncing : Option ServerSettings → Result Job LineError
 syncing None = Err NoServer
 syncing (Some server) = Ok (Sync server)
 
--- what a request asks for, by its command: `sync` is with the server that its settings name, `_generate` is in memory, and every other command is over the store
+-- what a request asks for, by its command: `sync` is with the server that its settings name, `_generate` is in memory,
+-- and every other command is over the store
 abbrev pub job_by : Command → Request → Result Job LineError
 job_by command.Sync request = syncing (server_set request.settings)
 job_by command.Generate request = Ok (Generate request)
@@ -43,7 +44,7 @@ abbrev pub job_set : Parts → Moment → Bor Zone → Result (List Pair) WordEr
 job_set line now zone (Err error) = Err (Words error)
 job_set line now zone (Ok settings) = job_judged line settings now zone (judged line now.seconds zone.now)
 
--- what a line asks for with these bytes of settings, behind which its overrides count
+-- what a line asks for with these bytes of settings, after which its overrides count
 abbrev pub job_of : Parts → (settings : List ℕ) → Moment → Bor Zone → Result Job LineError
 job_of line settings now zone = job_set line now zone (settings_in settings line.overrides)
 

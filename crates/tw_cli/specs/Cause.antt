@@ -1,5 +1,7 @@
 -- What a cause says, and the cause that each error becomes.
 use Rattle.std.specs.Prelude.{Bool, true, false, Result, Ok, Err}
+use Rattle.tw_ending.specs.Ending.{End}
+use Rattle.tw_ending.specs.Ending.End.{Well, Output, Failed}
 use Rattle.tw_journal.specs.declared.error.AppendError.{AppendError}
 use Rattle.tw_journal.specs.declared.error.AppendError.TheVariants as journal
 use Rattle.tw_sync.specs.declared.error.SyncError.{SyncError}
@@ -18,23 +20,17 @@ use Rattle.tw_cli.specs.declared.carry.CarryError.TheVariants as carry
 use Rattle.tw_cli.specs.declared.syncing.SyncFailure.{SyncFailure}
 use Rattle.tw_cli.specs.declared.syncing.SyncFailure.TheVariants as failure
 use Rattle.tw_cli.specs.declared.cause.Cause.{Cause}
-use Rattle.tw_cli.specs.declared.cause.Cause.TheVariants.{Done, NoMatch, NothingToUndo, BadWords, BadSetting, NoServer, IdTaken, Cycle, DiskFault, RecordTooLong, Memory, LinkFault, BadReply, Gone, Busy, OutOfSync, BadSegment, SegmentTooLong, PullTooLong, OutFault, Damaged, InFault, InputTooLong, BadInput}
+use Rattle.tw_cli.specs.declared.cause.Cause.TheVariants.{Done, NoMatch, NothingToUndo, BadWords, BadSetting, NoServer, IdTaken, Cycle}
+use Rattle.tw_cli.specs.declared.cause.Cause.TheVariants.{DiskFault, RecordTooLong, Memory, LinkFault, BadReply, Gone, Busy, OutOfSync}
+use Rattle.tw_cli.specs.declared.cause.Cause.TheVariants.{BadSegment, SegmentTooLong, PullTooLong, OutFault, Damaged, InFault, InputTooLong, BadInput}
 
--- how a run ends
-pub data End : Type 0 where
-  -- it was carried out and printed
-  Well : End
-  -- it was carried out, and the output failed
-  Output : End
-  -- it was not carried out
-  Failed : End
-
+-- how a run ends with this cause
 abbrev pub end_of : Cause → End
 end_of Done = Well
 end_of OutFault = Output
 end_of cause = Failed
 
--- whether the record may stand after it
+-- whether the record may be there after it
 abbrev pub may_write : Cause → Bool
 may_write Done = true
 may_write OutFault = true

@@ -1,11 +1,12 @@
 -- A run as an event of a world.
 use Rattle.std.specs.Prelude.{◌≡◌, ◌⊎◌, ℕ, List, [], ◌∷◌, Result, Ok, Err}
-use Rattle.tw_world.specs.Disk.{DiskModel, LeavesOnly}
+use Rattle.tw_world.specs.Disk.{DiskModel, Tells, LeavesOnly}
 use Rattle.tw_protocol.specs.Chain.{Version}
 use Rattle.tw_http.specs.Link.{LinkModel}
 use Rattle.tw_replica.specs.State.{State}
 use Rattle.tw_replica.specs.Replica.{OpensTo}
 use Rattle.tw_sync.specs.World.{IsAmong, Runs}
+use Rattle.tw_cli.specs.Whole.{Outside, IsHonestFor}
 use Rattle.tw_cli.specs.declared.asked.Job.{Job}
 use Rattle.tw_cli.specs.declared.asked.Job.TheVariants.{Here, Sync, Generate}
 use Rattle.tw_cli.specs.declared.asked.LineError.{LineError}
@@ -20,7 +21,7 @@ OpensAmong states file = (state : State) × IsAmong states state × OpensTo file
 abbrev pub StandsFor : {D : Type 0} → DiskModel D → D → List State → Type 0
 StandsFor m disk states = (file : List ℕ) → m.leaves disk file → OpensAmong states file
 
--- the chains of the world before and after a run: those that the link of a sync tells, and else one
+-- the chains of the world before and after a run: those that the link of a sync tells, or else one
 abbrev pub IsChainFor : {L : Type 0} → LinkModel L → Result Job LineError → (l0 l1 : L) → (chain now : List Version) → Type 0
 IsChainFor links (Ok (Here request)) l0 l1 chain now = now ≡ chain
 IsChainFor links (Ok (Sync server)) l0 l1 chain now = (chain ≡ links.chain l0) × (now ≡ links.chain l1)
@@ -45,3 +46,8 @@ pub record RunsOn {D : Type 0} (m : DiskModel D) (d0 d1 : D) (opens : Type 0) (c
   pub cut : List State
   pub cut_off : Runs chain now states cut
   pub any_moment : LeavesOnly m d0 d1 (OpensAmong cut)
+
+-- in each world in which the disk stands for some states, the run is an event
+abbrev pub IsEvent : {D S O L : Type 0} → DiskModel D → LinkModel L → Result Job LineError → Outside D S O L → Cause → Type 0
+IsEvent m links asked w cause = (chain now : List Version) (states : List State) → Tells m w.d0 → IsHonestFor links asked w.l0 → StandsFor m w.d0 states
+    → IsChainFor links asked w.l0 w.l1 chain now → RunsOn m w.d0 w.d1 (OpensReplica asked) cause chain now states

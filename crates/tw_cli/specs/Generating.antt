@@ -6,8 +6,9 @@ use Rattle.tw_words.specs.Faults.{number_behind}
 use Rattle.tw_words.specs.Weights.{weights}
 use Rattle.tw_generate.specs.Generated.{IsGenerated}
 use Rattle.tw_commands.specs.declared.request.Request.{Request}
-use Rattle.tw_cli.specs.Cause.{End, end_of}
-use Rattle.tw_cli.specs.Cause.End.{Well, Output, Failed}
+use Rattle.tw_ending.specs.Ending.{End}
+use Rattle.tw_ending.specs.Ending.End.{Well, Output, Failed}
+use Rattle.tw_cli.specs.Cause.{end_of}
 use Rattle.tw_cli.specs.declared.cause.Cause.{Cause}
 use Rattle.tw_cli.specs.declared.cause.Cause.TheVariants.{Memory}
 

@@ -16,13 +16,13 @@ max_input = 67108864
 abbrev pub with_input : Request → List ℕ → Request
 with_input request bytes = record request { input = bytes }
 
--- so many bytes were read and put behind others: none only at the end
+-- so many bytes were read and put after others: none only at the end
 pub record ReadMore {S : Type 0} (m : SourceModel S) (i0 i1 : S) (before after : List ℕ) (count : ℕ) : Type 0 where
   pub longer : length after ≡ length before + count
   pub all : TellsRest m i0 → after ++ m.rest i1 ≡ before ++ m.rest i0
   pub end : TellsRest m i0 → count ≡ 0 → m.rest i1 ≡ []
 
--- why no bytes were put behind others
+-- why no bytes were put after others
 abbrev pub NotReadMore : {S : Type 0} → SourceModel S → (i0 i1 : S) → InputError → Type 0
 NotReadMore m i0 i1 Fault = Rose (m.faults i0) (m.faults i1)
 NotReadMore m i0 i1 TooLong = ⊥

@@ -6,11 +6,11 @@ use Rattle.tw_replica.specs.State.{State, Stands}
 use Rattle.tw_replica.specs.Replica.{magic, SameState}
 use Rattle.tw_replica.specs.Opening.{opened_bodies}
 use Rattle.tw_cli.specs.Cause.{end_of}
-use Rattle.tw_cli.specs.Cause.End.{Failed}
+use Rattle.tw_ending.specs.Ending.End.{Failed}
 use Rattle.tw_cli.specs.declared.cause.Cause.{Cause}
 use Rattle.tw_cli.specs.declared.cause.Cause.TheVariants.{DiskFault}
 
--- a file's records stood for a state, and now these stand behind those that its opening leaves, and all stand for another
+-- a file's records stood for a state; now these come after those that its opening leaves, and all stand for another state
 pub record HasMore (before after : List ℕ) (more : List (List ℕ)) (old new : State) : Type 0 where
   pub bodies : List (List ℕ)
   pub had : Records magic before bodies

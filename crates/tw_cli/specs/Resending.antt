@@ -15,10 +15,10 @@ pub record HasAppended (old new : State) (later : List SyncOp) : Type 0 where
   pub start : start_of new ≡ start_of old
   pub pending : plain new.pending ≡ plain old.pending ++ later
 
--- where a refused sync added a version, and operations were appended since, it is the version of which a sync that ends sends nothing again
+-- A refused sync added a version, and operations were appended since: a sync that ends sends nothing of that version again
 abbrev pub AddedIsNotSentAgain : Type 0
-AddedIsNotSentAgain = (old new : State) (before after : ServerChain) (chain : List Version) (later : List SyncOp) (added : AddedOne old before after) → Grows after.chain chain → HasAppended old new later
-    → (was : WasAdded new chain (plain old.pending) later) × (was.v ≡ added.v)
+AddedIsNotSentAgain = (old new : State) (before after : ServerChain) (chain : List Version) (later : List SyncOp) (added : AddedOne old before after)
+    → Grows after.chain chain → HasAppended old new later → (was : WasAdded new chain (plain old.pending) later) × (was.v ≡ added.v)
 
 -- a commit appends its operations
 abbrev pub CommitAppends : Type 0

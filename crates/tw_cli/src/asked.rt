@@ -65,7 +65,7 @@ fn job_by<'a>(alloc: Global, request: Request<'a>) -> Result<Job<'a>, LineError>
     }
 }
 
-/// What the words ask for, or why nothing is done: the first line of the settings that is none, the first word that is wrong whatever the
+/// What the words ask for, or why nothing is done: the first line of the settings that is no setting, the first word that is wrong whatever the
 /// tasks are, or a sync without a server.
 pub(crate) fn asked<'a>(
     alloc: Global,
@@ -90,7 +90,7 @@ pub(crate) fn asked<'a>(
     job_by(alloc, request)
 }
 
-/// Whether the words ask for something that the store is needed for: not where they or the settings are wrong, nor for `_generate`.
+/// Whether the words ask for something that needs the store: not if they or the settings are wrong, nor for `_generate`.
 pub fn needs_store(
     alloc: Global,
     words: &Vec<String>,
@@ -107,7 +107,7 @@ pub fn needs_store(
     }
 }
 
-// Whether the store is needed for what is to be done.
+// Whether what is to be done needs the store.
 fn is_for_store(job: &Job<'_>) -> bool
     ensures { result ≡ needs_store (Ok job.now) }
 {

@@ -1,6 +1,6 @@
 // Carrying a command out: the engine that all commands share.
 ghost use Rattle.std.specs.Prelude.{◌≡◌, IfOk, IfErr};
-ghost use Rattle.tw_world.specs.Disk.{Kept};
+ghost use Rattle.tw_world.specs.Disk.{FaultsRise};
 ghost use Rattle.tw_cli.specs.Cause.{carry_cause, ended};
 ghost use Rattle.tw_cli.specs.Input.{IsInputKept};
 ghost use Rattle.tw_cli.specs.Run.{NotCarried, Shows, CanCarryOut, Gives, CanEnd, Draws, IsDoneOrWant};
@@ -9,9 +9,9 @@ ghost use Rattle.tw_cli.specs.Crash.{LeavesCommand};
 use crate::cause::Cause;
 use crate::input::{InputError, command_of, take_input, with_input};
 use crate::opening::{leave, open};
-use crate::printing::print;
 use std::alloc::Global;
 use tw_commands::{Ready, Refusal, Request, decide};
+use tw_ending::print;
 use tw_replica::{OpenError, WriteError};
 use tw_world::{Disk, IdWords, Sink, Source};
 
@@ -26,7 +26,7 @@ pub(crate) enum CarryError {
     Refused(Refusal),
     /// The record would have so many bytes, which are too many.
     TooLong { bytes: u64 },
-    /// The disk failed while the record was written, which may stand or not.
+    /// The disk failed while the record was written, which may be there or not.
     Disk,
     /// There was no memory once the replica was open. The records stay.
     Memory,
@@ -48,7 +48,7 @@ fn carry_out<D: Disk, S: Source>(
     ensures any_moment { LeavesCommand D.model S.model request.entry ids.old disk.old disk.new input.old input.new
         (ended carry_cause result) }
     ensures ids { Draws D.model S.model request.entry disk.old input.old input.new ids.old ids.new (ended carry_cause result) }
-    ensures kept { Kept D.model disk.old disk.new }
+    ensures kept { FaultsRise D.model disk.old disk.new }
     ensures input_kept { IsInputKept S.model request.entry.line.command input.old input.new }
 {
     let replica = match open(alloc, disk) {
@@ -92,11 +92,11 @@ pub(crate) fn run_command<D: Disk, S: Source, O: Sink>(
         O.model out.old out.new → IsDoneOrWant result }
     ensures any_moment { LeavesCommand D.model S.model request.entry ids.old disk.old disk.new input.old input.new result }
     ensures ids { Draws D.model S.model request.entry disk.old input.old input.new ids.old ids.new result }
-    ensures kept { Kept D.model disk.old disk.new }
+    ensures kept { FaultsRise D.model disk.old disk.new }
     ensures input_kept { IsInputKept S.model request.entry.line.command input.old input.new }
 {
     match carry_out(alloc, request, ids, disk, input) {
-        Ok(text) => print(out, text.as_slice()),
+        Ok(text) => print(out, text.as_slice(), Cause::Done, Cause::OutFault),
         Err(error) => Cause::from(error),
     }
 }

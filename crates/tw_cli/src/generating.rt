@@ -1,14 +1,14 @@
 // `_generate`, over replicas and a server in memory.
 ghost use Rattle.std.specs.Prelude.{◌≤◌};
-ghost use Rattle.tw_world.specs.Disk.{Rose};
+ghost use Rattle.tw_ending.specs.Ending.{HasNotFailed};
 ghost use Rattle.tw_words.specs.Faults.{number_behind};
 ghost use Rattle.tw_cli.specs.Generating.{GenerateGives};
 ghost use Rattle.tw_cli.specs.Run.{IsDoneOrWant};
 
 use crate::cause::Cause;
-use crate::printing::print;
 use std::alloc::Global;
 use tw_commands::Request;
+use tw_ending::print;
 use tw_generate::generate;
 use tw_world::Sink;
 
@@ -16,7 +16,7 @@ use tw_world::Sink;
 pub(crate) fn run_generate<O: Sink>(alloc: Global, request: &Request<'_>, out: &mut O) -> Cause
     requires { number_behind request.now.line 0 ≤ 10000 }
     ensures gives { GenerateGives O.model request.now out.old out.new result }
-    ensures complete { (Rose (O.model.faults out.old) (O.model.faults out.new) → ⊥) → IsDoneOrWant result }
+    ensures complete { HasNotFailed O.model out.old out.new → IsDoneOrWant result }
 {
     let weights = request.settings.weights();
     match generate(
@@ -25,7 +25,7 @@ pub(crate) fn run_generate<O: Sink>(alloc: Global, request: &Request<'_>, out: &
         request.line.number(1),
         &weights,
     ) {
-        Ok(text) => print(out, text.as_slice()),
+        Ok(text) => print(out, text.as_slice(), Cause::Done, Cause::OutFault),
         Err(_) => Cause::Memory,
     }
 }

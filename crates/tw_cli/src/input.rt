@@ -25,7 +25,7 @@ pub(crate) enum InputError {
     Memory,
 }
 
-// Puts the front of a buffer behind what was read.
+// Puts the front of a buffer after what was read.
 fn push_front(bytes: &mut Vec<u8>, buffer: &[u8], count: u64) -> Result<(), Memory>
     requires { count ≤ length buffer.now }
     ensures { OnOk result (bytes.new.items ≡ bytes.old.items ++ take count buffer.now) }
@@ -34,7 +34,7 @@ fn push_front(bytes: &mut Vec<u8>, buffer: &[u8], count: u64) -> Result<(), Memo
     Ok(())
 }
 
-// Reads once, and puts what came behind what was read. Answers how many bytes came: none only at the end.
+// Reads once, and puts what came after what was read. Answers how many bytes came: none only at the end.
 fn read_piece<S: Source>(
     input: &mut S,
     bytes: &mut Vec<u8>,

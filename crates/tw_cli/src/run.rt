@@ -1,20 +1,18 @@
 // One command line over a disk and streams.
-ghost use Rattle.std.specs.Prelude.{◌≡◌, List};
-ghost use Rattle.tw_world.specs.Disk.{Kept, Tells};
+ghost use Rattle.std.specs.Prelude.{◌≡◌};
+ghost use Rattle.tw_world.specs.Disk.{FaultsRise, Tells};
 ghost use Rattle.tw_sync.specs.Answers.{IsLinkKept};
 ghost use Rattle.tw_cli.specs.Opening.{KeepsState};
-ghost use Rattle.tw_cli.specs.Fault.{Told, status_of};
+ghost use Rattle.tw_cli.specs.Fault.{GotFault, status_of};
 ghost use Rattle.tw_cli.specs.Asked.{asked_by};
 ghost use Rattle.tw_cli.specs.Whole.{went, RunGives, EndsWell, RunLeaves, IsHonestFor, ChainGrows, RunDraws, RunKeepsInput, IsRun};
-ghost use Rattle.tw_protocol.specs.Chain.{Version};
-ghost use Rattle.tw_replica.specs.State.{State};
 ghost use Rattle.tw_cli.specs.Agreement.{AgreementStays};
-ghost use Rattle.tw_cli.specs.Events.{StandsFor, IsChainFor, OpensReplica, RunsOn};
+ghost use Rattle.tw_cli.specs.Events.{IsEvent};
 
 use crate::asked::{Job, asked};
 use crate::carry::run_command;
 use crate::cause::{Cause, Outcome, status_of};
-use crate::fault::tell;
+use crate::fault::put_fault;
 use crate::generating::run_generate;
 use crate::syncing::run_sync;
 use std::alloc::Global;
@@ -22,7 +20,7 @@ use tw_http::Link;
 use tw_time::Zone;
 use tw_world::{Disk, IdWords, Moment, Sink, Source};
 
-// Runs a command line, and tells of nothing.
+// Runs a command line, and writes nothing on the standard error.
 fn run_words<D: Disk, L: Link, S: Source, O: Sink>(
     alloc: Global,
     words: &Vec<String>,
@@ -48,7 +46,7 @@ fn run_words<D: Disk, L: Link, S: Source, O: Sink>(
 
 /// Does what `tw task` does with these words and settings, at this moment in this zone: reads the settings, with the overrides
 /// among the words, and judges the words, opens the replica that the disk holds, writes at most one record, prints to `out`, and
-/// tells of any other end than `Done` on `err`. The record is written before anything is printed. Only `sync` uses the link, and only
+/// writes a line on `err` for any other end than `Done`. The record is written before anything is printed. Only `sync` uses the link, and only
 /// `import` the input, of which it reads at most 67,108,864 bytes and one more. `_generate` is in memory, and leaves the disk as it was.
 pub fn task_run<D: Disk, L: Link, S: Source, O: Sink, E: Sink>(
     alloc: Global,
@@ -76,24 +74,23 @@ pub fn task_run<D: Disk, L: Link, S: Source, O: Sink, E: Sink>(
     ensures agrees { Tells D.model disk.old → IsHonestFor L.model (asked_by words.now settings.now now zone.entry) link.old
         → AgreementStays D.model L.model (went disk.old disk.new input.old input.new out.old out.new link.old link.new) result.cause }
     // So it is an event of each world in which the disk stands for some states, and so is what a crash leaves of it.
-    ensures world { (chain : List Version) (now_chain : List Version) (states : List State) → Tells D.model disk.old → IsHonestFor L.model (asked_by words.now settings.now now zone.entry) link.old
-        → StandsFor D.model disk.old states → IsChainFor L.model (asked_by words.now settings.now now zone.entry) link.old link.new chain now_chain
-        → RunsOn D.model disk.old disk.new (OpensReplica (asked_by words.now settings.now now zone.entry)) result.cause chain now_chain states }
+    ensures world { IsEvent D.model L.model (asked_by words.now settings.now now zone.entry)
+        (went disk.old disk.new input.old input.new out.old out.new link.old link.new) result.cause }
     ensures grows { ChainGrows D.model S.model O.model L.model (asked_by words.now settings.now now zone.entry)
         (went disk.old disk.new input.old input.new out.old out.new link.old link.new) }
 
     ensures ids { RunDraws D.model S.model (asked_by words.now settings.now now zone.entry) disk.old input.old input.new
         ids.old ids.new result.cause }
-    ensures told { Told E.model err.old err.new result.cause }
+    ensures told { GotFault E.model err.old err.new result.cause }
     ensures status { result.status ≡ status_of result.cause }
-    ensures kept { Kept D.model disk.old disk.new }
+    ensures kept { FaultsRise D.model disk.old disk.new }
     ensures link_kept { IsLinkKept L.model link.old link.new }
     ensures input_kept { RunKeepsInput S.model (asked_by words.now settings.now now zone.entry) input.old input.new }
 {
     let cause = run_words(
         alloc, words, settings, now, zone, ids, disk, link, input, out,
     );
-    tell(err, &cause);
+    put_fault(err, &cause);
     Outcome {
         status: status_of(&cause),
         cause,

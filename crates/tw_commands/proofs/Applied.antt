@@ -1,6 +1,7 @@
 -- What a command comes to is its step, taken.
-use Rattle.std.proofs.Common.{◌≡◌, ◌∙◌, ap, sym, refl, List, ℕ, Option, Some, None, Result, Ok, Err, Bool, true, false, cond, [], ◌∷◌, ◌++◌, ◌+◌}
+use Rattle.std.proofs.Common.{◌≡◌, ◌∙◌, ap, sym, refl, subst, List, ℕ, Option, Some, None, Result, Ok, Err, Bool, true, false, cond, [], ◌∷◌, ◌++◌, ◌+◌}
 use Rattle.tw_world.specs.declared.Moment.{Moment}
+use Rattle.tw_world.specs.declared.ids.IdWords.{IdWords}
 use Rattle.tw_model.specs.Ops.{TasksValue}
 use Rattle.tw_model.specs.LocalOps.{apply_local, apply_all_local, FitAllLocal}
 use Rattle.tw_model.specs.Changes.{changed_all, ops_of_all, group_of}
@@ -10,10 +11,13 @@ use Rattle.tw_model.proofs.Leading.{changes_lead}
 use Rattle.tw_replica.specs.Body.{Step}
 use Rattle.tw_replica.specs.Body.Step.{Commit}
 use Rattle.tw_replica.specs.State.{State, applied, misfit, unless, is_idle, moved_to}
+use Rattle.tw_replica.proofs.CommittedChanges.{changes_are_group}
+use Rattle.tw_replica.proofs.Groups.{IsOfGroup}
 use Rattle.tw_commands.specs.Marks.{mask_changes}
-use Rattle.tw_commands.specs.Plan.{Plan, step_in}
+use Rattle.tw_commands.specs.Plan.{Plan, Work, step_in}
+use Rattle.tw_commands.specs.Plan.Work.{Changes, TakeBack}
 use Rattle.tw_commands.specs.Commands.{plan_of}
-use Rattle.tw_commands.specs.Laws.{CarriedIsApplied, ChangesAreCarriedOut}
+use Rattle.tw_commands.specs.Laws.{IsCarriedOut, CarriedIsApplied, ChangesAreCarriedOut}
 use Rattle.tw_commands.specs.Carried.{Carried, concluded, with_text, then_concluded, carried_by}
 use Rattle.tw_commands.specs.declared.request.Request.{Request}
 use Rattle.tw_commands.specs.declared.refusal.Refusal.{Refusal}
@@ -37,6 +41,20 @@ by_is request old (Ok plan) c e =
     let step = step_in request.at old plan.work in
     let is = then_is request plan old step (applied old step) c e in
     ap (applied old) is.0 ∙ is.1
+
+-- the step of a command is a group, or takes one back
+work_of_group : (request : Request) (old : State) (work : Work) → IsOfGroup (step_in request.at old work)
+work_of_group request old (Changes renumber changes marks) = changes_are_group old.tasks (changes ++ mask_changes request.at (changed_all old.tasks changes) marks) request.at
+work_of_group request old TakeBack = tt
+
+by_group : (request : Request) (old : State) (planned : Result Plan Refusal) (c : Carried) → carried_by request old planned ≡ Ok c → IsOfGroup c.step
+by_group request old (Err refusal) c e = absurd cc
+by_group request old (Ok plan) c e =
+    let step = step_in request.at old plan.work in
+    subst IsOfGroup (sym (then_is request plan old step (applied old step) c e).0) (work_of_group request old plan.work)
+
+pub step_of_group : (request : Request) (ids : IdWords) (old : State) (c : Carried) → IsCarriedOut request ids old c → IsOfGroup c.step
+step_of_group request ids old c e = by_group request old (plan_of request ids old) c e
 
 pub carried_applies : CarriedIsApplied
 carried_applies request ids old c e = by_is request old (plan_of request ids old) c e

@@ -1,8 +1,12 @@
 pub mod Applied
-mod Deciding
-pub mod Copying
-pub mod Importing
-pub mod Joining
-pub mod Taken
-pub mod Circling
-pub mod Marking
+mod RefusedSteps
+pub mod Copies
+pub mod ImportedElements
+pub mod JoinedWords
+pub mod TakenWords
+pub mod DependencyPaths
+pub mod MarkedTasks
+pub mod OtherTasks
+pub mod StampedTasks
+pub mod TakenBack
+pub mod ReachedTasks

@@ -32,7 +32,7 @@ leads_over (suc n) tasks u end = same_bytes u end || leads_on (λ v. leads_over 
 unfoldable pub leads : TasksValue → (u end : List ℕ) → Bool
 leads tasks u end = leads_over (len tasks) tasks u end
 
--- it is so exactly where there is such a path, of whatever length
+-- it is so exactly if there is such a path, of whatever length
 abbrev pub LeadsWhereAPathLeads : Type 0
 LeadsWhereAPathLeads = (tasks : TasksValue) (u end : List ℕ) → IsTrue (leads tasks u end) ↔ Leads tasks u end
 
@@ -80,6 +80,6 @@ is_judged command.Waiting = false
 is_judged command.Blocked = false
 is_judged _ = true
 
--- the first circle that is closed by what a command put behind what was pending, among the tasks after it
+-- the first circle that is closed by what a command put after what was pending, among the tasks after it
 abbrev pub circle_in : Command → (old new : State) → Option (List ℕ)
 circle_in command old new = cond (is_judged command) (first_circle new.tasks (drop (length old.pending) new.pending)) None

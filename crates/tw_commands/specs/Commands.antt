@@ -20,7 +20,7 @@ use Rattle.tw_commands.specs.Plan.Show.{TakenBack}
 use Rattle.tw_commands.specs.Marks.{marks_of}
 use Rattle.tw_commands.specs.Effects.{changes_by, acting}
 use Rattle.tw_commands.specs.Effects.Modify.{modify}
-use Rattle.tw_commands.specs.Effects.Texts.{append, prepend}
+use Rattle.tw_commands.specs.Effects.Append.{append, prepend}
 use Rattle.tw_commands.specs.Effects.Annotate.{annotate}
 use Rattle.tw_commands.specs.Effects.Denotate.{denotate}
 use Rattle.tw_commands.specs.Effects.Done.{done, delete}
@@ -30,9 +30,10 @@ use Rattle.tw_commands.specs.Makes.Add.{adding, logging}
 use Rattle.tw_commands.specs.Makes.Duplicate.{copies_in, copying}
 use Rattle.tw_commands.specs.Makes.Import.{imports_in, importing}
 use Rattle.tw_commands.specs.Looks.Count.{counting}
-use Rattle.tw_commands.specs.Looks.Names.{numbering, naming}
+use Rattle.tw_commands.specs.Looks.Ids.{numbering, naming}
 use Rattle.tw_commands.specs.Looks.Export.{exporting}
-use Rattle.tw_commands.specs.Looks.Information.{informing, projecting, tagging}
+use Rattle.tw_commands.specs.Looks.Information.{informing}
+use Rattle.tw_commands.specs.Looks.Projects.{projecting, tagging}
 use Rattle.tw_commands.specs.Reports.{reporting}
 use Rattle.tw_commands.specs.declared.effect.Effect.{Effect}
 use Rattle.tw_commands.specs.declared.effect.Effect.TheVariants.{Nothing}
@@ -104,7 +105,7 @@ plan_by command.All request ids state = Ok (reporting report.All request state)
 plan_by command.Completed request ids state = Ok (reporting report.Completed request state)
 plan_by command.Waiting request ids state = Ok (reporting report.Waiting request state)
 plan_by command.Blocked request ids state = Ok (reporting report.Blocked request state)
-plan_by _ request ids state = Err (BadWords request.line.place Unbuilt)
+plan_by _ request ids state = Err (BadWords request.line.word_number Unbuilt)
 
 abbrev pub unless_unnamed : Option BadWord → Result Plan Refusal → Result Plan Refusal
 unless_unnamed None plan = plan

@@ -15,7 +15,7 @@ use Rattle.tw_commands.specs.declared.plan.Deed.{Deed}
 use Rattle.tw_commands.specs.declared.refusal.Refusal.{Refusal}
 use Rattle.tw_commands.specs.declared.refusal.Refusal.TheVariants.{NoMatch}
 pub mod Modify
-pub mod Texts
+pub mod Append
 pub mod Annotate
 pub mod Denotate
 pub mod Done

@@ -10,7 +10,7 @@ pub mod Looks
 pub mod Reports
 pub mod Commands
 pub mod Circles
-pub mod Searches
+pub mod Reached
 pub mod Texts
 pub mod Carried
 pub mod Ready

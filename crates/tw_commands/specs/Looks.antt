@@ -4,9 +4,10 @@ use Rattle.tw_commands.specs.Plan.{Plan}
 use Rattle.tw_commands.specs.Plan.Work.{Changes}
 use Rattle.tw_commands.specs.Plan.Show.{Text}
 pub mod Count
-pub mod Names
+pub mod Ids
 pub mod Export
 pub mod Information
+pub mod Projects
 
 -- nothing is changed, and a text is printed
 abbrev pub looking : List ℕ → Plan

@@ -13,13 +13,13 @@ use Rattle.tw_commands.specs.declared.marks.Mark.{Mark}
 
 -- ---- a mask
 
--- a mask with a sign at a place, if it has that place
-abbrev pub with_sign : (place sign : ℕ) → List ℕ → List ℕ
-with_sign place sign mask = encode_utf8_all (set (chars mask) place sign)
+-- a mask with a sign at an index, if it is that long
+abbrev pub with_sign : (index sign : ℕ) → List ℕ → List ℕ
+with_sign index sign mask = encode_utf8_all (set (chars mask) index sign)
 
 abbrev pub with_mark_in : Mark → TaskValue → Option (List ℕ) → TaskValue
 with_mark_in mark task None = task
-with_mark_in mark task (Some mask) = insert task (codes "mask") (with_sign mark.place mark.sign mask)
+with_mark_in mark task (Some mask) = insert task (codes "mask") (with_sign mark.index mark.sign mask)
 
 -- a task with a mark in its mask
 abbrev pub with_mark : Mark → TaskValue → TaskValue
@@ -28,7 +28,7 @@ with_mark mark task = with_mark_in mark task (get task (codes "mask"))
 -- ---- the marks of a command
 
 abbrev pub mark_on : (sign : ℕ) → Option (List ℕ) → Option ℕ → List Mark
-mark_on sign (Some parent) (Some place) = record { parent = parent; place = place; sign = sign } ∷ []
+mark_on sign (Some parent) (Some index) = record { parent = parent; index = index; sign = sign } ∷ []
 mark_on sign _ _ = []
 
 abbrev pub number_in : Option (List ℕ) → Option ℕ

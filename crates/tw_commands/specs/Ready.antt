@@ -11,11 +11,11 @@ use Rattle.tw_commands.specs.declared.request.Request.{Request}
 use Rattle.tw_commands.specs.declared.refusal.Refusal.{Refusal}
 
 -- what this command comes to in the state of a replica is made in memory
-pub record IsReady (request : Request) (ids : IdWords) (replica : Replica) (ready : Ready) : Type 0 where
+pub record IsDecided (request : Request) (ids : IdWords) (replica : Replica) (ready : Ready) : Type 0 where
   pub step : Step
   pub is : carried_out request ids (held_state replica) ≡ Ok (record { step = step; new = prepared_state ready.prepared; text = ready.text.items })
   pub prepared : IsPrepared replica step ready.prepared
 
 -- the command refuses
-abbrev pub NotReady : Request → IdWords → Replica → Refusal → Type 0
-NotReady request ids replica refusal = carried_out request ids (held_state replica) ≡ Err refusal
+abbrev pub DoesNothing : Request → IdWords → Replica → Refusal → Type 0
+DoesNothing request ids replica refusal = carried_out request ids (held_state replica) ≡ Err refusal

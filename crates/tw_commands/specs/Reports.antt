@@ -62,13 +62,13 @@ rows_of report tasks now us = filter (λ u. is_row_there report tasks now (get t
 abbrev pub has_vacant : Places → Bool
 has_vacant places = list_any is_none places
 
--- the instances that it makes, where that is on
+-- the instances that it makes, if that is on
 abbrev pub instances_in : Request → State → List Change
 instances_in request state =
     cond (is_set_on (codes "recurrence") request.settings)
     (instance_changes state.tasks request.at.seconds request.zone.now (recurrence_limit request.settings)) []
 
--- it makes instances, packs the numbers where that is on and a place is vacant, and knows the numbers from before
+-- it makes instances, packs the numbers if that is on and a place is vacant, and knows the numbers from before
 abbrev pub reporting : AnyReport → Request → State → Plan
 reporting report request state = record {
   work = Changes (is_set_on (codes "gc") request.settings && has_vacant state.numbers) (instances_in request state) [];

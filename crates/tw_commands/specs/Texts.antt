@@ -21,7 +21,7 @@ abbrev pub or_zero : Option ℕ → ℕ
 or_zero None = 0
 or_zero (Some n) = n
 
--- the number of a task, and 0 where it has no place
+-- the number of a task, and 0 if it has no place
 abbrev pub number_of : List ℕ → Places → ℕ
 number_of u places = or_zero (id_of u places)
 

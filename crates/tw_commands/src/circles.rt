@@ -1,14 +1,12 @@
 // Dependencies that a command adds, and circles that they close.
-ghost use Rattle.std.specs.Prelude.{◌≡◌, ◌||◌, ◌++◌, List, ℕ, drop, IfOk, OnOk};
-ghost use Rattle.std.specs.BTreeSet as set;
-ghost use Rattle.tw_model.specs.Maps.{bytes_cmp};
-ghost use Rattle.tw_urgency.specs.Dependencies.{is_that, depends_on};
+ghost use Rattle.std.specs.Prelude.{◌≡◌, ◌++◌, drop, IfOk, OnOk};
 ghost use Rattle.tw_commands.specs.Circles as spec;
-ghost use Rattle.tw_commands.specs.Searches.{AreDependedOn, AreSearched};
+ghost use Rattle.tw_commands.specs.Reached.{IsClosed};
 
+use crate::reached::reach;
 use std::alloc::Global;
-use std::collections::{BTreeMap, BTreeSet};
-use tw_model::{Op, TaskMap, Tasks};
+use std::collections::BTreeSet;
+use tw_model::{Op, Tasks};
 use tw_urgency::{dependency_in, reached};
 use tw_words::Command;
 use tw_world::Memory;
@@ -62,67 +60,31 @@ fn gains_from(alloc: Global, ops: &Vec<Op>, from: usize) -> Result<Vec<(Uuid, Uu
     Ok(all)
 }
 
-fn put_named(uuids: &mut BTreeSet<Uuid>, named: Option<Uuid>) -> Result<(), Memory>
-    ensures { OnOk result ((u : List ℕ) → set.contains bytes_cmp uuids.new u ≡ (set.contains bytes_cmp uuids.old u || is_that u named)) }
-{
-    if let Some(uuid) = named {
-        uuids.insert(uuid)?;
-    }
-    Ok(())
-}
-
-// Puts in what a task depends on.
-fn put_dependencies(uuids: &mut BTreeSet<Uuid>, task: &TaskMap) -> Result<(), Memory>
-    ensures { OnOk result ((u : List ℕ) → set.contains bytes_cmp uuids.new u ≡ (set.contains bytes_cmp uuids.old u || depends_on task.now u)) }
-{
-    for n in 0..task.len() {
-        put_named(uuids, dependency_in(task.key(n)))?;
-    }
-    Ok(())
-}
-
-// The uuids on which some task depends.
-fn depended_on(alloc: Global, tasks: &Tasks) -> Result<BTreeSet<Uuid>, Memory>
-    ensures { IfOk result (λ uuids. AreDependedOn tasks.now uuids) }
-{
-    let mut uuids = BTreeSet::new(alloc);
-    for (other, task) in tasks.iter() {
-        put_dependencies(&mut uuids, task)?;
-    }
-    Ok(uuids)
-}
-
-// Whether a dependency of a task closes a circle. What it leads to is searched once.
+// Whether a dependency of a task closes a circle. What the dependencies before it lead to is known. If the task is among that, one of them
+// may lead to it: then what this one leads to is searched alone.
 fn closes(
     alloc: Global,
     tasks: &Tasks,
-    depended_on: &BTreeSet<Uuid>,
-    searched: &mut BTreeMap<Uuid, BTreeSet<Uuid>>,
+    known: &mut BTreeSet<Uuid>,
     uuid: Uuid,
     dependency: Uuid,
 ) -> Result<bool, Memory>
-    requires depended_on { AreDependedOn tasks.now depended_on.now }
-    requires searched { AreSearched tasks.now searched.old }
+    requires closed { IsClosed tasks.now known.old }
     ensures closes { IfOk result (λ is. is ≡ spec.closes tasks.now (uuid, dependency)) }
-    ensures searched { OnOk result (AreSearched tasks.now searched.new) }
+    ensures closed { OnOk result (IsClosed tasks.now known.new) }
 {
-    if uuid == dependency {
-        return Ok(true);
-    }
-    if !depended_on.contains(&uuid) {
+    reach(alloc, tasks, known, dependency)?;
+    if !known.contains(&uuid) {
         return Ok(false);
     }
-    if let Some(uuids) = searched.get(&dependency) {
-        return Ok(uuids.contains(&uuid));
-    }
-    let uuids = reached(alloc, tasks, dependency)?;
-    let is = uuids.contains(&uuid);
-    searched.insert(dependency, uuids)?;
+    let alone = reached(alloc, tasks, dependency)?;
+    let is = alone.contains(&uuid);
+    *known = alone;
     Ok(is)
 }
 
-/// The first dependency that the operations from a place on add and that closes a circle. A task that nobody depends on closes none,
-/// and where many tasks gain one dependency, what that leads to is searched once.
+/// The first dependency that the operations from a place on add and that closes a circle. All of them are searched at once. One is
+/// searched alone only if others lead to its task.
 pub(crate) fn first_circle(
     alloc: Global,
     tasks: &Tasks,
@@ -132,20 +94,9 @@ pub(crate) fn first_circle(
     ensures { IfOk result (λ circle. circle ≡ spec.first_circle tasks.now (drop from ops.now.items)) }
 {
     let gains = gains_from(alloc, ops, from)?;
-    if gains.is_empty() {
-        return Ok(None);
-    }
-    let depended_on = depended_on(alloc, tasks)?;
-    let mut searched = BTreeMap::new(alloc);
+    let mut known = BTreeSet::new(alloc);
     for (uuid, dependency) in &gains {
-        if closes(
-            alloc,
-            tasks,
-            &depended_on,
-            &mut searched,
-            *uuid,
-            *dependency,
-        )? {
+        if closes(alloc, tasks, &mut known, *uuid, *dependency)? {
             return Ok(Some(*dependency));
         }
     }

@@ -9,20 +9,21 @@ ghost use Rattle.tw_commands.specs.Commands as spec;
 
 mod add;
 mod annotate;
+mod append;
 mod count;
 mod denotate;
 mod done;
 mod duplicate;
 mod editing;
 mod export;
+mod ids;
 mod import;
 mod information;
 mod modify;
-mod names;
+mod projects;
 mod purge;
 pub(crate) mod report;
 mod start;
-mod texts;
 mod undo;
 
 use self::report::reporting;
@@ -56,12 +57,12 @@ fn plan_by(
         Command::Import => return import::importing(alloc, request, ids, replica),
         Command::Undo => return Ok(Ok(undo::undoing())),
         Command::Count => return Ok(Ok(count::counting(alloc, request, replica)?)),
-        Command::Ids => return Ok(Ok(names::numbering(alloc, request, replica)?)),
-        Command::Uuids => return Ok(Ok(names::naming(alloc, request, replica)?)),
+        Command::Ids => return Ok(Ok(ids::numbering(alloc, request, replica)?)),
+        Command::Uuids => return Ok(Ok(ids::naming(alloc, request, replica)?)),
         Command::Export => return Ok(Ok(export::exporting(alloc, request, replica)?)),
         Command::Information => return information::informing(alloc, request, replica),
-        Command::Projects => return Ok(Ok(information::projecting(alloc, request, replica)?)),
-        Command::Tags => return Ok(Ok(information::tagging(alloc, request, replica)?)),
+        Command::Projects => return Ok(Ok(projects::projecting(alloc, request, replica)?)),
+        Command::Tags => return Ok(Ok(projects::tagging(alloc, request, replica)?)),
         Command::List => return reporting(alloc, Report::List, request, replica),
         Command::Next => return reporting(alloc, Report::Next, request, replica),
         Command::All => return reporting(alloc, Report::All, request, replica),
@@ -78,7 +79,7 @@ fn plan_by(
         Command::Stop => Deed::Stopped,
         _ => {
             return Ok(Err(Refusal::BadWords {
-                word: request.line.place,
+                word: request.line.word_number,
                 kind: WordKind::Unbuilt,
             }));
         }

@@ -49,7 +49,7 @@ pub(crate) fn stamped(
     Ok(after)
 }
 
-/// Puts the change that an effect is behind others.
+/// Puts the change that an effect is after others.
 pub(crate) fn push_change(
     alloc: Global,
     changes: &mut Vec<Change>,

@@ -1,5 +1,5 @@
 //! Laws of commands. Each is the contract of a function that does nothing.
-ghost use Rattle.tw_commands.specs.Laws.{CarriedIsApplied, ChangesAreCarriedOut};
+ghost use Rattle.tw_commands.specs.Laws.{CarriedIsApplied, ChangesAreCarriedOut, ChangesAreStamped, OthersStay, UndoTakesBack};
 ghost use Rattle.tw_commands.specs.Circles.{LeadsWhereAPathLeads};
 ghost use Rattle.tw_commands.specs.Worded.{WordsAreTaken};
 
@@ -22,4 +22,20 @@ pub fn words_are_taken()
 /// What is judged of circles is whether there is a path of dependencies, of whatever length.
 pub fn a_circle_is_a_path()
     ensures { LeadsWhereAPathLeads }
+{}
+
+/// A command that acts on the tasks that its filter selects leaves the others as they were, but for the masks of templates and the moments
+/// at which those changed.
+pub fn other_tasks_stay()
+    ensures { OthersStay }
+{}
+
+/// Each task that such a command leaves is as it was, or has the moment of the command as its `modified`.
+pub fn changes_are_stamped()
+    ensures { ChangesAreStamped }
+{}
+
+/// An undo right after a command that wrote operations leads back to the tasks before it, and to what was pending.
+pub fn an_undo_takes_a_command_back()
+    ensures { UndoTakesBack }
 {}

@@ -10,6 +10,7 @@ mod input;
 pub mod laws;
 mod marks;
 mod plan;
+mod reached;
 mod ready;
 mod refusal;
 mod request;

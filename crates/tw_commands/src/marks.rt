@@ -13,11 +13,11 @@ use tw_words::Command;
 use tw_world::{Memory, Moment};
 use uuid::Uuid;
 
-/// A sign for a place of a parent's mask.
+/// A sign for a parent's mask, at an index.
 #[derive(Clone, Copy)]
 pub(crate) struct Mark {
     pub parent: Uuid,
-    pub place: u64,
+    pub index: u64,
     pub sign: char,
 }
 
@@ -41,13 +41,13 @@ fn text_of(alloc: Global, all: &Vec<char>) -> Result<String, Memory>
     Ok(text)
 }
 
-// A mask with a sign at a place, if it has that place.
-fn with_sign(alloc: Global, place: u64, sign: char, mask: &str) -> Result<String, Memory>
-    ensures { IfOk result (λ text. string_bytes text ≡ spec.with_sign place sign mask.now) }
+// A mask with a sign at an index, if it is that long.
+fn with_sign(alloc: Global, index: u64, sign: char, mask: &str) -> Result<String, Memory>
+    ensures { IfOk result (λ text. string_bytes text ≡ spec.with_sign index sign mask.now) }
 {
     let mut signs = chars_of(alloc, mask)?;
-    if place < signs.len() as u64 {
-        signs[place as usize] = sign;
+    if index < signs.len() as u64 {
+        signs[index as usize] = sign;
     }
     text_of(alloc, &signs)
 }
@@ -58,7 +58,7 @@ fn with_mark(alloc: Global, mark: &Mark, task: &TaskMap) -> Result<TaskMap, Memo
 {
     let mut marked = task.copy(alloc)?;
     if let Some(mask) = task.get("mask") {
-        let mask = with_sign(alloc, mark.place, mark.sign, mask)?;
+        let mask = with_sign(alloc, mark.index, mark.sign, mask)?;
         marked.set(alloc, "mask", Some(mask.as_str()))?;
     }
     Ok(marked)
@@ -90,11 +90,11 @@ fn push_mark(marks: &mut Vec<Mark>, sign: char, task: Option<&TaskMap>) -> Resul
         return Ok(());
     };
     let parent = uuid_in(task.get("parent"));
-    let place = number_in(task.get("imask"));
-    if let (Some(parent), Some(place)) = (parent, place) {
+    let index = number_in(task.get("imask"));
+    if let (Some(parent), Some(index)) = (parent, index) {
         marks.push(Mark {
             parent,
-            place,
+            index,
             sign,
         })?;
     }

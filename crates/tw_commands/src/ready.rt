@@ -9,7 +9,7 @@ ghost use Rattle.tw_commands.specs.Plan.Work.{Changes};
 ghost use Rattle.tw_commands.specs.Circles.{circle_in};
 ghost use Rattle.tw_commands.specs.Texts.{shown, texted};
 ghost use Rattle.tw_commands.specs.Carried.{concluded};
-ghost use Rattle.tw_commands.specs.Ready.{IsReady, NotReady};
+ghost use Rattle.tw_commands.specs.Ready.{IsDecided, DoesNothing};
 
 use crate::circles::{first_circle, is_judged};
 use crate::commands::plan_of;
@@ -149,8 +149,8 @@ pub fn decide(
     ids: &mut IdWords,
     replica: Replica,
 ) -> Result<Result<Ready, Refusal>, Memory>
-    ensures ready { IfOk result (λ decided. IfOk decided (IsReady request.now ids.old replica)) }
-    ensures refused { IfOk result (λ decided. IfErr decided (NotReady request.now ids.old replica)) }
+    ensures ready { IfOk result (λ decided. IfOk decided (IsDecided request.now ids.old replica)) }
+    ensures refused { IfOk result (λ decided. IfErr decided (DoesNothing request.now ids.old replica)) }
 
     // how many identifiers are drawn
     ensures ids { OnOk result (ids.new ≡ ids_after request.now ids.old (held_state replica)) }

@@ -16,7 +16,7 @@ fn numbered(alloc: Global, front: &str, number: u64, back: &str) -> Result<Vec<u
     Ok(text.into_bytes())
 }
 
-// The number of the place that holds a uuid, and 0 where none does.
+// The number of the place that holds a uuid, and 0 if none does.
 fn number_of(uuid: Uuid, places: &Vec<Option<Uuid>>) -> u64
     ensures { result ≡ spec.number_of uuid places.now.items }
 {

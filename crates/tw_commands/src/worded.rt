@@ -9,8 +9,8 @@ use tw_model::TaskMap;
 use tw_words::{Line, WordError, changed};
 use tw_world::Memory;
 
-/// What the modification words of a line make of a task. Where one were wrong, which none is of a line that was judged and
-/// whose words name tasks, the task would be as it was.
+/// What the modification words of a line make of a task. No word of a line that was judged is wrong if its words name tasks: the law
+/// `words_are_taken`. If one were, the task would stay as it was.
 pub(crate) fn worded(
     alloc: Global,
     line: &Line,

@@ -1,6 +1,6 @@
-pub mod Lines
-pub mod Texts
-pub mod Loops
+pub mod TaskLines
+pub mod OkTexts
+pub mod PropertyLoops
 pub mod AnnotationRanks
-pub mod Numbers
-pub mod InOrder
+pub mod Thousandths
+pub mod OwnMembers

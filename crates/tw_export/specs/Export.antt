@@ -1,5 +1,6 @@
 -- The JSON text of tasks: task(1) under "export".
-use Rattle.std.specs.Prelude.{ℕ, suc, Bool, cond, false, ◌&&◌, ◌||◌, nat_eq, nat_lt, List, [], ◌∷◌, ◌++◌, codes, map, flat_map, drop, slice_index_or, Option, Some, None, is_some, option_map, ℤ}
+use Rattle.std.specs.Prelude.{ℕ, suc, Bool, cond, false, ◌&&◌, ◌||◌, nat_eq, nat_lt, List, [], ◌∷◌, ◌++◌, codes, map, flat_map, drop}
+use Rattle.std.specs.Prelude.{slice_index_or, Option, Some, None, is_some, option_map, ℤ}
 use Rattle.std.specs.List.{list_any, starts_with}
 use Rattle.std.specs.Fmt.{decimal}
 use Rattle.std.specs.Ordering.{is_lt, nat_cmp, ordering_then}
@@ -55,7 +56,7 @@ abbrev pub is_small_number : List ℕ → Option ℕ → Bool
 is_small_number text None = false
 is_small_number text (Some n) = nat_lt n 1_000_000_000 && same_bytes (decimal n) text
 
--- a number as it is printed, and a text where it is none
+-- a number as it is printed, and a text if it is none
 abbrev pub number_or : List ℕ → Token
 number_or text = cond (is_small_number text (natural text)) (number text) (string text)
 
@@ -100,7 +101,7 @@ property_tokens task now e = cond (is_left_out e) [] (key e.0 ∷ value_token ta
 
 -- ---- members of the export's own
 
--- a list as a member, where there is something to list
+-- a list as a member, if there is something to list
 abbrev pub list_tokens : List ℕ → Bool → List Token → List Token
 list_tokens name is_there ts = cond is_there (key name ∷ begin_array ∷ (ts ++ end_array ∷ [])) []
 
@@ -136,7 +137,7 @@ annotations_tokens task (r ∷ rs) = key (codes "annotations") ∷ begin_array �
 abbrev pub urgency_tokens : ℤ → List Token
 urgency_tokens z = key (codes "urgency") ∷ number (decimal3 z) ∷ []
 
--- a member of the export's own: its name and its tokens, none where it is left out
+-- a member of the export's own: its name and its tokens, none if it is left out
 abbrev pub Own : Type 0
 Own = List ℕ × List Token
 
@@ -153,7 +154,7 @@ own_members u task z =
 abbrev pub own_tokens : List Own → List Token
 own_tokens own = flat_map (λ m. m.1) own
 
--- the first members whose names are below a name, and those behind them
+-- the first members whose names are below a name, and those after them
 abbrev pub own_below : List ℕ → List Own → List Own
 own_below name [] = []
 own_below name (m ∷ ms) = cond (is_lt (bytes_cmp m.0 name)) (m ∷ own_below name ms) []

@@ -1,4 +1,4 @@
-pub mod Again
-pub mod Loop
-pub mod Spelled
-pub mod Texts
+pub mod FieldsAgain
+pub mod ReadLoop
+pub mod FieldsSpelled
+pub mod Utf8

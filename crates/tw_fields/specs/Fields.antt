@@ -12,7 +12,7 @@ field_bytes bytes = to_be_bytes w32 (length bytes) ++ bytes
 abbrev pub text_bytes : List ℕ → List ℕ
 text_bytes text = to_be_bytes w32 (length text) ++ text
 
--- a flag, and the text where there is one
+-- a flag, and the text if there is one
 abbrev pub option_bytes : Option (List ℕ) → List ℕ
 option_bytes None = 0 ∷ []
 option_bytes (Some text) = 1 ∷ text_bytes text

@@ -51,7 +51,7 @@ moment_at bytes = do
 abbrev pub uuid_at : List ℕ → Option (List ℕ × List ℕ)
 uuid_at bytes = if nat_lt (length bytes) 16 then None else Some (take 16 bytes, drop 16 bytes)
 
--- bytes behind their length in four bytes
+-- bytes after their length in four bytes
 unfoldable pub bytes_at : List ℕ → Option (List ℕ × List ℕ)
 bytes_at bytes = do
   n ← number_at w32 bytes
@@ -69,7 +69,7 @@ many_at one (suc n) bytes = do
 abbrev pub with_front : {A : Type 0} → List A → Option (List A × List ℕ) → Option (List A × List ℕ)
 with_front front read = read >>= λ x. Some (front ++ x.0, x.1)
 
--- what was read, behind others
+-- what was read, after others
 abbrev pub with_last : {A : Type 0} → List A → Option (A × List ℕ) → Option (List A × List ℕ)
 with_last front read = read >>= λ x. Some (front ++ x.0 ∷ [], x.1)
 

@@ -6,5 +6,7 @@
 mod read;
 mod write;
 
-pub use read::{ReadError, bytes_at, read_moment, read_option, read_text, read_uuid, u32_at};
+pub use read::{
+    ReadError, bytes_at, read_moment, read_option, read_text, read_uuid, u32_at, uuid_from,
+};
 pub use write::{put_bytes, put_count, put_moment, put_option, put_text, put_uuid};

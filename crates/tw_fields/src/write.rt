@@ -23,7 +23,7 @@ fn bytes_of(text: &str) -> &[u8]
     text.as_bytes()
 }
 
-/// The text behind its length.
+/// The text after its length.
 pub fn put_text(out: &mut Vec<u8>, text: &str) -> Result<(), Memory>
     ensures put { OnOk result (out.new.items ≡ out.old.items ++ text_bytes text.now) }
     ensures is { OnOk result (IsText text.now) }
@@ -33,7 +33,7 @@ pub fn put_text(out: &mut Vec<u8>, text: &str) -> Result<(), Memory>
     Ok(())
 }
 
-/// The bytes behind their length.
+/// The bytes after their length.
 pub fn put_bytes(out: &mut Vec<u8>, bytes: &[u8]) -> Result<(), Memory>
     ensures { OnOk result (out.new.items ≡ out.old.items ++ field_bytes bytes.now) }
 {
@@ -52,7 +52,7 @@ pub fn put_uuid(out: &mut Vec<u8>, uuid: &Uuid) -> Result<(), Memory>
     Ok(())
 }
 
-/// A 1 and the text, or a 0 where there is none.
+/// A 1 and the text, or a 0 if there is none.
 pub fn put_option(out: &mut Vec<u8>, text: &Option<Text>) -> Result<(), Memory>
     ensures put { OnOk result (out.new.items ≡ out.old.items ++ option_bytes text.now) }
     ensures is { OnOk result (IfSome text.now IsText) }

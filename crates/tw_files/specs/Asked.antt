@@ -10,23 +10,32 @@ use Rattle.tw_files.specs.Waits.{Begins}
 abbrev pub client_limits : Limits
 client_limits = record { silence_seconds = 30; whole_seconds = 120 }
 
+-- whether a stream leads to an address, for which it was to wait so many nanoseconds at most
+abbrev pub Leads : Type 0 → Type 1
+Leads S = S → SocketAddr → ℕ → Type 0
+
+-- the bytes of a stream, if they are known
+abbrev pub Known : Type 0 → Type 0
+Known S = S → Option (List ℕ)
+
 -- a new connection to one of these addresses, within 30 seconds
-pub record Dialled {C S : Type 0} (is_of : SocketAddr → Type 0) (leads_to : S → SocketAddr → ℕ → Type 0) (has_shown : C → ℕ → Type 0) (connection : Connection C S) : Type 0 where
+pub record Dialled {C S : Type 0} (is_of : SocketAddr → Type 0) (leads_to : Leads S) (has_shown : C → ℕ → Type 0) (connection : Connection C S) : Type 0 where
   pub address : SocketAddr
   pub one_of : is_of address
   pub led : leads_to connection.stream address 30_000_000_000
   pub limited : Begins has_shown client_limits connection
 
 -- what is left of a connection was read, or as many bytes as the longest reply has
-pub record Replied {C S : Type 0} (remaining : S → Option (List ℕ)) (old new : Connection C S) (reply : List ℕ) : Type 0 where
+pub record Replied {C S : Type 0} (remaining : Known S) (old new : Connection C S) (reply : List ℕ) : Type 0 where
   pub read : Consumes (remaining old.stream) (remaining new.stream) reply
   pub whole : IsAtEnd (remaining new.stream) ⊎ (length reply ≡ 16793600)
 
 -- a new connection to one of these addresses got the request, and gave the reply
-pub record Asked {C S : Type 0} (is_of : SocketAddr → Type 0) (leads_to : S → SocketAddr → ℕ → Type 0) (has_shown : C → ℕ → Type 0) (contents remaining : S → Option (List ℕ)) (request reply : List ℕ) : Type 0 where
+pub record Asked {C S : Type 0} (is_of : SocketAddr → Type 0) (leads_to : Leads S) (has_shown : C → ℕ → Type 0)
+    (contents remaining : Known S) (request reply : List ℕ) : Type 0 where
   pub begun : Connection C S
   pub sent : Connection C S
   pub ended : Connection C S
   pub dialled : Dialled is_of leads_to has_shown begun
-  pub told : Appends (contents begun.stream) (contents sent.stream) request
+  pub got : Appends (contents begun.stream) (contents sent.stream) request
   pub replied : Replied remaining sent ended reply

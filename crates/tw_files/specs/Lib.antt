@@ -1,4 +1,4 @@
-pub mod PlacedFile
+pub mod OffsetFile
 pub mod FileDisk
 pub mod Stream
 pub mod StreamPeer

@@ -1,10 +1,11 @@
--- How long the calls of a connection may wait.
-use Rattle.std.specs.Prelude.{◌≡◌, ℕ, ◌+◌, ◌-◌, ◌*◌, min}
+-- How long the calls of a connection may wait, and how it is closed.
+use Rattle.std.specs.Prelude.{◌≡◌, ◌⊎◌, ℕ, ◌+◌, ◌-◌, ◌*◌, ◌≤◌, min, List, Option, length}
 use Rattle.std.specs.Duration.{as_nanos}
+use Rattle.std.specs.Io.KnownBytes.{Consumes, IsAtEnd}
 use Rattle.tw_files.specs.declared.connection.Connection.{Connection}
 use Rattle.tw_files.specs.declared.connection.Limits.{Limits}
 
--- it waits for its silence, or up to its end where that is nearer, from a time that its clock has shown
+-- it waits for its silence, or up to its end if that is nearer, from a time that its clock has shown
 abbrev pub MayWait : {C S : Type 0} (has_shown : C → ℕ → Type 0) → Connection C S → ℕ → Type 0
 MayWait has_shown c wait = (time : ℕ) × has_shown c.clock time × (wait ≡ min (as_nanos c.end - time) (as_nanos c.silence))
 
@@ -18,3 +19,14 @@ pub record Begins {C S : Type 0} (has_shown : C → ℕ → Type 0) (limits : Li
   pub time : ℕ
   pub shown : has_shown c.clock time
   pub whole : as_nanos c.end ≡ time + limits.whole_seconds * 1_000_000_000
+
+-- what a connection still gave was read: to its end, or 64 MiB of it at least
+pub record IsReadOn {C S : Type 0} (remaining : S → Option (List ℕ)) (old new : Connection C S) : Type 0 where
+  pub bytes : List ℕ
+  pub read : Consumes (remaining old.stream) (remaining new.stream) bytes
+  pub whole : IsAtEnd (remaining new.stream) ⊎ (67_108_864 ≤ length bytes)
+
+-- the other end was told that no more is sent, and then what it still sent was read
+pub record IsClosed {C S : Type 0} (is_ended : S → Type 0) (remaining : S → Option (List ℕ)) (old new : Connection C S) : Type 0 where
+  pub ended : is_ended new.stream
+  pub read : IsReadOn remaining old new

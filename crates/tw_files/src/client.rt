@@ -32,8 +32,8 @@ const MAX_REPLY: usize = 16_793_600;
 
 const PIECE: usize = 65_536;
 
-/// Sends a request over a connection of its own to the first address of the host that takes one, and puts the reply in the
-/// place of `reply`: all that comes, or the first 16,793,600 bytes of it. It waits 30 seconds at most for an address, a
+/// Sends a request over a connection of its own to the first address of the host that takes one, and makes `reply`
+/// what comes back: all of it, or its first 16,793,600 bytes. It waits 30 seconds at most for an address, a
 /// read or a write, and 120 for all reads and writes. After an error `reply` holds any bytes.
 pub fn ask<D: Dialer, C: Timer + Drop>(
     dialer: &D,
@@ -78,7 +78,7 @@ fn dial<D: Dialer, C: Timer + Drop>(
     Err(AskError::Failed)
 }
 
-// Puts what is left of a stream in the place of `reply`, or the first bytes of it, as many as the longest reply has.
+// Makes `reply` what is left of a stream, or the first bytes of it, as many as the longest reply has.
 fn read_reply<S: Read>(stream: &mut S, reply: &mut Vec<u8>) -> Result<(), AskError>
     ensures bytes { OnOk result (Consumes (S.remaining stream.old) (S.remaining stream.new) reply.new.items) }
     ensures whole { OnOk result (IsAtEnd (S.remaining stream.new) ⊎ (length reply.new.items ≡ 16793600)) }

@@ -1,9 +1,9 @@
 // A connection that no one can hold for ever.
-ghost use Rattle.std.specs.Prelude.{◌≡◌, ◌+◌, ◌*◌, ◌≤◌, min, ℕ, IfOk, OnOk};
+ghost use Rattle.std.specs.Prelude.{◌≡◌, ◌⊎◌, ◌+◌, ◌*◌, ◌≤◌, min, ℕ, IfOk, OnOk, OnErr};
 ghost use Rattle.std.specs.Duration.{as_nanos};
 ghost use Rattle.std.specs.Io.{ReadsAtMost, WritesAtMost};
 ghost use Rattle.std.specs.Io.KnownBytes.{ReadConsumes, WriteAppends};
-ghost use Rattle.tw_files.specs.Waits.{Begins, MayWait, Waited};
+ghost use Rattle.tw_files.specs.Waits.{Begins, MayWait, Waited, IsReadOn, IsClosed};
 
 use crate::timed_stream::{TimedStream, Timer};
 use std::io;
@@ -19,10 +19,10 @@ pub struct Limits {
     pub whole_seconds: u64,
 }
 
-// What may come behind a message before the connection is closed: two seconds, and 64 MiB.
+// What may come after a message before the connection is closed: two seconds, and 64 MiB.
 const LAST_SECONDS: u64 = 2;
 
-const LAST_PIECES: usize = 1024;
+const LAST_BYTES: usize = 67_108_864;
 
 /// A stream with a clock. A read or a write that waits longer than its limits allow is an error.
 #[derive(Drop)]
@@ -53,7 +53,8 @@ impl<C: Timer, S: TimedStream> Connection<C, S> {
 
     // How long a call may wait. No time is no limit that a stream takes, so the call fails then.
     fn wait(&self) -> io::Result<Duration>
-        ensures { IfOk result (λ wait. MayWait C.has_shown self.now (as_nanos wait)) }
+        ensures wait { IfOk result (λ wait. MayWait C.has_shown self.now (as_nanos wait)) }
+        ensures failed { OnErr result C.may_fail }
     {
         let left = self.end.saturating_sub(self.clock.elapsed()?);
         Ok(shorter(left, self.silence))
@@ -63,28 +64,51 @@ impl<C: Timer, S: TimedStream> Connection<C, S> {
     fn end_within(&mut self, seconds: u64) -> io::Result<()>
         ensures nearer { as_nanos self.new.end ≤ as_nanos self.old.end }
         ensures near { OnOk result ((time : ℕ) × C.has_shown self.new.clock time × (as_nanos self.new.end ≤ time + seconds * 1_000_000_000)) }
+        ensures stream { self.new.stream ≡ self.old.stream }
+        ensures failed { OnErr result C.may_fail }
     {
-        let end = end_after(&self.clock, seconds)?;
+        let shown = self.clock.elapsed()?;
+        let end = shown.saturating_add(Duration::from_secs(seconds));
         self.end = shorter(end, self.end);
         Ok(())
     }
 
-    /// Closes the connection. What was written reaches the other end, also where that has not ended its message yet: what
-    /// still comes is read for two seconds at most.
-    pub fn close(mut self)
-    where
-        C: Drop,
-        S: Drop,
+    // Tells the other end that no more is sent. What still comes may take two seconds.
+    fn say_end(&mut self) -> io::Result<()>
+        ensures ended { OnOk result (S.is_ended self.new.stream) }
+        ensures rest { S.remaining self.new.stream ≡ S.remaining self.old.stream }
+        ensures sent { S.contents self.new.stream ≡ S.contents self.old.stream }
+        ensures failed { OnErr result (C.may_fail ⊎ S.may_fail) }
     {
-        if self.end_within(LAST_SECONDS).is_err() || self.stream.end_writing().is_err() {
-            return;
-        }
+        self.end_within(LAST_SECONDS)?;
+        self.stream.end_writing()
+    }
+
+    // Reads what still comes: to its end, or 64 MiB of it. It stops where a call fails.
+    fn read_on(&mut self)
+        ensures read { C.may_fail ⊎ S.may_fail ⊎ IsReadOn S.remaining self.old self.new }
+        ensures ended { S.is_ended self.old.stream → S.is_ended self.new.stream }
+        ensures sent { S.contents self.new.stream ≡ S.contents self.old.stream }
+    {
         let mut piece = [0; 65_536];
-        for _ in 0..LAST_PIECES {
+        let mut count = 0;
+        while count < LAST_BYTES {
             match self.read(&mut piece) {
                 Ok(0) | Err(_) => return,
-                Ok(_) => {}
+                Ok(more) => count += more,
             }
+        }
+    }
+
+    /// Ends the connection, which is closed when it is dropped. What was written reaches the other end, also if that has not
+    /// ended its message yet: what still comes is read for two seconds at most.
+    #[tactic(auto, using(crate::proofs::Closing::closed))]
+    pub fn close(&mut self)
+        ensures closed { C.may_fail ⊎ S.may_fail ⊎ IsClosed S.is_ended S.remaining self.old self.new }
+        ensures sent { S.contents self.new.stream ≡ S.contents self.old.stream }
+    {
+        if self.say_end().is_ok() {
+            self.read_on();
         }
     }
 }
@@ -115,6 +139,9 @@ impl<C: Timer, S: TimedStream> Read for Connection<C, S> {
         // The wait of the stream is the one that the limits allow, and they stay.
         ensures waited { OnOk result (Waited C.has_shown S.waited self.old self.new) }
         ensures limits { self.new ≡ record self.old { stream = self.new.stream } }
+        ensures sent { S.contents self.new.stream ≡ S.contents self.old.stream }
+        ensures ended { S.is_ended self.old.stream → S.is_ended self.new.stream }
+        ensures failed { OnErr result (C.may_fail ⊎ S.may_fail) }
     {
         let wait = self.wait()?;
         self.stream.read_within(buf, wait)

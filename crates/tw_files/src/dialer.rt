@@ -22,7 +22,7 @@ pub trait Dialer {
     fn addresses(&self, host: &str, port: u16) -> io::Result<Vec<SocketAddr>>
         ensures { IfOk result (λ found. All (is_of host.now port) found.items) };
 
-    /// Connects to an address, or fails where it has not answered after this time.
+    /// Connects to an address, or fails if it has not answered after this time.
     fn connect(&self, address: SocketAddr, wait: Duration) -> io::Result<Self::Stream>
         ensures { IfOk result (λ stream. leads_to stream address (as_nanos wait)) };
 }

@@ -1,15 +1,15 @@
 // A folder whose every call fails.
-ghost use Rattle.std.specs.Prelude.{◌≡◌, ◌≤◌, List, ℕ, map, option_map, Err, IfOk, IfErr, OnOk, IsErrOf};
+ghost use Rattle.std.specs.Prelude.{◌≡◌, ◌≤◌, List, ℕ, map, Err, IfOk, IfErr, OnOk, IsErrOf};
 ghost use Rattle.std.specs.String.{string_bytes};
-ghost use Rattle.std.specs.FinMap.{get, insert, keys};
+ghost use Rattle.std.specs.FinMap.{keys};
 ghost use Rattle.tw_world.specs.Disk.{Rose};
-ghost use Rattle.tw_world.specs.Crash.{Tells, Settled, Steps, Reads};
-ghost use Rattle.tw_world.specs.Folder.{Replaced};
+ghost use Rattle.tw_world.specs.Crash.{Tells, IsStable, Steps, Reads};
+ghost use Rattle.tw_world.specs.Folder.{Replaced, HasFile, HasPut, HasPutOrNot};
 
 use std::alloc::Global;
 use tw_world::{Folder, FolderError};
 
-/// A folder whose every call fails, in the place of one that can't be opened.
+/// A folder whose every call fails. It is used for one that can't be opened.
 #[derive(Drop)]
 pub struct FailingFolder {
     faults: u64,
@@ -57,7 +57,7 @@ impl Folder for FailingFolder {
     }
 
     fn read(&mut self, _alloc: Global, _name: &str) -> Result<Option<Vec<u8>>, FolderError>
-        ensures bytes { IfOk result (λ file. Tells failing_folder_model self.old → option_map (λ bytes. bytes.items) file ≡ get (failing_folder_model.seen self.old) _name.now) }
+        ensures bytes { IfOk result (HasFile failing_folder_model self.old _name.now) }
         ensures reads { Reads failing_folder_model self.old self.new }
         ensures failed { IsErrOf result FolderError.Failed → Rose (failing_folder_model.faults self.old) (failing_folder_model.faults self.new) }
         ensures always { result ≡ Err FolderError.Failed }
@@ -67,9 +67,9 @@ impl Folder for FailingFolder {
     }
 
     fn replace(&mut self, _name: &str, _bytes: &[u8]) -> Result<(), FolderError>
-        ensures replaced { OnOk result (Tells failing_folder_model self.old → failing_folder_model.seen self.new ≡ insert (failing_folder_model.seen self.old) _name.now _bytes.now) }
-        ensures settled { OnOk result (Tells failing_folder_model self.old → Settled failing_folder_model self.new) }
-        ensures all_or_nothing { Tells failing_folder_model self.old → Replaced _name.now _bytes.now (failing_folder_model.seen self.old) (failing_folder_model.seen self.new) }
+        ensures replaced { OnOk result (HasPut failing_folder_model self.old self.new _name.now _bytes.now) }
+        ensures settled { OnOk result (Tells failing_folder_model self.old → IsStable failing_folder_model self.new) }
+        ensures all_or_nothing { HasPutOrNot failing_folder_model self.old self.new _name.now _bytes.now }
         ensures steps { Steps failing_folder_model (Replaced _name.now _bytes.now) self.old self.new }
         ensures failed { IfErr result (λ e. (e ≡ FolderError.Failed) × Rose (failing_folder_model.faults self.old) (failing_folder_model.faults self.new)) }
         ensures always { result ≡ Err FolderError.Failed }

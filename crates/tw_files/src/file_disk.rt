@@ -1,9 +1,9 @@
 // A file as a disk.
-ghost use Rattle.std.specs.Prelude.{◌≡◌, ◌<◌, ◌≤◌, ◌+◌, ◌^◌, ◌↔◌, List, ℕ, length, take, drop, IsTrue, IfOk, IfErr, OnOk, OnErr, IsErrOf};
-ghost use Rattle.tw_world.specs.Disk.{Tells, Rose, Torn, Resized, Settled, Steps, Reads, overwritten, resized};
-ghost use Rattle.tw_files.specs.PlacedFile.{HasLength, KeepsLength, Holds, Overwrites, Resizes};
+ghost use Rattle.std.specs.Prelude.{◌≡◌, ◌⊎◌, ◌<◌, ◌≤◌, ◌+◌, ◌^◌, ◌↔◌, List, ℕ, length, take, drop, IsTrue, IsFalse, IfOk, IfErr, OnOk, OnErr, IsErrOf};
+ghost use Rattle.tw_world.specs.Disk.{Tells, Rose, Torn, Resized, IsStable, Steps, Reads, overwritten, resized};
+ghost use Rattle.tw_files.specs.OffsetFile.{HasLength, KeepsLength, Holds, IsShorter, Overwrites, Resizes};
 
-use crate::placed_file::PlacedFile;
+use crate::offset_file::OffsetFile;
 use std::io;
 use tw_world::{Disk, DiskError};
 
@@ -11,7 +11,7 @@ const MAX_LEN: u64 = 1 << 56;
 
 /// An open file, with its length and how often it has failed. It tells nothing of what it holds.
 #[derive(Drop)]
-pub struct FileDisk<F: PlacedFile> {
+pub struct FileDisk<F: OffsetFile> {
     file: F,
     len: u64,
     faults: u64,
@@ -19,9 +19,10 @@ pub struct FileDisk<F: PlacedFile> {
 }
 
 // Fills `out` with the bytes from `at` on, and answers whether the file had them.
-pub(crate) fn read_whole<F: PlacedFile>(file: &F, at: u64, out: &mut [u8]) -> bool
+pub fn read_all_at<F: OffsetFile>(file: &F, at: u64, out: &mut [u8]) -> bool
     requires { at + length out.old < 2 ^ 64 }
-    ensures { IsTrue result → Holds (F.contents file.now) at out.new }
+    ensures bytes { IsTrue result → Holds (F.contents file.now) at out.new }
+    ensures failed { IsFalse result → F.may_fail ⊎ IsShorter (F.contents file.now) (at + length out.old) }
 {
     let mut done = 0;
     while done < out.len() {
@@ -34,7 +35,7 @@ pub(crate) fn read_whole<F: PlacedFile>(file: &F, at: u64, out: &mut [u8]) -> bo
 }
 
 // Writes all the bytes from `at` on, and answers whether that was possible.
-pub(crate) fn write_whole<F: PlacedFile>(file: &mut F, at: u64, bytes: &[u8]) -> bool
+pub fn write_all_at<F: OffsetFile>(file: &mut F, at: u64, bytes: &[u8]) -> bool
     requires { at + length bytes.now < 2 ^ 64 }
     ensures whole { IsTrue result → Overwrites (F.contents file.old) (F.contents file.new) at bytes.now }
     ensures len { KeepsLength (F.contents file.old) (F.contents file.new) (at + length bytes.now) }
@@ -50,7 +51,7 @@ pub(crate) fn write_whole<F: PlacedFile>(file: &mut F, at: u64, bytes: &[u8]) ->
     true
 }
 
-impl<F: PlacedFile> FileDisk<F> {
+impl<F: OffsetFile> FileDisk<F> {
     /// A disk over an open file.
     pub fn new(file: F) -> io::Result<FileDisk<F>>
     where
@@ -79,6 +80,7 @@ impl<F: PlacedFile> FileDisk<F> {
         ensures contents { F.contents self.new.file ≡ F.contents self.old.file }
         ensures at { (path : List ℕ) → F.is_at self.old.file path → F.is_at self.new.file path }
         ensures len { self.new.len ≡ self.old.len }
+        ensures faults { self.new.faults ≡ self.old.faults }
     {
         self.file.stabilize()
     }
@@ -96,7 +98,7 @@ impl<F: PlacedFile> FileDisk<F> {
     }
 }
 
-impl<F: PlacedFile> Disk for FileDisk<F> {
+impl<F: OffsetFile> Disk for FileDisk<F> {
     ghost use Rattle.tw_files.specs.FileDisk.{file_model, none_told};
 
     ghost model = { file_model };
@@ -123,12 +125,12 @@ impl<F: PlacedFile> Disk for FileDisk<F> {
         ensures reads { Reads file_model self.old self.new }
         ensures failed { IsErrOf result DiskError.Failed → Rose self.old.faults self.new.faults }
 
-        // What the file holds there, where it says what it holds.
+        // What the file holds there, if it says what it holds.
         ensures there { OnOk result (Holds (F.contents self.old.file) at out.new) }
         ensures well { OnOk result (self.new ≡ self.old) }
     {
         prove!(at <= self.len);
-        if read_whole(&self.file, at, out) {
+        if read_all_at(&self.file, at, out) {
             return Ok(());
         }
         Err(self.fail())
@@ -141,12 +143,12 @@ impl<F: PlacedFile> Disk for FileDisk<F> {
         ensures steps { Steps file_model (Torn at bytes.now) self.old self.new }
         ensures failed { IfErr result (λ e. (e ≡ DiskError.Failed) × Rose self.old.faults self.new.faults) }
 
-        // Each byte is written, where the file says what it holds.
+        // Each byte is written, if the file says what it holds.
         ensures whole { OnOk result (Overwrites (F.contents self.old.file) (F.contents self.new.file) at bytes.now) }
         ensures well { OnOk result (self.new.faults ≡ self.old.faults) }
     {
         prove!(at <= self.len);
-        if write_whole(&mut self.file, at, bytes) {
+        if write_all_at(&mut self.file, at, bytes) {
             return Ok(());
         }
         Err(self.fail())
@@ -159,7 +161,7 @@ impl<F: PlacedFile> Disk for FileDisk<F> {
         ensures steps { Steps file_model (Resized len) self.old self.new }
         ensures failed { IfErr result (λ e. (e ≡ DiskError.Failed) × Rose self.old.faults self.new.faults) }
 
-        // The file has that length, where it says what it holds.
+        // The file has that length, if it says what it holds.
         ensures cut { OnOk result (Resizes (F.contents self.old.file) (F.contents self.new.file) len) }
         ensures well { OnOk result (self.new.faults ≡ self.old.faults) }
     {
@@ -176,7 +178,7 @@ impl<F: PlacedFile> Disk for FileDisk<F> {
     }
 
     fn sync(&mut self) -> Result<(), DiskError>
-        ensures settled { OnOk result (Tells file_model self.old → Settled file_model self.new) }
+        ensures settled { OnOk result (Tells file_model self.old → IsStable file_model self.new) }
         ensures seen { Tells file_model self.old → file_model.seen self.new ≡ file_model.seen self.old }
         ensures len { self.new.len ≡ self.old.len }
         ensures steps { Steps file_model (λ d c. c ≡ d) self.old self.new }

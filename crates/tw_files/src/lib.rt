@@ -1,6 +1,6 @@
 //! The program's edge: the system's files, folders, streams and connections as disks, sources, sinks and peers.
-//! Each call says what it asks of the system, with which bytes, places, addresses and times, and each fault is counted.
-//! It stands on `tw_world`, whose traits it implements.
+//! Each call says what it asks of the system, with which bytes, offsets, addresses and times, and each fault is counted.
+//! It implements the traits of `tw_world`.
 #![tactic(auto)]
 
 mod client;
@@ -10,9 +10,9 @@ mod failing_folder;
 mod file_disk;
 mod file_folder;
 mod folders;
+mod offset_file;
 mod opening;
 mod peer;
-mod placed_file;
 mod source;
 mod stream;
 mod timed_stream;
@@ -24,9 +24,9 @@ pub use failing_folder::FailingFolder;
 pub use file_disk::FileDisk;
 pub use file_folder::{FileFolder, open_folder};
 pub use folders::Folders;
+pub use offset_file::{Busy, OffsetFile};
 pub use opening::open_disk;
 pub use peer::StreamPeer;
-pub use placed_file::{Busy, PlacedFile};
 pub use source::StreamSource;
 pub use stream::Stream;
 pub use timed_stream::{TimedStream, Timer};

@@ -19,12 +19,16 @@ pub struct StreamPeer<S: Read + Write> {
 
 impl<S: Read + Write> StreamPeer<S> {
     /// A peer at the other end of a stream.
-    pub fn new(stream: S) -> StreamPeer<S> {
+    pub fn new(stream: S) -> StreamPeer<S>
+        ensures { result ≡ record { stream = stream; faults = 0 } }
+    {
         StreamPeer { stream, faults: 0 }
     }
 
     /// The stream.
-    pub fn into_stream(self) -> S {
+    pub fn into_stream(self) -> S
+        ensures { result ≡ self.stream }
+    {
         self.stream
     }
 
@@ -53,7 +57,7 @@ impl<S: Read + Write> Peer for StreamPeer<S> {
         ensures kept { SourceKept (source_of peer_model) self.old self.new }
         ensures failed { OnErr result (Rose self.old.faults self.new.faults) }
 
-        // The stream's next bytes, where it says what it has: none only at its end.
+        // The stream's next bytes, if it says what it has: none only at its end.
         ensures next { IfOk result (λ count. Consumes (S.remaining self.old.stream) (S.remaining self.new.stream) (take count out.new)) }
         ensures end { IfOk result (λ count. count ≡ 0 → IsAtEnd (S.remaining self.new.stream)) }
         ensures well { OnOk result (self.new.faults ≡ self.old.faults) }
@@ -71,7 +75,7 @@ impl<S: Read + Write> Peer for StreamPeer<S> {
         ensures kept { SinkKept (sink_of peer_model) self.old self.new }
         ensures failed { OnErr result (Rose self.old.faults self.new.faults) }
 
-        // The stream has each byte, where it says what it has.
+        // The stream has each byte, if it says what it has.
         ensures whole { OnOk result (Appends (S.contents self.old.stream) (S.contents self.new.stream) bytes.now) }
         ensures well { OnOk result (self.new.faults ≡ self.old.faults) }
     {

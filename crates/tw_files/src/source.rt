@@ -16,7 +16,9 @@ pub struct StreamSource<R: Read> {
 
 impl<R: Read> StreamSource<R> {
     /// A source over a reader.
-    pub fn new(reader: R) -> StreamSource<R> {
+    pub fn new(reader: R) -> StreamSource<R>
+        ensures { result ≡ record { reader = reader; faults = 0 } }
+    {
         StreamSource { reader, faults: 0 }
     }
 }
@@ -35,7 +37,7 @@ impl<R: Read> Source for StreamSource<R> {
         ensures kept { SourceKept source_model self.old self.new }
         ensures failed { OnErr result (Rose self.old.faults self.new.faults) }
 
-        // The reader's next bytes, where it says what it has: none only at its end.
+        // The reader's next bytes, if it says what it has: none only at its end.
         ensures next { IfOk result (λ count. Consumes (R.remaining self.old.reader) (R.remaining self.new.reader) (take count out.new)) }
         ensures end { IfOk result (λ count. count ≡ 0 → IsAtEnd (R.remaining self.new.reader)) }
         ensures well { OnOk result (self.new.faults ≡ self.old.faults) }

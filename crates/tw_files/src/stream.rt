@@ -15,7 +15,7 @@ pub struct Stream<W: Write> {
 }
 
 // Writes all the bytes, and answers whether that was possible.
-pub(crate) fn write_whole<W: Write>(writer: &mut W, bytes: &[u8]) -> bool
+pub fn write_whole<W: Write>(writer: &mut W, bytes: &[u8]) -> bool
     ensures whole { IsTrue result → Appends (W.contents writer.old) (W.contents writer.new) bytes.now }
 {
     let mut done = 0;
@@ -30,7 +30,9 @@ pub(crate) fn write_whole<W: Write>(writer: &mut W, bytes: &[u8]) -> bool
 
 impl<W: Write> Stream<W> {
     /// A sink over a writer.
-    pub fn new(writer: W) -> Stream<W> {
+    pub fn new(writer: W) -> Stream<W>
+        ensures { result ≡ record { writer = writer; faults = 0 } }
+    {
         Stream { writer, faults: 0 }
     }
 }
@@ -46,7 +48,7 @@ impl<W: Write> Sink for Stream<W> {
         ensures kept { SinkKept stream_model self.old self.new }
         ensures failed { OnErr result (Rose self.old.faults self.new.faults) }
 
-        // No call that ends well counts a fault, and the writer has each byte then, where it says what it has.
+        // No call that ends well counts a fault, and the writer has each byte then, if it says what it has.
         ensures whole { OnOk result (Appends (W.contents self.old.writer) (W.contents self.new.writer) bytes.now) }
         ensures well { OnOk result (self.new.faults ≡ self.old.faults) }
     {

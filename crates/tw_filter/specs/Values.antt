@@ -9,7 +9,7 @@ use Rattle.tw_time.specs.declared.clock.Day.{Day}
 use Rattle.tw_time.specs.declared.error.DateError.{DateError}
 use Rattle.tw_urgency.specs.declared.status.Status.{Status}
 use Rattle.tw_urgency.specs.declared.status.Status.TheVariants as status
-use Rattle.tw_filter.specs.Names.{uuid_of_36, number_in}
+use Rattle.tw_filter.specs.IdWords.{uuid_of_36, number_in}
 use Rattle.tw_filter.specs.Attributes.{is_priority}
 use Rattle.tw_filter.specs.declared.bad_word.WordKind.{WordKind}
 use Rattle.tw_filter.specs.declared.bad_word.WordKind.TheVariants as bad
@@ -50,7 +50,7 @@ presence _ name = Has name
 
 -- ---- values
 
--- a priority that the property is, or is not; behind `is` and `isnt` the value may be empty
+-- a priority that the property is, or is not; after `is` and `isnt` the value may be empty
 abbrev pub priority_term : Bool → (name value : List ℕ) → Result Term WordKind
 priority_term wanted name value = cond (is_priority value || (length value == 0)) (asks wanted (Is name value)) (Err bad.Value)
 
@@ -90,7 +90,7 @@ status_term wanted value = status_value value >>= λ s. asks wanted (HasStatus s
 abbrev pub uuid_term : List ℕ → Result Term WordKind
 uuid_term value = uuid_value value >>= λ u. asks true (IsUuid u)
 
--- a moment of the day that the value tells
+-- a moment of the day that the value says
 abbrev pub day_term : (name value : List ℕ) → ℕ → TimeZone → Result Term WordKind
 day_term name value now tz = do
   at ← moment_value value now tz

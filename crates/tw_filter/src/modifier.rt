@@ -2,10 +2,11 @@
 ghost use Rattle.std.specs.Prelude.{◌≡◌, ◌<◌, IfOk};
 ghost use Rattle.tw_time.specs.Civil.{limit};
 ghost use Rattle.tw_filter.specs.Gives.{GivesTerm};
-ghost use Rattle.tw_filter.specs.Modifiers.{modifier_named, moment_term, equal, has_texts, compared, of_text, bound, before, after, modified_by, modified, of_parent, modified_term};
+ghost use Rattle.tw_filter.specs.Modifiers.{modifier_named, moment_term, equal, has_texts, compared, of_text, bound, before, after};
+ghost use Rattle.tw_filter.specs.Modifiers.{modified_by, modified, of_parent, modified_term};
 
 use crate::attribute::Attribute;
-use crate::bad_word::{TermError, WordKind};
+use crate::bad_word::{KindError, WordKind};
 use crate::term::{Term, Test, asks};
 use crate::value::{is_text, moment_value, presence, priority_term, status_term};
 use std::alloc::Global;
@@ -70,7 +71,7 @@ fn moment_term(
     value: &str,
     now: u64,
     zone: &Zone,
-) -> Result<Term, TermError>
+) -> Result<Term, KindError>
     requires { now < limit }
     ensures { GivesTerm result (moment_term wanted name.now value.now now zone.now) }
 {
@@ -88,7 +89,7 @@ fn equal(
     value: &str,
     now: u64,
     zone: &Zone,
-) -> Result<Term, TermError>
+) -> Result<Term, KindError>
     requires { now < limit }
     ensures { GivesTerm result (equal wanted attribute name.now value.now now zone.now) }
 {
@@ -97,7 +98,7 @@ fn equal(
         Attribute::Priority => priority_term(alloc, wanted, name, value),
         Attribute::Moment => moment_term(alloc, wanted, name, value, now, zone),
         Attribute::Status => status_term(wanted, value),
-        _ => Err(TermError::Bad(WordKind::Modifier)),
+        _ => Err(KindError::Bad(WordKind::Modifier)),
     }
 }
 
@@ -132,11 +133,11 @@ fn of_text(
     wanted: bool,
     name: &str,
     value: &str,
-) -> Result<Term, TermError>
+) -> Result<Term, KindError>
     ensures { GivesTerm result (of_text attribute how wanted name.now value.now) }
 {
     if !has_texts(attribute) {
-        return Err(TermError::Bad(WordKind::Modifier));
+        return Err(KindError::Bad(WordKind::Modifier));
     }
     asks(wanted, compared(alloc, how, name, value)?)
 }
@@ -160,7 +161,7 @@ fn before(
     value: &str,
     now: u64,
     zone: &Zone,
-) -> Result<Term, TermError>
+) -> Result<Term, KindError>
     requires { now < limit }
     ensures { GivesTerm result (before attribute name.now value.now now zone.now) }
 {
@@ -176,7 +177,7 @@ fn after(
     value: &str,
     now: u64,
     zone: &Zone,
-) -> Result<Term, TermError>
+) -> Result<Term, KindError>
     requires { now < limit }
     ensures { GivesTerm result (after attribute name.now value.now now zone.now) }
 {
@@ -194,7 +195,7 @@ fn modified_by(
     value: &str,
     now: u64,
     zone: &Zone,
-) -> Result<Term, TermError>
+) -> Result<Term, KindError>
     requires { now < limit }
     ensures { GivesTerm result (modified_by modifier attribute name.now value.now now zone.now) }
 {
@@ -215,23 +216,23 @@ fn modified(
     value: &str,
     now: u64,
     zone: &Zone,
-) -> Result<Term, TermError>
+) -> Result<Term, KindError>
     requires { now < limit }
     ensures { GivesTerm result (modified modifier attribute name.now value.now now zone.now) }
 {
     match modifier {
         Some(modifier) => modified_by(alloc, modifier, attribute, name, value, now, zone),
-        None => Err(TermError::Bad(WordKind::Modifier)),
+        None => Err(KindError::Bad(WordKind::Modifier)),
     }
 }
 
 // A parent is asked for by `any` and `none` alone.
-fn of_parent(alloc: Global, name: &str, modifier: Option<Modifier>) -> Result<Term, TermError>
+fn of_parent(alloc: Global, name: &str, modifier: Option<Modifier>) -> Result<Term, KindError>
     ensures { GivesTerm result (of_parent name.now modifier) }
 {
     match modifier {
         Some(Modifier::Present(wanted)) => asks(wanted, Test::Has(Text::from_str(alloc, name)?)),
-        _ => Err(TermError::Bad(WordKind::Attribute)),
+        _ => Err(KindError::Bad(WordKind::Attribute)),
     }
 }
 
@@ -244,13 +245,13 @@ pub(crate) fn modified_term(
     value: &str,
     now: u64,
     zone: &Zone,
-) -> Result<Term, TermError>
+) -> Result<Term, KindError>
     requires { now < limit }
     ensures { GivesTerm result (modified_term attribute name.now modifier.now value.now now zone.now) }
 {
     let modifier = modifier_named(modifier);
     match attribute {
-        Attribute::Uuid | Attribute::Other => Err(TermError::Bad(WordKind::Attribute)),
+        Attribute::Uuid | Attribute::Other => Err(KindError::Bad(WordKind::Attribute)),
         Attribute::Parent => of_parent(alloc, name, modifier),
         _ => modified(alloc, modifier, attribute, name, value, now, zone),
     }

@@ -2,11 +2,12 @@
 ghost use Rattle.std.specs.Prelude.{◌≡◌, ◌<◌, IfOk, true};
 ghost use Rattle.tw_time.specs.Civil.{limit};
 ghost use Rattle.tw_filter.specs.Gives.{GivesTerm};
-ghost use Rattle.tw_filter.specs.Values.{status_named, asks, presence, priority_term, status_value, status_term, uuid_value, uuid_term, moment_value, day_value, day_term, dependency_term, valued, unvalued, plain_term};
+ghost use Rattle.tw_filter.specs.Values.{status_named, asks, presence, priority_term, status_value, status_term, uuid_value, uuid_term};
+ghost use Rattle.tw_filter.specs.Values.{moment_value, day_value, day_term, dependency_term, valued, unvalued, plain_term};
 
 use crate::attribute::{Attribute, is_priority};
-use crate::bad_word::{TermError, WordKind};
-use crate::name::{number_in, uuid_of_36};
+use crate::bad_word::{KindError, WordKind};
+use crate::id_word::{number_in, uuid_of_36};
 use crate::term::{Term, Test, asks};
 use std::alloc::Global;
 use tw_time::{Day, Zone, day_of, look_up, read_moment};
@@ -43,19 +44,19 @@ pub(crate) fn presence(alloc: Global, attribute: Attribute, name: &str) -> Resul
     Ok(test)
 }
 
-// A priority that the property is, or is not. Behind `is` and `isnt` the value may be empty.
+// A priority that the property is, or is not. After `is` and `isnt` the value may be empty.
 pub(crate) fn priority_term(
     alloc: Global,
     wanted: bool,
     name: &str,
     value: &str,
-) -> Result<Term, TermError>
+) -> Result<Term, KindError>
     ensures { GivesTerm result (priority_term wanted name.now value.now) }
 {
     if is_priority(value) || value.is_empty() {
         is_text(alloc, wanted, name, value)
     } else {
-        Err(TermError::Bad(WordKind::Value))
+        Err(KindError::Bad(WordKind::Value))
     }
 }
 
@@ -65,7 +66,7 @@ pub(crate) fn is_text(
     wanted: bool,
     name: &str,
     value: &str,
-) -> Result<Term, TermError>
+) -> Result<Term, KindError>
     ensures { GivesTerm result (asks wanted (Test.Is name.now value.now)) }
 {
     let name = Text::from_str(alloc, name)?;
@@ -80,7 +81,7 @@ fn status_value(value: &str) -> Result<Status, WordKind>
 }
 
 /// A status that the task has, or has not.
-pub(crate) fn status_term(wanted: bool, value: &str) -> Result<Term, TermError>
+pub(crate) fn status_term(wanted: bool, value: &str) -> Result<Term, KindError>
     ensures { GivesTerm result (status_term wanted value.now) }
 {
     let status = status_value(value)?;
@@ -93,7 +94,7 @@ fn uuid_value(value: &str) -> Result<Uuid, WordKind>
     uuid_of_36(value).ok_or(WordKind::Value)
 }
 
-fn uuid_term(value: &str) -> Result<Term, TermError>
+fn uuid_term(value: &str) -> Result<Term, KindError>
     ensures { GivesTerm result (uuid_term value.now) }
 {
     let uuid = uuid_value(value)?;
@@ -120,7 +121,7 @@ fn day_value(at: u64, zone: &Zone) -> Result<Day, WordKind>
 
 // `depends:value`: one task, by its uuid or its number.
 #[tactic(auto, unfolding(crate::specs::Values::dependency_term))]
-fn dependency_term(value: &str) -> Result<Term, TermError>
+fn dependency_term(value: &str) -> Result<Term, KindError>
     ensures { GivesTerm result (dependency_term value.now) }
 {
     if let Some(uuid) = uuid_of_36(value) {
@@ -130,14 +131,14 @@ fn dependency_term(value: &str) -> Result<Term, TermError>
     asks(true, Test::DependsOnNumber(number))
 }
 
-// A moment of the day that the value tells.
+// A moment of the day that the value says.
 fn day_term(
     alloc: Global,
     name: &str,
     value: &str,
     now: u64,
     zone: &Zone,
-) -> Result<Term, TermError>
+) -> Result<Term, KindError>
     requires { now < limit }
     ensures { GivesTerm result (day_term name.now value.now now zone.now) }
 {
@@ -147,7 +148,7 @@ fn day_term(
 }
 
 // A project, or one below it.
-fn project_term(alloc: Global, name: &str, value: &str) -> Result<Term, TermError>
+fn project_term(alloc: Global, name: &str, value: &str) -> Result<Term, KindError>
     ensures { GivesTerm result (asks true (Test.IsWithin name.now value.now)) }
 {
     let name = Text::from_str(alloc, name)?;
@@ -164,7 +165,7 @@ fn valued(
     value: &str,
     now: u64,
     zone: &Zone,
-) -> Result<Term, TermError>
+) -> Result<Term, KindError>
     requires { now < limit }
     ensures { GivesTerm result (valued attribute name.now value.now now zone.now) }
 {
@@ -174,20 +175,20 @@ fn valued(
         Attribute::Priority => priority_term(alloc, true, name, value),
         Attribute::Moment => day_term(alloc, name, value, now, zone),
         Attribute::Status => status_term(true, value),
-        Attribute::Recur => Err(TermError::Bad(WordKind::Value)),
+        Attribute::Recur => Err(KindError::Bad(WordKind::Value)),
         Attribute::Depends => dependency_term(value),
         Attribute::Uuid => uuid_term(value),
-        Attribute::Parent | Attribute::Other => Err(TermError::Bad(WordKind::Attribute)),
+        Attribute::Parent | Attribute::Other => Err(KindError::Bad(WordKind::Attribute)),
     }
 }
 
 // `name:`, which asks that the attribute is absent.
-fn unvalued(alloc: Global, attribute: Attribute, name: &str) -> Result<Term, TermError>
+fn unvalued(alloc: Global, attribute: Attribute, name: &str) -> Result<Term, KindError>
     ensures { GivesTerm result (unvalued attribute name.now) }
 {
     match attribute {
-        Attribute::Uuid => Err(TermError::Bad(WordKind::Value)),
-        Attribute::Parent | Attribute::Other => Err(TermError::Bad(WordKind::Attribute)),
+        Attribute::Uuid => Err(KindError::Bad(WordKind::Value)),
+        Attribute::Parent | Attribute::Other => Err(KindError::Bad(WordKind::Attribute)),
         _ => asks(false, presence(alloc, attribute, name)?),
     }
 }
@@ -200,7 +201,7 @@ pub(crate) fn plain_term(
     value: &str,
     now: u64,
     zone: &Zone,
-) -> Result<Term, TermError>
+) -> Result<Term, KindError>
     requires { now < limit }
     ensures { GivesTerm result (plain_term attribute name.now value.now now zone.now) }
 {

@@ -7,9 +7,9 @@ use Rattle.tw_journal.specs.declared.journal.Journal.{Journal}
 use Rattle.tw_replica.specs.Body.{Step}
 use Rattle.tw_replica.specs.Replica.{magic, IsReplicaOn, held_state}
 use Rattle.tw_replica.specs.Prepared.{IsPrepared, IsLengthReady, prepared_state, prepared_bodies, step_bodies}
-use Rattle.tw_replica.specs.declared.prepared.Prepared.{Prepared}
+use Rattle.tw_replica.specs.declared.step.write.Prepared.{Prepared}
 use Rattle.tw_replica.specs.declared.replica.Replica.{Replica}
-use Rattle.tw_replica.proofs.Preparing.{prepared_on}
+use Rattle.tw_replica.proofs.PreparedWritten.{prepared_on}
 
 module _ (old : Replica) (disk : MemoryDisk) (bodies : List (List ℕ)) (on : IsReplicaOn memory_model old disk bodies) (step : Step) (prepared : Prepared) (is : IsPrepared old step prepared) where
   -- the disk has the length that the journal left

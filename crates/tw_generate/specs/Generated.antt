@@ -1,5 +1,5 @@
 -- A large world: what two replicas and their server came to.
-use Rattle.std.specs.Prelude.{◌≡◌, ℕ, false, List, [], length, Some, codes}
+use Rattle.std.specs.Prelude.{◌≡◌, ℕ, Bool, false, List, [], length, Some, codes}
 use Rattle.std.specs.FinMap.{keys}
 use Rattle.tw_world.specs.declared.Moment.{Moment}
 use Rattle.tw_model.specs.Maps.{same_bytes}
@@ -28,7 +28,7 @@ exported state second weights = export_text (keys state.tasks) state.tasks secon
 abbrev pub HasChanged : List Change → Moment → (old new : State) → Type 0
 HasChanged changes at old new = committed false (group_of (ops_of_all old.tasks changes at)) old ≡ Some new
 
--- the two replicas, and what is told of their server's chain
+-- the two replicas, and their server's chain
 pub record World : Type 0 where
   pub first : State
   pub second : State
@@ -54,6 +54,14 @@ FirstSyncs report old new = SyncEnd old.first new.first old.server new.server re
 
 abbrev pub SecondSyncs : SyncReport → (old new : World) → Type 0
 SecondSyncs report old new = SyncEnd old.second new.second old.server new.server report × (new.first ≡ old.first)
+
+-- the second of the exports
+abbrev pub exported_at : ℕ
+exported_at = 1700300000
+
+-- whether both replicas export the same
+abbrev pub exports_equal : World → Coefficients → Bool
+exports_equal world weights = same_bytes (exported world.first exported_at weights) (exported world.second exported_at weights)
 
 -- the moments at which the tasks are made, and then moved by each of the replicas
 pub record Moments : Type 0 where
@@ -85,4 +93,4 @@ pub record IsGenerated (count seed : ℕ) (weights : Coefficients) (text : List 
   pub second_sends : (r : SyncReport) × SecondSyncs r both_moved second_sent
   pub first_sends : FirstSyncs report second_sent first_sent
   pub ends : (r : SyncReport) × SecondSyncs r first_sent ended
-  pub tells : text ≡ summary count (length (segment_text (plain filled.first.pending))) report (same_bytes (exported ended.first 1700300000 weights) (exported ended.second 1700300000 weights))
+  pub tells : text ≡ summary count (length (segment_text (plain filled.first.pending))) report (exports_equal ended weights)

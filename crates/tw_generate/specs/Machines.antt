@@ -3,7 +3,7 @@ use Rattle.std.specs.Prelude.{ℕ, List}
 use Rattle.tw_world.specs.Memory.{memory_model}
 use Rattle.tw_http.specs.Link.{IsHonest}
 use Rattle.tw_replica.specs.Replica.{IsReplicaOn, held_state}
-use Rattle.tw_server.specs.MemoryLink.{memory_link_model}
+use Rattle.tw_server.specs.Memory.Link.{memory_link_model}
 use Rattle.tw_sync.specs.Sync.{server_chain}
 use Rattle.tw_generate.specs.Generated.{World}
 use Rattle.tw_generate.specs.declared.machine.Machine.{Machine}
@@ -15,11 +15,12 @@ abbrev pub IsOpen : Machine → Type 0
 IsOpen machine = (bodies : List (List ℕ)) × IsReplicaOn memory_model machine.replica machine.disk bodies
 
 -- both replicas are open, and the link tells the chain of their client truly
-pub record IsReady (network : Network) : Type 0 where
+pub record IsConnected (network : Network) : Type 0 where
   pub first : IsOpen network.first
   pub second : IsOpen network.second
   pub link : IsHonest memory_link_model network.link CLIENT
 
 -- what they hold
 abbrev pub world_of : Network → World
-world_of network = record { first = held_state network.first.replica; second = held_state network.second.replica; server = server_chain memory_link_model network.link }
+world_of network =
+    record { first = held_state network.first.replica; second = held_state network.second.replica; server = server_chain memory_link_model network.link }

@@ -17,12 +17,14 @@ project_of seed i = codes "p" ++ decimal ((i + seed) % 10)
 
 -- its words: a description and a project
 abbrev pub worded : (seed i : ℕ) → TaskValue → TaskValue
-worded seed i task = insert (insert task (codes "description") (codes "Task " ++ decimal i)) (codes "project") (project_of seed i)
+worded seed i task =
+    insert (insert task (codes "description") (codes "Task " ++ decimal i)) (codes "project") (project_of seed i)
 
 -- its moments: due a minute after the one before it, and entered a second after
 abbrev pub timed : ℕ → TaskValue → TaskValue
 timed i task =
-    insert (insert (insert task (codes "due") (decimal (1800000000 + 60 * i))) (codes "entry") (decimal (1700000000 + i))) (codes "modified") (decimal (1700000000 + i))
+    insert (insert (insert task (codes "due") (decimal (1800000000 + 60 * i))) (codes "entry") (decimal (1700000000 + i)))
+    (codes "modified") (decimal (1700000000 + i))
 
 -- the other properties
 abbrev pub marked : ℕ → TaskValue → TaskValue

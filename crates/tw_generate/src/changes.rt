@@ -23,7 +23,7 @@ pub(crate) fn made(alloc: Global, seed: u64, count: u64) -> Result<Vec<Change>, 
     Ok(changes)
 }
 
-// A task goes to another project, where the number divides its own.
+// A task goes to another project, if the number divides its own.
 fn push_moved(
     alloc: Global,
     changes: &mut Vec<Change>,

@@ -7,7 +7,6 @@ mod changes;
 mod machine;
 mod moments;
 mod network;
-mod operations;
 mod summary;
 mod tasks;
 mod world;

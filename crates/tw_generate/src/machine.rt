@@ -1,12 +1,12 @@
 // A replica over a disk in memory.
 
-use crate::operations::segment_bytes;
 use std::alloc::Global;
 use tw_export::export_text;
 use tw_model::Change;
 use tw_replica::Replica;
+use tw_segment::write_segment;
 use tw_server::MemoryLink;
-use tw_sync::{SyncReport, sync};
+use tw_sync::{SyncReport, sync, sync_ops};
 use tw_urgency::Coefficients;
 use tw_world::{Memory, MemoryDisk, Moment};
 use uuid::Uuid;
@@ -39,7 +39,7 @@ impl Machine {
     ghost use Rattle.tw_segment.specs.Segment.{segment_text};
     ghost use Rattle.tw_replica.specs.State.{start};
     ghost use Rattle.tw_replica.specs.Replica.{held_state};
-    ghost use Rattle.tw_server.specs.MemoryLink.{memory_link_model};
+    ghost use Rattle.tw_server.specs.Memory.Link.{memory_link_model};
     ghost use Rattle.tw_sync.specs.Answers.{IsLinkKept};
     ghost use Rattle.tw_sync.specs.End.{SyncEnd};
     ghost use Rattle.tw_sync.specs.Sync.{server_chain};
@@ -104,7 +104,10 @@ impl Machine {
         ensures { IfOk result (λ bytes. bytes ≡ length (segment_text (plain (held_state self.now.replica).pending))) }
     {
         let ops = self.replica.pending().ops(alloc)?;
-        segment_bytes(alloc, &ops)
+        match write_segment(alloc, &sync_ops(alloc, &ops)?) {
+            Ok(text) => Ok(text.len() as u64),
+            Err(_) => Err(Memory),
+        }
     }
 
     /// The export of all tasks.

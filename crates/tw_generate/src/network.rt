@@ -9,7 +9,7 @@ use tw_sync::SyncReport;
 use tw_world::{IdWords, Memory, Moment};
 use uuid::Uuid;
 
-/// Two replicas and a link to their server, all of them in memory. After want of memory a part of a step may be done, and it is to be
+/// Two replicas and a link to their server, all of them in memory. If memory ran out a part of a step may be done, and it is to be
 /// dropped.
 pub(crate) struct Network {
     pub(crate) first: Machine,
@@ -31,12 +31,12 @@ impl Drop for Network {
 impl Network {
     ghost use Rattle.std.specs.Prelude.{◌≡◌, IfOk, OnOk};
     ghost use Rattle.tw_generate.specs.Generated.{empty_world, FirstChanges, SecondChanges, FirstSyncs, SecondSyncs};
-    ghost use Rattle.tw_generate.specs.Machines.{IsReady, world_of};
+    ghost use Rattle.tw_generate.specs.Machines.{IsConnected, world_of};
 
-    /// Empty replicas and a server without versions. The server draws its identifiers behind those of so many tasks.
+    /// Empty replicas and a server without versions. The server draws its identifiers after those of so many tasks.
     pub(crate) fn new(alloc: Global, seed: u64, count: u64) -> Result<Network, Memory>
         ensures empty { IfOk result (λ network. world_of network ≡ empty_world) }
-        ensures ready { IfOk result IsReady }
+        ensures connected { IfOk result IsConnected }
     {
         let ids = IdWords {
             start: seed as u128 * TWO_TO_64 + count as u128,
@@ -57,9 +57,9 @@ impl Network {
         changes: Vec<Change>,
         at: Moment,
     ) -> Result<Network, Memory>
-        requires { IsReady self }
+        requires { IsConnected self }
         ensures changed { IfOk result (λ network. FirstChanges changes.items at (world_of self) (world_of network)) }
-        ensures ready { IfOk result IsReady }
+        ensures connected { IfOk result IsConnected }
     {
         let Network {
             first,
@@ -80,9 +80,9 @@ impl Network {
         changes: Vec<Change>,
         at: Moment,
     ) -> Result<Network, Memory>
-        requires { IsReady self }
+        requires { IsConnected self }
         ensures changed { IfOk result (λ network. SecondChanges changes.items at (world_of self) (world_of network)) }
-        ensures ready { IfOk result IsReady }
+        ensures connected { IfOk result IsConnected }
     {
         let Network {
             first,
@@ -98,18 +98,18 @@ impl Network {
 
     /// The first replica syncs.
     pub(crate) fn sync_first(&mut self, alloc: Global) -> Result<SyncReport, Memory>
-        requires { IsReady self.old }
+        requires { IsConnected self.old }
         ensures synced { IfOk result (λ report. FirstSyncs report (world_of self.old) (world_of self.new)) }
-        ensures ready { OnOk result (IsReady self.new) }
+        ensures connected { OnOk result (IsConnected self.new) }
     {
         self.first.sync(alloc, &mut self.link)
     }
 
     /// The second replica syncs.
     pub(crate) fn sync_second(&mut self, alloc: Global) -> Result<SyncReport, Memory>
-        requires { IsReady self.old }
+        requires { IsConnected self.old }
         ensures synced { IfOk result (λ report. SecondSyncs report (world_of self.old) (world_of self.new)) }
-        ensures ready { OnOk result (IsReady self.new) }
+        ensures connected { OnOk result (IsConnected self.new) }
     {
         self.second.sync(alloc, &mut self.link)
     }

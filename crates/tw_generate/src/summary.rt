@@ -14,7 +14,7 @@ fn word_of(equal: bool) -> &'static str
     if equal { "equal" } else { "different" }
 }
 
-// Puts a number and a text behind a text.
+// Appends a number and a text to a text.
 fn push_number(text: &mut Vec<u8>, number: u64, back: &str) -> Result<(), Memory>
     ensures { OnOk result (text.new.items ≡ text.old.items ++ decimal number ++ back.now) }
 {

@@ -1,8 +1,7 @@
 // A large world, from its number of tasks and a seed.
 ghost use Rattle.std.specs.Prelude.{◌≡◌, ◌≤◌, IfOk};
-ghost use Rattle.tw_model.specs.Maps.{same_bytes};
 ghost use Rattle.tw_urgency.specs.Urgency.{AreWeights};
-ghost use Rattle.tw_generate.specs.Generated.{IsGenerated, exported};
+ghost use Rattle.tw_generate.specs.Generated.{IsGenerated, exports_equal};
 ghost use Rattle.tw_generate.specs.Machines.{world_of};
 
 use crate::changes::{made, moved};
@@ -16,7 +15,7 @@ use tw_world::Memory;
 // Whether both replicas export the same.
 fn export_the_same(alloc: Global, network: &Network, weights: &Coefficients) -> Result<bool, Memory>
     requires { AreWeights weights.now }
-    ensures { IfOk result (λ equal. equal ≡ same_bytes (exported (world_of network.now).first 1700300000 weights.now) (exported (world_of network.now).second 1700300000 weights.now)) }
+    ensures { IfOk result (λ equal. equal ≡ exports_equal (world_of network.now) weights.now) }
 {
     let first = network.first.export(alloc, EXPORTED_AT, weights)?;
     let second = network.second.export(alloc, EXPORTED_AT, weights)?;

@@ -1,4 +1,4 @@
--- What stands whatever bytes follow.
+-- What is the same whatever bytes follow.
 use Rattle.std.proofs.Common.{◌≡◌, ◌≢◌, ◌∙◌, ℕ, suc, ◌+◌, ◌-◌, ◌<◌, ◌≤◌, inl, inr, List, [], ◌∷◌, ◌++◌, true, false, Option, Some, None, Result, Ok, Err, refl, sym, ap, subst, arith, option_map, unwrap_or, take, drop, length, ◌==◌, ◌&&◌, nat_lt, codes}
 use Rattle.std.proofs.lemmas.Bool.{false≢true, and_parts, cases_Bool, cases_lt, ltb-false, le-ltb, lt-ltb}
 use Rattle.std.proofs.lemmas.List.{append-nil, take_all, take-append-le, drop-append-le, length-take, length-append}
@@ -15,7 +15,7 @@ use Rattle.tw_http.specs.Bodies.{body_of, body_len}
 use Rattle.tw_http.specs.Requests.{asked_of, type_of, is_add, request_made, request_after, IsRequestHeadAnswer, IsRequestAnswerAt, IsRequestAnswer}
 use Rattle.tw_http.specs.Responses.{kind_in, response_made, response_after, IsResponseHeadAnswer, IsResponseAnswerAt, IsResponseAnswer}
 use Rattle.tw_http.specs.Faults.{Unless, Decided}
-use Rattle.tw_http.proofs.Ends.{found_here, not_here}
+use Rattle.tw_http.proofs.HeadSteps.{found_here, not_here}
 
 -- ---- the end of the head
 

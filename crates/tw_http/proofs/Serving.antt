@@ -8,8 +8,8 @@ use Rattle.uuid.specs.Parts.{zero_bytes}
 use Rattle.uuid.specs.Text.{lower}
 use Rattle.uuid.proofs.RoundTrips.{parses_hyphenated_text}
 use Rattle.tw_protocol.specs.Chain.{Version, IsUuid, same_id, last_from, latest, IsRow, has_id}
-use Rattle.tw_protocol.specs.Answer.{Told, version, accepts, child_behind}
-use Rattle.tw_protocol.specs.Answer.Told.{Added, Conflict, Found, UpToDate, Gone, Taken}
+use Rattle.tw_protocol.specs.Answer.{Finding, version, accepts, child_behind}
+use Rattle.tw_protocol.specs.Answer.Finding.{Added, Conflict, Found, UpToDate, Gone, Taken}
 use Rattle.tw_http.specs.declared.message.Asked.TheVariants as asked
 use Rattle.tw_http.specs.declared.message.Request.TheVariants.{Add, Child}
 use Rattle.tw_http.specs.declared.message.Response.TheVariants as answer
@@ -18,7 +18,7 @@ use Rattle.tw_http.specs.Responses.{IsResponseAnswer}
 use Rattle.tw_http.specs.Serving.{response_of, SegmentsFit}
 use Rattle.tw_http.specs.Laws.{ServedIsRead}
 use Rattle.tw_http.proofs.Visible.{all_on}
-use Rattle.tw_http.proofs.Responses.{response_back}
+use Rattle.tw_http.proofs.ResponseBack.{response_back}
 
 -- ---- uuids
 
@@ -35,17 +35,17 @@ last_uuid : (h : List ℕ) (vs : List Version) → IsUuid h → All (λ v. IsUui
 last_uuid h [] uuid all = uuid
 last_uuid h (v ∷ vs) uuid all = last_uuid v.id vs (All-head (λ v. IsUuid v.id) v vs all) (All-tail (λ v. IsUuid v.id) v vs all)
 
--- ---- what is told
+-- ---- what is answered
 
--- the text of what is told to an add-version is read
-abbrev AddReads : List ℕ → Told → Type 0
+-- the text of the answer to an add-version is read
+abbrev AddReads : List ℕ → Finding → Type 0
 AddReads more t = IsResponseAnswer asked.Add (response_text (response_of t) ++ more) (Ok (response_of t))
 
-abbrev ChildReads : List ℕ → Told → Type 0
+abbrev ChildReads : List ℕ → Finding → Type 0
 ChildReads more t = IsResponseAnswer asked.Child (response_text (response_of t) ++ more) (Ok (response_of t))
 
 added_reads : (t there : Bool) (chain : List Version) (parent segment id more : List ℕ) → IsUuid id → IsUuid (latest chain)
-    → AddReads more (cond {A = List Version × Told} t (cond there ([], Taken) (version id parent segment ∷ [], Added id)) ([], Conflict (latest chain))).1
+    → AddReads more (cond {A = List Version × Finding} t (cond there ([], Taken) (version id parent segment ∷ [], Added id)) ([], Conflict (latest chain))).1
 added_reads true true chain parent segment id more uuid last = response_back asked.Add answer.Taken more tt tt refl (omega arith)
 added_reads true false chain parent segment id more uuid last = response_back asked.Add (answer.Added id) more (uuid_back id uuid) tt refl (omega arith)
 added_reads false there chain parent segment id more uuid last = response_back asked.Add (answer.Conflict (latest chain)) more tt (uuid_back (latest chain) last) refl (omega arith)
@@ -54,7 +54,7 @@ at_end_reads : (t : Bool) (more : List ℕ) → ChildReads more (cond t UpToDate
 at_end_reads true more = response_back asked.Child answer.UpToDate more tt tt refl (omega arith)
 at_end_reads false more = response_back asked.Child answer.Gone more tt tt refl (omega arith)
 
-version_reads : (t : Bool) (v : Version) (other : Told) (more : List ℕ) → IsUuid v.id → IsUuid v.parent → length v.segment ≤ max_body → ChildReads more other → ChildReads more (cond t (Found v) other)
+version_reads : (t : Bool) (v : Version) (other : Finding) (more : List ℕ) → IsUuid v.id → IsUuid v.parent → length v.segment ≤ max_body → ChildReads more other → ChildReads more (cond t (Found v) other)
 version_reads true v other more id parent few rest = response_back asked.Child (answer.Child v.id v.parent v.segment) more (uuid_back v.id id) (uuid_back v.parent parent) refl few
 version_reads false v other more id parent few rest = rest
 

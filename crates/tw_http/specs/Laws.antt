@@ -1,7 +1,6 @@
 -- Laws of messages.
 use Rattle.std.specs.Prelude.{◌≡◌, ℕ, List, ◌++◌, Result, Ok}
 use Rattle.tw_protocol.specs.Chain.{Version, IsUuid, IsChain}
-use Rattle.tw_protocol.specs.Answer.{answer}
 use Rattle.tw_http.specs.declared.message.Asked.{Asked}
 use Rattle.tw_http.specs.declared.message.Request.{Request}
 use Rattle.tw_http.specs.declared.message.Response.{Response}
@@ -9,7 +8,7 @@ use Rattle.tw_http.specs.declared.message.HttpError.{HttpError}
 use Rattle.tw_http.specs.Messages.{response_text}
 use Rattle.tw_http.specs.Requests.{IsRequestAnswer}
 use Rattle.tw_http.specs.Responses.{IsResponseAnswer}
-use Rattle.tw_http.specs.Serving.{kind_of, ask_of, response_of, SegmentsFit}
+use Rattle.tw_http.specs.Serving.{kind_of, response_in, SegmentsFit}
 
 abbrev pub RequestHasOneAnswer : Type 0
 RequestHasOneAnswer = (bytes : List ℕ) (r s : Result Request HttpError) → IsRequestAnswer bytes r → IsRequestAnswer bytes s → r ≡ s
@@ -20,4 +19,4 @@ ResponseHasOneAnswer = (what : Asked) (bytes : List ℕ) (r s : Result Response 
 -- the text of the server's answer at a chain is read as that answer, whatever follows
 abbrev pub ServedIsRead : Type 0
 ServedIsRead = (chain : List Version) (asked : Request) (id more : List ℕ) → IsChain chain → SegmentsFit chain → IsUuid id
-    → IsResponseAnswer (kind_of asked) (response_text (response_of (answer chain (ask_of asked) id).1) ++ more) (Ok (response_of (answer chain (ask_of asked) id).1))
+    → IsResponseAnswer (kind_of asked) (response_text (response_in chain asked id) ++ more) (Ok (response_in chain asked id))

@@ -8,7 +8,7 @@ use Rattle.tw_http.specs.declared.message.Request.{Request}
 use Rattle.tw_http.specs.declared.message.HttpError.{HttpError}
 use Rattle.tw_http.specs.Messages.{response_text}
 use Rattle.tw_http.specs.Requests.{IsRequestAnswer}
-use Rattle.tw_http.specs.Serving.{client_of, ask_of, response_of, refusal_of, SegmentsFit}
+use Rattle.tw_http.specs.Serving.{client_of, ask_of, response_in, refusal_of, SegmentsFit}
 
 -- a request and the reply to it
 pub record Exchange : Type 0 where
@@ -36,7 +36,7 @@ pub record LinkModel (L : Type 0) : Type 1 where
   -- is every reply the server's?
   pub honest : L → Bool
 
--- The server answers a request at a chain: others have added to it before, and may add more behind what it adds.
+-- The server answers a request at a chain: others have added to it before, and may add more after what it adds.
 pub record Serves (old new own own_now : List Version) (request : Request) (reply : List ℕ) : Type 0 where
   pub at : List Version
   pub id : List ℕ
@@ -45,18 +45,22 @@ pub record Serves (old new own own_now : List Version) (request : Request) (repl
   pub before : Grows old at
   pub after : Grows (answered at (ask_of request) id) new
   pub mine : own_now ≡ own ++ (answer at (ask_of request) id).0
-  pub says : reply ≡ response_text (response_of (answer at (ask_of request) id).1)
+  pub says : reply ≡ response_text (response_in at request id)
 
 -- others may have added to the chain, and this link has not
 pub record OthersAdd (old new own own_now : List Version) : Type 0 where
   pub grows : Grows old new
   pub mine : own_now ≡ own
 
+-- others may have added to the chain that a link tells, and the link has not
+abbrev pub OnlyOthersAdd : {L : Type 0} → LinkModel L → (old new : L) → Type 0
+OnlyOthersAdd m old new = OthersAdd (m.chain old) (m.chain new) (m.own old) (m.own new)
+
 -- the request acted, or it did not
 abbrev pub MayServe : (old new own own_now : List Version) (request : Request) → Type 0
 MayServe old new own own_now request = OthersAdd old new own own_now ⊎ ((reply : List ℕ) × Serves old new own own_now request reply)
 
--- what an exchange does to the chain that is told, where the request is of its client
+-- what an exchange does to the chain that is told, if the request is of its client
 abbrev pub IsHonestStep : {L : Type 0} → LinkModel L → (old new : L) (reply : List ℕ) → Result (Unit {0}) LinkError → Request → Type 0
 IsHonestStep m old new reply (Ok u) asked = Serves (m.chain old) (m.chain new) (m.own old) (m.own new) asked reply
 IsHonestStep m old new reply (Err e) asked = MayServe (m.chain old) (m.chain new) (m.own old) (m.own new) asked
@@ -87,14 +91,18 @@ pub record IsExchange {L : Type 0} (m : LinkModel L) (old new : L) (request repl
   pub honest : m.honest new ≡ m.honest old
   pub list : IsTrue (m.tells_list old) → m.list new ≡ listed (m.list old) request reply result
 
+-- a reply that came is the one to bytes that are no request
+abbrev pub RefusesBy : HttpError → (reply : List ℕ) → Result (Unit {0}) LinkError → Type 0
+RefusesBy error reply result = OnOk result (reply ≡ response_text (refusal_of error))
+
 -- what an exchange over an honest link that tells a chain does to it
 pub record IsAnswered {L : Type 0} (m : LinkModel L) (old new : L) (request reply : List ℕ) (result : Result (Unit {0}) LinkError) : Type 0 where
   -- a request of the client whose chain is told
   pub served : (asked : Request) → IsHonest m old (client_of asked) → IsRequestAnswer request (Ok asked) → IsHonestStep m old new reply result asked
   -- a request of another client
-  pub elsewhere : (asked : Request) → TellsTruly m old → ¬ (m.client old ≡ client_of asked) → IsRequestAnswer request (Ok asked) → OthersAdd (m.chain old) (m.chain new) (m.own old) (m.own new)
+  pub elsewhere : (asked : Request) → TellsTruly m old → ¬ (m.client old ≡ client_of asked) → IsRequestAnswer request (Ok asked) → OnlyOthersAdd m old new
   -- bytes that are no request
-  pub refused : (error : HttpError) → TellsTruly m old → IsRequestAnswer request (Err error) → OthersAdd (m.chain old) (m.chain new) (m.own old) (m.own new) × OnOk result (reply ≡ response_text (refusal_of error))
+  pub refused : (error : HttpError) → TellsTruly m old → IsRequestAnswer request (Err error) → OnlyOthersAdd m old new × RefusesBy error reply result
 
 -- what is told truly is a chain whose segments fit their messages
 pub record IsServedChain (chain : List Version) : Type 0 where

@@ -59,14 +59,15 @@ request_body (Child client parent) = []
 abbrev pub request_text : Request → List ℕ → List ℕ
 request_text request host = request_head request host ++ request_body request
 
--- 1 to 300 characters from `!` to `~`
-abbrev pub is_host_byte : ℕ → Bool
-is_host_byte b = nat_le 33 b && nat_le b 126
+-- a character from `!` to `~` (RFC 5234, VCHAR)
+abbrev pub is_visible_byte : ℕ → Bool
+is_visible_byte b = nat_le 33 b && nat_le b 126
 
+-- 1 to 300 of them
 pub record IsHost (host : List ℕ) : Type 0 where
   pub some : 1 ≤ length host
   pub few : length host ≤ 300
-  pub plain : All (λ b. IsTrue (is_host_byte b)) host
+  pub plain : All (λ b. IsTrue (is_visible_byte b)) host
 
 -- ---- responses
 
@@ -84,36 +85,33 @@ status_of answer.Taken = 500
 abbrev pub status_line : ℕ → List ℕ
 status_line status = line (codes "HTTP/1.1 " ++ code_digits status ++ 32 ∷ unwrap_or (reason_phrase status) [])
 
--- what a response brings besides
+-- what a response brings besides its status
+pub record Parts : Type 0 where
+  pub segment : Option (List ℕ)
+  pub id : Option (List ℕ)
+  pub parent : Option (List ℕ)
+
+abbrev pub no_parts : Parts
+no_parts = record { segment = None; id = None; parent = None }
+
+abbrev pub parts_of : Response → Parts
+parts_of (answer.Added id) = record { segment = None; id = Some id; parent = None }
+parts_of (answer.Conflict latest) = record { segment = None; id = None; parent = Some latest }
+parts_of (answer.Child id parent segment) = record { segment = Some segment; id = Some id; parent = Some parent }
+parts_of answer.UpToDate = no_parts
+parts_of answer.Gone = no_parts
+parts_of answer.Bad = no_parts
+parts_of answer.TooLong = no_parts
+parts_of answer.Taken = no_parts
+
 abbrev pub segment_of : Response → Option (List ℕ)
-segment_of (answer.Added id) = None
-segment_of (answer.Conflict latest) = None
-segment_of (answer.Child id parent segment) = Some segment
-segment_of answer.UpToDate = None
-segment_of answer.Gone = None
-segment_of answer.Bad = None
-segment_of answer.TooLong = None
-segment_of answer.Taken = None
+segment_of response = (parts_of response).segment
 
 abbrev pub id_of : Response → Option (List ℕ)
-id_of (answer.Added id) = Some id
-id_of (answer.Conflict latest) = None
-id_of (answer.Child id parent segment) = Some id
-id_of answer.UpToDate = None
-id_of answer.Gone = None
-id_of answer.Bad = None
-id_of answer.TooLong = None
-id_of answer.Taken = None
+id_of response = (parts_of response).id
 
 abbrev pub parent_of : Response → Option (List ℕ)
-parent_of (answer.Added id) = None
-parent_of (answer.Conflict latest) = Some latest
-parent_of (answer.Child id parent segment) = Some parent
-parent_of answer.UpToDate = None
-parent_of answer.Gone = None
-parent_of answer.Bad = None
-parent_of answer.TooLong = None
-parent_of answer.Taken = None
+parent_of response = (parts_of response).parent
 
 -- the lines that only some responses have
 abbrev pub type_line : Option (List ℕ) → List ℕ
@@ -135,11 +133,15 @@ head_of_parts status segment id parent =
     ++ (line (codes "Connection: close")
     ++ crlf)))))
 
+-- the text of a response with these parts
+abbrev pub text_of_parts : ℕ → Option (List ℕ) → Option (List ℕ) → Option (List ℕ) → List ℕ
+text_of_parts status segment id parent = head_of_parts status segment id parent ++ unwrap_or segment []
+
 abbrev pub response_body : Response → List ℕ
 response_body response = unwrap_or (segment_of response) []
 
 abbrev pub response_text : Response → List ℕ
-response_text response = head_of_parts (status_of response) (segment_of response) (id_of response) (parent_of response) ++ response_body response
+response_text response = text_of_parts (status_of response) (segment_of response) (id_of response) (parent_of response)
 
 -- the text of a uuid reads as that uuid
 abbrev pub IsReadBack : Option (List ℕ) → Type 0

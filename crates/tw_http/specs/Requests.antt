@@ -1,5 +1,6 @@
--- What bytes are read as, where a request is awaited. The answer is determined, and each refusal comes in this order.
-use Rattle.std.specs.Prelude.{◌≡◌, ◌⊎◌, ℕ, ◌<◌, ◌≤◌, nat_eq, Bool, true, false, List, [], Option, Some, None, option_map, Result, Ok, Err, if◌then◌else◌, codes, length, take, drop, map, bytes_eq}
+-- What bytes are read as, if a request is awaited. The answer is determined, and each refusal comes in this order.
+use Rattle.std.specs.Prelude.{◌≡◌, ◌⊎◌, ℕ, ◌<◌, ◌≤◌, nat_eq, Bool, true, false, if◌then◌else◌}
+use Rattle.std.specs.Prelude.{List, [], codes, length, take, drop, map, bytes_eq, Option, Some, None, option_map, Result, Ok, Err}
 use Rattle.std.specs.List.{starts_with}
 use Rattle.uuid.specs.Text.{parsed_hyphenated}
 use Rattle.httparse.specs.Grammar.{RequestHead, ReadsRequest}

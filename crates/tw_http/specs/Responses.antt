@@ -1,5 +1,6 @@
--- What bytes are read as, where a response is awaited. The answer is determined, and each refusal comes in this order.
-use Rattle.std.specs.Prelude.{◌≡◌, ◌⊎◌, ℕ, ◌<◌, ◌≤◌, ◌==◌, Bool, true, false, List, [], Option, Some, None, Result, Ok, Err, if◌then◌else◌, codes, length, take, drop, map}
+-- What bytes are read as, if a response is awaited. The answer is determined, and each refusal comes in this order.
+use Rattle.std.specs.Prelude.{◌≡◌, ◌⊎◌, ℕ, ◌<◌, ◌≤◌, ◌==◌, Bool, true, false, IsTrue, if◌then◌else◌}
+use Rattle.std.specs.Prelude.{List, [], ◌++◌, codes, length, take, drop, map, Option, Some, None, Result, Ok, Err}
 use Rattle.httparse.specs.Grammar.{ResponseHead, ReadsResponse, status_code}
 use Rattle.httparse.specs.Spans.{name_and_value}
 use Rattle.tw_http.specs.declared.message.Asked.{Asked}
@@ -10,14 +11,18 @@ use Rattle.tw_http.specs.declared.response_reader.Kind.{Kind}
 use Rattle.tw_http.specs.declared.response_reader.Kind.TheVariants as kinds
 use Rattle.tw_http.specs.declared.message.HttpError.{HttpError}
 use Rattle.tw_http.specs.declared.message.HttpError.TheVariants.{Head, Status}
-use Rattle.tw_http.specs.Messages.{max_head, max_lines}
+use Rattle.tw_http.specs.Messages.{max_head, max_lines, max_body, response_body}
 use Rattle.tw_http.specs.Heads.{◌>>=◌, head_len, no_head}
 use Rattle.tw_http.specs.Fields.{Fields, uuid_field}
 use Rattle.tw_http.specs.Bodies.{body_len, body_of}
 
 -- the statuses that any request may get
 abbrev pub refused : ℕ → Result Kind HttpError
-refused status = if status == 400 then Ok kinds.Bad else if status == 413 then Ok kinds.TooLong else if status == 500 then Ok kinds.Taken else Err (Status status)
+refused status =
+    if status == 400 then Ok kinds.Bad
+    else if status == 413 then Ok kinds.TooLong
+    else if status == 500 then Ok kinds.Taken
+    else Err (Status status)
 
 abbrev pub added_in : Fields → Result Kind HttpError
 added_in fs = uuid_field (codes "X-Version-Id") fs >>= λ id. Ok (kinds.Added id)
@@ -34,7 +39,11 @@ child_in fs = do
 -- the response of a status and its fields to what was asked, without its segment
 abbrev pub kind_in : Asked → ℕ → Fields → Result Kind HttpError
 kind_in asked.Add status fs = if status == 200 then added_in fs else if status == 409 then conflict_in fs else refused status
-kind_in asked.Child status fs = if status == 200 then child_in fs else if status == 404 then Ok kinds.UpToDate else if status == 410 then Ok kinds.Gone else refused status
+kind_in asked.Child status fs =
+    if status == 200 then child_in fs
+    else if status == 404 then Ok kinds.UpToDate
+    else if status == 410 then Ok kinds.Gone
+    else refused status
 
 abbrev pub response_made : Kind → List ℕ → Response
 response_made (kinds.Added id) body = answer.Added id
@@ -53,6 +62,10 @@ response_after what status fs rest = do
   n ← body_len true fs
   body ← body_of n rest
   Ok (response_made kind body)
+
+-- the response of a head that was read and what follows it
+abbrev pub response_of_head : Asked → ResponseHead → List ℕ → Result Response HttpError
+response_of_head what h rest = response_after what (status_code h) (map name_and_value h.fields) rest
 
 -- the responses that may come to a request
 abbrev pub answers : Asked → Response → Bool
@@ -75,7 +88,7 @@ answers asked.Child answer.Taken = true
 
 abbrev pub IsResponseHeadAnswer : Asked → List ℕ → List ℕ → Result Response HttpError → Type 0
 IsResponseHeadAnswer what front rest r =
-    ((h : ResponseHead) × ReadsResponse front h [] × (length h.fields ≤ max_lines) × (r ≡ response_after what (status_code h) (map name_and_value h.fields) rest))
+    ((h : ResponseHead) × ReadsResponse front h [] × (length h.fields ≤ max_lines) × (r ≡ response_of_head what h rest))
     ⊎ (((h : ResponseHead) → ReadsResponse front h [] → max_lines < length h.fields) × (r ≡ Err Head))
 
 abbrev pub IsResponseAnswerAt : Asked → Option ℕ → List ℕ → Result Response HttpError → Type 0
@@ -84,3 +97,8 @@ IsResponseAnswerAt what (Some n) bytes r = IsResponseHeadAnswer what (take n byt
 
 abbrev pub IsResponseAnswer : Asked → List ℕ → Result Response HttpError → Type 0
 IsResponseAnswer what bytes r = IsResponseAnswerAt what (head_len (take max_head bytes)) bytes r
+
+-- a text is read as a response to what it answers, whatever follows the text, if the body fits
+abbrev pub IsReadAs : Response → List ℕ → Type 0
+IsReadAs response text = (what : Asked) (more : List ℕ) → IsTrue (answers what response) → length (response_body response) ≤ max_body
+    → IsResponseAnswer what (text ++ more) (Ok response)

@@ -27,14 +27,18 @@ abbrev pub ask_of : Request → protocol.Ask
 ask_of (Add client parent segment) = protocol.Ask.Add parent segment
 ask_of (Child client parent) = protocol.Ask.Child parent
 
--- the response that tells this
-abbrev pub response_of : protocol.Told → Response
-response_of (protocol.Told.Added id) = answer.Added id
-response_of (protocol.Told.Conflict latest) = answer.Conflict latest
-response_of (protocol.Told.Found v) = answer.Child v.id v.parent v.segment
-response_of protocol.Told.UpToDate = answer.UpToDate
-response_of protocol.Told.Gone = answer.Gone
-response_of protocol.Told.Taken = answer.Taken
+-- the response that says this
+abbrev pub response_of : protocol.Finding → Response
+response_of (protocol.Finding.Added id) = answer.Added id
+response_of (protocol.Finding.Conflict latest) = answer.Conflict latest
+response_of (protocol.Finding.Found v) = answer.Child v.id v.parent v.segment
+response_of protocol.Finding.UpToDate = answer.UpToDate
+response_of protocol.Finding.Gone = answer.Gone
+response_of protocol.Finding.Taken = answer.Taken
+
+-- the response to a request at the chain of its client, if an accepted version gets this id
+abbrev pub response_in : List Version → Request → List ℕ → Response
+response_in chain request id = response_of (protocol.answer chain (ask_of request) id).1
 
 -- the response to bytes that are no request, or that end inside one
 abbrev pub refusal_of : HttpError → Response

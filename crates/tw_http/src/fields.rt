@@ -8,7 +8,7 @@ use crate::message::HttpError;
 use httparse::spans::HeaderSpan;
 use uuid::Uuid;
 
-// The uuid of a field that stands there exactly once.
+// The uuid of a field that is there exactly once.
 pub(crate) fn uuid_field(
     front: &[u8],
     headers: &[HeaderSpan],
@@ -26,7 +26,7 @@ pub(crate) fn uuid_field(
     }
 }
 
-// The value of a field that stands there exactly once.
+// The value of a field that is there exactly once.
 pub(crate) fn only_value<'f>(
     front: &'f [u8],
     headers: &[HeaderSpan],
@@ -49,7 +49,7 @@ pub(crate) fn is_absent(front: &[u8], headers: &[HeaderSpan], name: &[u8]) -> bo
     first_field(front, headers, name).is_none()
 }
 
-// The first field of a name, and the fields behind it.
+// The first field of a name, and the fields after it.
 fn first_field<'f, 'h>(
     front: &'f [u8],
     headers: &'h [HeaderSpan],

@@ -11,7 +11,7 @@ use std::alloc::{AllocError, Global};
 use tw_world::Memory;
 use uuid::Uuid;
 
-/// Writes a request to a host, `name:port`, as HTTP/1.1 with the fields `Host`, `X-Client-Id` and, where
+/// Writes a request to a host, `name:port`, as HTTP/1.1 with the fields `Host`, `X-Client-Id` and, if
 /// there is a segment, `Content-Type` and `Content-Length` (TaskChampion book, "HTTP Representation").
 ///
 /// A segment of more than 16,777,216 bytes is written too, and no server reads it.

@@ -1,7 +1,8 @@
 // Reads a response.
 ghost use Rattle.std.specs.Prelude.{◌≡◌, ◌++◌, ◌≤◌, length, map, take, drop, All, List, ℕ};
 ghost use Rattle.httparse.specs.Spans.{IsHeaderWithin, header_bytes};
-ghost use Rattle.tw_http.specs.Responses.{refused, added_in, conflict_in, child_in, kind_in, response_made, response_after, IsResponseHeadAnswer, IsResponseAnswer};
+ghost use Rattle.tw_http.specs.Responses.{refused, added_in, conflict_in, child_in, kind_in, response_made, response_after};
+ghost use Rattle.tw_http.specs.Responses.{IsResponseHeadAnswer, IsResponseAnswer};
 ghost use Rattle.tw_http.specs.Faults.{Unless, Decided};
 
 use crate::body::{body_len, body_of};

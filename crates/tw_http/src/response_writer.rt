@@ -1,9 +1,8 @@
 // Writes a response.
-ghost use Rattle.std.specs.Prelude.{◌≡◌, ◌++◌, [], length, ◌≤◌, List, ℕ, IfOk, OnOk, IsTrue, Ok, option_map, unwrap_or};
+ghost use Rattle.std.specs.Prelude.{◌≡◌, ◌++◌, [], IfOk, OnOk, option_map, unwrap_or};
 ghost use Rattle.http.specs.StatusCode.{reason_phrase};
-ghost use Rattle.tw_http.specs.declared.message.Asked.{Asked};
-ghost use Rattle.tw_http.specs.Messages.{status_line, type_line, uuid_line, head_of_parts, response_text, response_body, id_of, parent_of, max_body, IsReadBack};
-ghost use Rattle.tw_http.specs.Responses.{answers, IsResponseAnswer};
+ghost use Rattle.tw_http.specs.Messages.{status_line, type_line, uuid_line, text_of_parts, response_text, id_of, parent_of, IsReadBack};
+ghost use Rattle.tw_http.specs.Responses.{IsReadAs};
 
 use crate::lines::{put, put_length_line, put_line, put_uuid_line};
 use crate::message::Response;
@@ -18,7 +17,7 @@ use uuid::Uuid;
 /// A segment of more than 16,777,216 bytes is written too, and no client reads it.
 pub fn write_response(alloc: Global, response: &Response) -> Result<Vec<u8>, Memory>
     ensures text { IfOk result (λ v. v.items ≡ response_text response.now) }
-    ensures back { IfOk result (λ v. (asked : Asked) (more : List ℕ) → IsTrue (answers asked response.now) → length (response_body response.now) ≤ max_body → IsResponseAnswer asked (v.items ++ more) (Ok response.now)) }
+    ensures back { IfOk result (λ v. IsReadAs response.now v.items) }
 {
     Ok(parts(alloc, response)?)
 }
@@ -61,7 +60,7 @@ fn write_parts(
     id: Option<Uuid>,
     parent: Option<Uuid>,
 ) -> Result<Vec<u8>, AllocError>
-    ensures text { IfOk result (λ v. v.items ≡ head_of_parts status (option_map (λ s. s.now) segment.entry) id parent ++ unwrap_or (option_map (λ s. s.now) segment.entry) []) }
+    ensures text { IfOk result (λ v. v.items ≡ text_of_parts status (option_map (λ s. s.now) segment.entry) id parent) }
     ensures back { IfOk result (λ v. IsReadBack id × IsReadBack parent) }
 {
     let mut out = Vec::new(alloc);

@@ -29,13 +29,13 @@ pub enum ImportError {
     /// The bytes are no JSON array (RFC 8259), or nest more than 127 deep.
     NotJson,
     /// The bytes are an array, and this element is the first that is no task. Elements are counted from 0.
-    /// The name is its first offending key in byte order, `description` where that is missing, or empty where the element is no object.
+    /// The name is its first offending key in byte order, `description` if that is missing, or empty if the element is no object.
     Task { index: u64, name: Text },
     /// There was no memory.
     Memory,
 }
 
-// Arrays and objects that stand in one another.
+// Arrays and objects that are in one another.
 const MAX_DEPTH: usize = 127;
 
 fn read_text(alloc: Global, text: &str, now: u64) -> Result<Found, Halt>
@@ -71,9 +71,11 @@ fn read_bytes(alloc: Global, bytes: &[u8], now: u64) -> Result<Found, Halt>
 }
 
 /// The tasks of a JSON array, in its order (task(1), under "import").
-/// A task needs a `description`; its `status` is pending, and its `entry` and `modified` are now, where they are missing. Moments are basic texts as `20231114T221320Z`.
-/// `tags`, `depends` and `annotations` become properties of their own, other values are texts or whole numbers below 2^64, and null is as missing. `id` and `urgency` are passed over.
-/// It reads an element at a time: beside the bytes and the tasks it holds no more than the largest element. Behind a bad element the rest is read and not kept.
+/// A task needs a `description`. If they are missing, its `status` is pending, and its `entry` and `modified` are now. Moments are
+/// basic texts as `20231114T221320Z`. `tags`, `depends` and `annotations` become properties of their own, other values are texts or
+/// whole numbers below 2^64, and null is as missing. `id` and `urgency` are passed over.
+/// It reads an element at a time: beside the bytes and the tasks it holds no more than the largest element. After a bad element the
+/// rest is read and not kept.
 pub fn read_import(alloc: Global, bytes: &[u8], now: Moment) -> Result<Vec<Imported>, ImportError>
     ensures { IsImported result (import_of bytes.now now.seconds) }
 {

@@ -6,9 +6,9 @@ ghost use Rattle.std.specs.FinMap.{len};
 ghost use Rattle.tw_import.specs.Import.{annotation_at, free_second};
 ghost use Rattle.tw_import.specs.Seconds.{AreSkips, IsAfterTaken, IsFirstFree};
 
-use crate::draft::Draft;
 use std::alloc::Global;
 use std::collections::BTreeMap;
+use tw_model::TaskDraft;
 use tw_world::{Memory, Text};
 
 /// The property of the annotation at a second.
@@ -22,7 +22,7 @@ pub(crate) fn annotation_at(alloc: Global, second: u64) -> Result<Text, Memory>
 // A second that those from this one up to it have annotations, if this one has.
 fn after_taken(
     alloc: Global,
-    draft: &Draft,
+    draft: &TaskDraft,
     skips: &BTreeMap<u64, u64>,
     second: u64,
 ) -> Result<Option<u64>, Memory>
@@ -46,10 +46,11 @@ fn put_skip(skips: &mut BTreeMap<u64, u64>, from: u64, to: u64) -> Result<(), Me
     Ok(())
 }
 
-// The first second from this one on that has no annotation. `skips` leads from seconds over those that have one, so that many annotations of one moment find room in few steps.
+// The first second from this one on that has no annotation. `skips` leads from seconds over those that have one, so that many
+// annotations of one moment find room in few steps.
 fn first_free(
     alloc: Global,
-    draft: &Draft,
+    draft: &TaskDraft,
     skips: &mut BTreeMap<u64, u64>,
     at: u64,
 ) -> Result<u64, Memory>
@@ -80,7 +81,7 @@ fn sum(a: u64, b: u64) -> Result<u64, Memory>
 /// The second that the next annotation of a moment gets.
 pub(crate) fn free_second(
     alloc: Global,
-    draft: &Draft,
+    draft: &TaskDraft,
     skips: &mut BTreeMap<u64, u64>,
     at: u64,
 ) -> Result<u64, Memory>

@@ -1,4 +1,4 @@
--- Writes between two places, which leave the rest of a file.
+-- Writes between two offsets, which leave the rest of a file.
 use Rattle.std.specs.Prelude.{◌==◌, nat_le, nat_eq, cond, if◌then◌else◌, Bool, true, false, All, Some, None, replicate}
 use Rattle.std.specs.Int.{to_be_bytes, from_be_bytes, w32, w64}
 use lib.Pointwise.{pointwise}
@@ -6,13 +6,14 @@ use Rattle.std.proofs.Common.{◌≡◌, ◌⊎◌, inl, inr, ⊎_elim, ℕ, zer
 use Rattle.std.proofs.lemmas.List.{take_at, drop_at, drop_all, take_all, take-take, drop-drop, drop-take, take-append-le, length-take, length-take-le, length-replicate, append-nil}
 use Rattle.std.proofs.lemmas.Bool.Decides.{nat_tests}
 use Rattle.std.proofs.lemmas.Nat.{from_be_bytes-to_be_bytes_8}
-use Rattle.tw_world.specs.Disk.{DiskModel, Tells, Settled, Steps, LeavesOnly, Torn, overwritten}
+use Rattle.tw_world.specs.Disk.{DiskModel, Tells, IsStable, Steps, LeavesOnly, Torn, overwritten}
 use Rattle.tw_world.specs.Memory.{torn_whole}
 use Rattle.tw_world.proofs.Moments.{CountsNow, OnlyNow, at_rest, goes_on, stays, weaker, joined}
+use Rattle.tw_world.proofs.Overwriting.{adjacent}
 use Rattle.tw_journal.specs.Record.{behind_gate, rows, IsRecordLength, Image}
 use Rattle.tw_journal.specs.Form.{Records, selector_in, slot_in, has_magic, if_inside, start_by, start_in, IsSameForm}
 use Rattle.tw_journal.specs.Journal.{IsAtRest, RecordsOrOne}
-use Rattle.tw_journal.specs.Checkpoint.{checkpoint_place, slot_of, other_slot, other_selector, closed_record, extended, pointed, IsSameBeside, IsCopying, IsPointing, IsReplacing}
+use Rattle.tw_journal.specs.Checkpoint.{checkpoint_offset, slot_of, other_slot, other_selector, closed_record, extended, pointed, IsSameBeside, IsCopying, IsPointing, IsReplacing}
 use Rattle.tw_journal.proofs.Forms.{tested, same_part, first_of_front, start_bounds, start_same, start_front, inside_again, drop_grown}
 use Rattle.tw_journal.proofs.Added.{image_records}
 
@@ -39,25 +40,8 @@ pub written_there : (at : ℕ) (bytes s : List ℕ) → at + length bytes ≤ le
 written_there at bytes s le =
     ap (drop at) (append_assoc (take at s) bytes (drop (at + length bytes) s)) ∙ drop_at (take at s) (bytes ++ drop (at + length bytes) s) at (length-take-le at s (omega (arith, le)))
 
--- two writes, the second right behind the first, are one
-pub adjacent : (at : ℕ) (a b s : List ℕ) → at + length a + length b ≤ length s → overwritten (at + length a) b (overwritten at a s) ≡ overwritten at (a ++ b) s
-adjacent at a b s room =
-    let front : length (take at s) ≡ at = length-take-le at s (omega (arith, room)) in
-    let both : length (take at s ++ a) ≡ at + length a = omega (arith, front, length-append (take at s) a) in
-    let x = overwritten at a s in
-    let n : at + length a + length b ≡ at + length (a ++ b) = omega (arith, length-append a b) in
-    let e1 : take (at + length a) x ≡ take at s ++ a = take_at (take at s ++ a) (drop (at + length a) s) (at + length a) both in
-    let e2 : drop (at + length a + length b) x ≡ drop (at + length (a ++ b)) s =
-    sym (drop-drop (length b) (at + length a) x)
-    ∙ ap (λ (l : List ℕ). drop (length b) l) (drop_at (take at s ++ a) (drop (at + length a) s) (at + length a) both)
-    ∙ drop-drop (length b) (at + length a) s
-    ∙ ap (λ (k : ℕ). drop k s) n in
-    ap (λ (l : List ℕ). l ++ b ++ drop (at + length a + length b) x) e1
-    ∙ ap (λ (l : List ℕ). (take at s ++ a) ++ b ++ l) e2
-    ∙ ap (λ (l : List ℕ). l ++ drop (at + length (a ++ b)) s) (append_assoc (take at s) a b)
-
--- a run of writes between two places
-pub first_write : {D : Type 0} (m : DiskModel D) → CountsNow m → OnlyNow m → (old new : D) (from to at : ℕ) (bytes : List ℕ) → Tells m old → Settled m old → from ≤ at → at + length bytes ≤ to → Steps m (Torn at bytes) old new → LeavesOnly m old new (IsSameBeside from to (m.seen old))
+-- a run of writes between two offsets
+pub first_write : {D : Type 0} (m : DiskModel D) → CountsNow m → OnlyNow m → (old new : D) (from to at : ℕ) (bytes : List ℕ) → Tells m old → IsStable m old → from ≤ at → at + length bytes ≤ to → Steps m (Torn at bytes) old new → LeavesOnly m old new (IsSameBeside from to (m.seen old))
 first_write m counts_now only_now old new from to at bytes tells settled low high step =
     goes_on m counts_now old old new (λ c. c ≡ m.seen old) (IsSameBeside from to (m.seen old)) _ (at_rest m only_now old settled) tells step
     (λ c same. subst (IsSameBeside from to (m.seen old)) (sym same) (beside_itself from to (m.seen old)))
@@ -77,7 +61,7 @@ three_parts at head body tail s five one room =
     ∙ adjacent at (head ++ body) tail s (omega (arith, length-append head body, five, one, room))
 
 -- the record and its closed gate are written by three calls, and then made stable
-module _ {D : Type 0} (m : DiskModel D) (counts_now : CountsNow m) (only_now : OnlyNow m) (old : D) (at : ℕ) (head body tail : List ℕ) (tells : Tells m old) (settled : Settled m old) (five : length head ≡ 5) (one : length tail ≡ 1) where
+module _ {D : Type 0} (m : DiskModel D) (counts_now : CountsNow m) (only_now : OnlyNow m) (old : D) (at : ℕ) (head body tail : List ℕ) (tells : Tells m old) (settled : IsStable m old) (five : length head ≡ 5) (one : length tail ≡ 1) where
   abbrev Beside : List ℕ → Type 0
   Beside = IsSameBeside at (at + length body + 6) (m.seen old)
 

@@ -10,12 +10,12 @@ use Rattle.tw_journal.specs.declared.error.AppendError.TheVariants as appends
 use Rattle.tw_journal.specs.declared.error.JournalError.{JournalError}
 use Rattle.tw_journal.specs.declared.error.JournalError.TheVariants as errors
 
--- as an opening tells it
+-- as an opening reports it
 abbrev pub disk_in_open : DiskError → OpenError
 disk_in_open faults.Failed = opens.Disk
 disk_in_open faults.Memory = opens.Memory
 
--- as the reading of a record tells it
+-- as the reading of a record reports it
 abbrev pub disk_in_read : DiskError → ReadError
 disk_in_read faults.Failed = reads.Disk
 disk_in_read faults.Memory = reads.Memory
@@ -25,7 +25,7 @@ open_in_read opens.Disk = reads.Disk
 open_in_read (opens.Damaged offset) = reads.Damaged offset
 open_in_read opens.Memory = reads.Memory
 
--- as one of several calls tells it
+-- as one of several calls reports it
 abbrev pub open_in_all : OpenError → JournalError
 open_in_all opens.Disk = errors.Disk
 open_in_all (opens.Damaged offset) = errors.Damaged offset

@@ -9,7 +9,7 @@ use tw_world::DiskError;
 pub enum OpenError {
     /// The disk failed.
     Disk,
-    /// The bytes at this place of the file are no record or, at 0, the file has no form of this magic. What is read of the disk is as it was.
+    /// The bytes at this offset of the file are no record or, at 0, the file has no form of this magic. What is read of the disk is as it was.
     Damaged { offset: u64 },
     /// There was no memory. What is read of the disk is as it was.
     Memory,
@@ -22,7 +22,7 @@ pub enum ReadError {
     Disk,
     /// The disk failed in a call before that wrote: the journal is to be opened again.
     Closed,
-    /// The bytes at this place of the file are no record, or one that does not have the part that was asked for.
+    /// The bytes at this offset of the file are no record, or one that does not have the part that was asked for.
     Damaged { offset: u64 },
     /// There was no memory.
     Memory,
@@ -31,7 +31,7 @@ pub enum ReadError {
 /// Why a record is not written.
 #[derive(Clone, Copy, Debug, PartialEq, Eq, Drop)]
 pub enum AppendError {
-    /// The disk failed, and the record may stand or not. The journal is closed.
+    /// The disk failed, and the record may be there or not. The journal is closed.
     Disk,
     /// The disk failed in a call before that wrote: the journal is to be opened again. Nothing is written.
     Closed,
@@ -46,7 +46,7 @@ pub enum JournalError {
     Disk,
     /// The disk failed in a call before that wrote: the journal is to be opened again.
     Closed,
-    /// The bytes at this place of the file are no record, or the file has no form of this magic.
+    /// The bytes at this offset of the file are no record, or the file has no form of this magic.
     Damaged { offset: u64 },
     /// The record would have so many bytes, more than 2^30. Nothing is written.
     TooLong { bytes: u64 },

@@ -11,11 +11,17 @@ use crate::window::read_piece;
 use std::alloc::Global;
 use tw_world::Disk;
 
-/// How many bytes stand before the first area.
+/// Where the first slot is, right after the magic. The records of a row begin there.
+pub const SLOT_A: u64 = 13;
+
+/// Where the second slot is.
+pub const SLOT_B: u64 = 21;
+
+/// How many bytes come before the first area: it begins right after the slots.
 pub const FRONT: u64 = 29;
 
-/// Where the records of a file begin, and its first byte: 1 where it is a row of records, and 2 or 3 where the first or the
-/// second of its slots tells that place.
+/// Where the records of a file begin, and its first byte: 1 if it is a row of records, and 2 or 3 if the first or the
+/// second of its slots holds that offset.
 #[derive(Clone, Copy, Drop)]
 pub struct Form {
     pub selector: u8,
@@ -31,8 +37,8 @@ fn behind_gate(magic: &[u8; 8]) -> [u8; 12]
     ]
 }
 
-/// What stands behind the first byte of a new file: the magic's length and text, and the two slots, of which the first tells
-/// the place behind them.
+/// What comes after the first byte of a new file: the magic's length and text, and the two slots, of which the first holds
+/// the offset right after them.
 pub fn behind_selector(magic: &[u8; 8]) -> [u8; 28]
     ensures { result ≡ behind_selector magic.now }
 {
@@ -53,36 +59,37 @@ fn has_no_record(front: &[u8]) -> bool
     }
 }
 
-// Whether these first bytes of a file have the magic's length and text behind the first one.
+// Whether these first bytes of a file have the magic's length and text after the first one.
 fn has_magic(front: &[u8], magic: &[u8; 8]) -> bool
     ensures has { result ≡ has_magic magic.now front.now }
     ensures long { result ≡ true → 13 ≤ length front.now }
 {
-    if front.len() < 13 {
+    if (front.len() as u64) < SLOT_A {
         return false;
     }
     let expected = behind_gate(magic);
-    let text = &front[1..13];
+    let text = &front[1..SLOT_A as usize];
     text == expected.as_slice()
 }
 
 // The number that a slot holds.
-fn slot_in(front: &[u8], at: usize) -> u64
+fn slot_in(front: &[u8], at: u64) -> u64
     requires { at + 8 ≤ length front.now }
     ensures { result ≡ slot_in at front.now }
 {
+    let from = at as usize;
     let mut bytes = [0; 8];
-    bytes.copy_from_slice(&front[at..at + 8]);
+    bytes.copy_from_slice(&front[from..from + 8]);
     u64::from_be_bytes(bytes)
 }
 
-// Where an area begins, by a slot, if that is behind the slots and in the file, which has `len` bytes and begins with these.
-fn area_in(front: &[u8], at: usize, len: u64) -> Option<u64>
+// Where an area begins, by a slot, if that is after the slots and in the file, which has `len` bytes and begins with these.
+fn area_in(front: &[u8], at: u64, len: u64) -> Option<u64>
     requires { at ≤ 21 }
     ensures area { (file : List ℕ) → length file ≡ len → front.now ≡ take 29 file → result ≡ if_inside 29 (slot_in at file) file }
     ensures inside { IfSome result (λ start. (29 ≤ start) × (start ≤ len)) }
 {
-    if front.len() < 29 {
+    if (front.len() as u64) < FRONT {
         return None;
     }
     let start = slot_in(front, at);
@@ -102,9 +109,9 @@ fn start_by(selector: u8, front: &[u8], len: u64) -> Option<u64>
     ensures inside { IfSome result (λ start. (start ≤ len) × (13 ≤ start) × (selector < 4) × (2 ≤ selector → 29 ≤ start)) }
 {
     match selector {
-        1 => Some(13),
-        2 => area_in(front, 13, len),
-        3 => area_in(front, 21, len),
+        1 => Some(SLOT_A),
+        2 => area_in(front, SLOT_A, len),
+        3 => area_in(front, SLOT_B, len),
         _ => None,
     }
 }
@@ -117,7 +124,7 @@ fn form_of(front: &[u8], len: u64, magic: &[u8; 8]) -> Option<Form>
     if !has_magic(front, magic) {
         return None;
     }
-    if len < 13 {
+    if len < SLOT_A {
         return None;
     }
     let selector = front[0];
@@ -127,7 +134,7 @@ fn form_of(front: &[u8], len: u64, magic: &[u8; 8]) -> Option<Form>
     }
 }
 
-/// Reads where the records of a file of `len` bytes begin. There is no such place where it has no record yet.
+/// Reads where the records of a file of `len` bytes begin: nowhere if it has no record yet.
 pub fn find_form<D: Disk>(
     alloc: Global,
     disk: &mut D,

@@ -12,7 +12,7 @@ use Rattle.std.proofs.lemmas.Map.Lookups.{exact_bytes, exact_unsigned}
 use Rattle.tw_model.specs.Maps.{bytes_cmp, same_bytes}
 use Rattle.tw_model.specs.Ops.{TasksValue}
 use Rattle.tw_model.specs.Places.{Places}
-use Rattle.tw_numbers.specs.Assign.{Rank, rank, rank_cmp, is_unplaced, with_rank, with_ranks, place_of, is_placed}
+use Rattle.tw_numbers.specs.Numbering.{Rank, rank, rank_cmp, is_unplaced, with_rank, with_ranks, place_of, is_placed}
 use Rattle.tw_numbers.specs.Assigned.{IsOnce, is_among}
 
 -- ---- tests

@@ -1,3 +1,3 @@
-pub mod Assign
+pub mod Numbering
 pub mod Assigned
 pub mod Placed

@@ -4,7 +4,7 @@ use Rattle.std.specs.List.{flat_map}
 use Rattle.tw_model.specs.Maps.{same_bytes}
 use Rattle.tw_model.specs.Ops.{TaskValue}
 use Rattle.tw_model.specs.Places.{Places}
-use Rattle.tw_numbers.specs.Assign.{is_open}
+use Rattle.tw_numbers.specs.Numbering.{is_open}
 
 -- the uuid that has a place, if it is not vacant
 abbrev pub uuid_of_place : Option (List ℕ) → List (List ℕ)

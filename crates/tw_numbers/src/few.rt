@@ -3,11 +3,11 @@ ghost use Rattle.std.specs.Prelude.{◌≡◌, Some, false, map as list_map, OnO
 ghost use Rattle.std.specs.Option.{option_copied};
 ghost use Rattle.tw_model.specs.Maps.{same_bytes};
 ghost use Rattle.tw_model.specs.Places.{has_uuid, uuid_at};
-ghost use Rattle.tw_numbers.specs.Assign.{is_placed, with_rank, assigned};
-ghost use Rattle.tw_numbers.specs.Assigned.{IsOnce, IsReadyFor, without, vacated};
-ghost use Rattle.tw_numbers.specs.Assign.{packed_if};
+ghost use Rattle.tw_numbers.specs.Numbering.{is_placed, with_rank};
+ghost use Rattle.tw_numbers.specs.Assigned.{Assigns, IsOnce, Renews, without, vacated};
 
-use crate::numbering::{assigned, is_open, pack, push_ranks, rank};
+use crate::numbering::{assigned, pack, push_ranks};
+use crate::rank::{is_open, rank};
 use std::alloc::Global;
 use std::collections::BTreeSet;
 use tw_model::Tasks;
@@ -51,7 +51,7 @@ fn place_of(places: &Vec<Option<Uuid>>, uuid: Uuid) -> Option<usize>
     None
 }
 
-// Makes the place of a task vacant, where it has one.
+// Makes the place of a task vacant, if it has one.
 fn vacate(places: &mut Vec<Option<Uuid>>, uuid: Uuid)
     ensures { IsOnce places.old.items → places.new.items ≡ list_map (without uuid) places.old.items }
 {
@@ -63,7 +63,7 @@ fn vacate(places: &mut Vec<Option<Uuid>>, uuid: Uuid)
     }
 }
 
-// Looks at a task that may have changed: it gets a rank where it is open and has no place, and its place becomes vacant where it is not open.
+// Looks at a task that may have changed. If it is open and has no place, it gets a rank. If it is not open, its place becomes vacant.
 fn look_for(
     places: &mut Vec<Option<Uuid>>,
     ranks: &mut BTreeSet<(u64, u64, Uuid)>,
@@ -91,7 +91,7 @@ pub(crate) fn assign_few(
     tasks: &Tasks,
     touched: &BTreeSet<Uuid>,
 ) -> Result<(), Memory>
-    ensures { OnOk result (IsReadyFor places.old.items tasks.now touched.now.keys → places.new.items ≡ assigned places.old.items tasks.now) }
+    ensures { OnOk result (Assigns places.old.items places.new.items tasks.now touched.now.keys) }
 {
     let mut ranks = BTreeSet::new(alloc);
     for uuid in touched {
@@ -107,7 +107,7 @@ fn assign_changed(
     tasks: &Tasks,
     touched: &BTreeSet<Uuid>,
 ) -> Result<(), Memory>
-    ensures { OnOk result (IsReadyFor places.old.items tasks.now touched.now.keys → places.new.items ≡ assigned places.old.items tasks.now) }
+    ensures { OnOk result (Assigns places.old.items places.new.items tasks.now touched.now.keys) }
 {
     if touched.len() <= FEW {
         return assign_few(alloc, places, tasks, touched);
@@ -125,7 +125,7 @@ pub fn renew_places(
     touched: &BTreeSet<Uuid>,
     renumber: bool,
 ) -> Result<(), Memory>
-    ensures { OnOk result (IsReadyFor places.old.items tasks.now touched.now.keys → places.new.items ≡ packed_if renumber (assigned places.old.items tasks.now)) }
+    ensures { OnOk result (Renews renumber places.old.items places.new.items tasks.now touched.now.keys) }
 {
     assign_changed(alloc, places, tasks, touched)?;
     if renumber {

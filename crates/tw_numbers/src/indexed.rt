@@ -1,18 +1,17 @@
 // Assigning after a step, by a look at the tasks that it is about.
-ghost use Rattle.std.specs.Prelude.{◌≡◌, ◌++◌, ◌∷◌, List, ℕ, [], length, map as list_map, Some, None, false, cond, is_some, IfOk, OnOk, IfSome};
+ghost use Rattle.std.specs.Prelude.{◌≡◌, ◌++◌, ◌∷◌, List, ℕ, [], map as list_map, Some, None, false, cond, is_some, IfOk, OnOk, IfSome};
 ghost use Rattle.std.specs.Ordering.{eq_by_cmp};
 ghost use Rattle.std.specs.BTreeMap as tree;
 ghost use Rattle.std.specs.Option.{option_copied};
 ghost use Rattle.std.specs.FinMap.{get};
 ghost use Rattle.tw_model.specs.Maps.{bytes_cmp};
 ghost use Rattle.tw_model.specs.Ops.{TasksValue};
-ghost use Rattle.tw_model.specs.Places.{Places};
-ghost use Rattle.tw_numbers.specs.Assign.{is_placed, with_rank, place_of, assigned};
-ghost use Rattle.tw_numbers.specs.Assign.{packed_if};
-ghost use Rattle.tw_numbers.specs.Assigned.{IsOnce, IsIndex, IsReadyFor, without, vacated};
+ghost use Rattle.tw_numbers.specs.Numbering.{is_placed, with_rank, place_of, assigned, packed_if};
+ghost use Rattle.tw_numbers.specs.Assigned.{IndexesNext, IsOnce, IsIndex, IsAssignedExcept, without, vacated};
 
 use crate::few::assign_few;
-use crate::numbering::{assigned, first_places, is_open, pack, rank};
+use crate::numbering::{assigned, first_places, pack};
+use crate::rank::{is_open, rank};
 use std::alloc::Global;
 use std::collections::{BTreeMap, BTreeSet};
 use tw_model::{TaskMap, Tasks};
@@ -52,7 +51,7 @@ fn vacate(places: &mut Vec<Option<Uuid>>, index: &mut BTreeMap<Uuid, u64>, uuid:
     }
 }
 
-// Looks at a task that may have changed: it gets a rank where it is open and has no place, and its place becomes vacant where it is not open.
+// Looks at a task that may have changed. If it is open and has no place, it gets a rank. If it is not open, its place becomes vacant.
 fn look_at(
     places: &mut Vec<Option<Uuid>>,
     index: &mut BTreeMap<Uuid, u64>,
@@ -115,7 +114,7 @@ fn assign_in(
     tasks: &Tasks,
     touched: &BTreeSet<Uuid>,
 ) -> Result<(), Memory>
-    requires ready { IsReadyFor places.old.items tasks.now touched.now.keys }
+    requires ready { IsAssignedExcept places.old.items tasks.now touched.now.keys }
     requires index { IsIndex index.old places.old.items }
     ensures places { OnOk result (places.new.items ≡ assigned places.old.items tasks.now) }
     ensures index { OnOk result (IsIndex index.new places.new.items) }
@@ -128,7 +127,7 @@ fn assign_in(
 }
 
 fn index_place(index: &mut BTreeMap<Uuid, u64>, place: &Option<Uuid>, at: u64) -> Result<(), Memory>
-    ensures { OnOk result ((before after : Places) → IsIndex index.old before → at ≡ length before → IsOnce (before ++ place.now ∷ after) → IsIndex index.new (before ++ place.now ∷ [])) }
+    ensures { OnOk result (IndexesNext index.old index.new place.now at) }
 {
     match place {
         Some(uuid) => {
@@ -184,8 +183,8 @@ fn takes_looks(looks: &mut usize, count: usize) -> bool {
     true
 }
 
-/// Assigns the places anew after some tasks have changed. Where there is no place yet, or where few
-/// tasks have changed so far, no index is needed. Where besides all tasks have changed, as a first sync does, one pass over them serves.
+/// Assigns the places anew after some tasks have changed. If there is no place yet, or if few
+/// tasks have changed so far, no index is needed. If besides all tasks have changed, as a first sync does, one pass over them serves.
 /// After want of memory places and index may have changed in part, and are to be let go.
 pub fn assign(
     alloc: Global,
@@ -195,7 +194,7 @@ pub fn assign(
     tasks: &Tasks,
     touched: &BTreeSet<Uuid>,
 ) -> Result<(), Memory>
-    requires ready { IsReadyFor places.old.items tasks.now touched.now.keys }
+    requires ready { IsAssignedExcept places.old.items tasks.now touched.now.keys }
     requires index { IfSome index.old (λ index. IsIndex index places.old.items) }
     ensures places { OnOk result (places.new.items ≡ assigned places.old.items tasks.now) }
     ensures index { OnOk result (IfSome index.new (λ index. IsIndex index places.new.items)) }
@@ -219,7 +218,7 @@ pub fn assign(
     Ok(())
 }
 
-// Puts a place behind the others, and into the index where there is one.
+// Puts a place after the others, and into the index if there is one.
 fn push_known(
     places: &mut Vec<Option<Uuid>>,
     index: &mut Option<BTreeMap<Uuid, u64>>,
@@ -247,7 +246,7 @@ pub fn assign_new(
     tasks: &Tasks,
     uuid: Uuid,
 ) -> Result<(), Memory>
-    requires ready { IsReadyFor places.old.items tasks.now (uuid ∷ []) }
+    requires ready { IsAssignedExcept places.old.items tasks.now (uuid ∷ []) }
     requires index { IfSome index.old (λ index. IsIndex index places.old.items) }
     requires free { is_placed places.old.items uuid ≡ false }
     ensures places { OnOk result (places.new.items ≡ assigned places.old.items tasks.now) }

@@ -6,6 +6,7 @@
 mod few;
 mod indexed;
 mod numbering;
+mod rank;
 mod soundness;
 
 pub use few::renew_places;

@@ -1,68 +1,19 @@
 // The numbers of open tasks.
-ghost use Rattle.std.specs.Prelude.{◌≡◌, ◌++◌, ◌&&◌, ◌||◌, true, not, List, ℕ, [], map as list_map, IfOk, OnOk};
+ghost use Rattle.std.specs.Prelude.{◌≡◌, ◌++◌, ◌&&◌, not, [], map as list_map, IfOk, OnOk};
 ghost use Rattle.std.specs.Option.{option_copied};
 ghost use Rattle.std.specs.FinMap as map;
-ghost use Rattle.tw_text.specs.Natural.{natural};
 ghost use Rattle.tw_model.specs.Places.{Places, has_uuid};
-ghost use Rattle.tw_numbers.specs.Assign.{is_unplaced, rank, second_or_zero, second_of, is_open_status, is_open, is_placed, with_rank, with_ranks, place_of, second_at, assigned, packed};
-ghost use Rattle.tw_numbers.specs.Assigned.{is_among, left_place, IsReadyFor};
-ghost use Rattle.tw_numbers.specs.Assigned.{AgreeAmong};
-ghost use Rattle.std.specs.BTreeSet as tree;
-ghost use Rattle.tw_model.specs.Maps.{bytes_cmp, same_bytes};
+ghost use Rattle.tw_numbers.specs.Numbering.{is_open, with_rank, place_of, assigned, packed};
+ghost use Rattle.tw_numbers.specs.Assigned.{is_among, left_place, AssignsByPart, GainsAmong, IsUnplacedBy, RanksUnplaced, KnowsPlaced, KnowsPlacedAmong};
+ghost use Rattle.tw_model.specs.Maps.{same_bytes};
 ghost use Rattle.tw_model.specs.Ops.{TasksValue};
 
+use crate::rank::{is_open, rank};
 use std::alloc::Global;
 use std::collections::BTreeSet;
 use tw_model::{TaskMap, Tasks};
-use tw_text::read_u64;
-use tw_world::{MOMENT_LIMIT, Memory};
+use tw_world::Memory;
 use uuid::Uuid;
-
-// The second that a text tells, or 0.
-fn second_in(text: &str) -> u64
-    ensures { result ≡ second_or_zero (natural text.now) }
-{
-    match read_u64(text) {
-        Some(second) if second < MOMENT_LIMIT => second,
-        _ => 0,
-    }
-}
-
-fn second_of(text: Option<&str>) -> u64
-    ensures { result ≡ second_of (option_copied text.entry) }
-{
-    match text {
-        Some(text) => second_in(text),
-        None => 0,
-    }
-}
-
-fn second_at(task: Option<&TaskMap>, property: &str) -> u64
-    ensures { result ≡ second_at property.now (option_copied task.entry) }
-{
-    match task {
-        Some(task) => second_of(task.get(property)),
-        None => 0,
-    }
-}
-
-fn is_open_status(status: Option<&str>) -> bool
-    ensures { result ≡ is_open_status (option_copied status.entry) }
-{
-    match status {
-        Some(status) => status == "pending" || status == "recurring",
-        None => false,
-    }
-}
-
-pub(crate) fn is_open(task: Option<&TaskMap>) -> bool
-    ensures { result ≡ is_open (option_copied task.entry) }
-{
-    match task {
-        Some(task) => is_open_status(task.get("status")),
-        None => false,
-    }
-}
 
 // Whether a task is among those that have changed, and not open.
 fn is_gone(tasks: &Tasks, touched: &BTreeSet<Uuid>, uuid: Uuid) -> bool
@@ -102,13 +53,13 @@ fn left_places(
     Ok(places)
 }
 
-// Puts a uuid beside others, where its task is among those that have changed.
+// Puts a uuid beside others, if its task is among those that have changed.
 fn add_among(
     placed: &mut BTreeSet<Uuid>,
     touched: &BTreeSet<Uuid>,
     uuid: Uuid,
 ) -> Result<(), Memory>
-    ensures { OnOk result ((u : List ℕ) → is_among touched.now.keys u ≡ true → tree.contains bytes_cmp placed.new u ≡ (tree.contains bytes_cmp placed.old u || same_bytes u uuid)) }
+    ensures { OnOk result (GainsAmong touched.now.keys placed.old placed.new (λ u. same_bytes u uuid)) }
 {
     if touched.contains(&uuid) {
         placed.insert(uuid)?;
@@ -121,7 +72,7 @@ fn add_placed(
     touched: &BTreeSet<Uuid>,
     place: &Option<Uuid>,
 ) -> Result<(), Memory>
-    ensures { OnOk result ((u : List ℕ) → is_among touched.now.keys u ≡ true → tree.contains bytes_cmp placed.new u ≡ (tree.contains bytes_cmp placed.old u || has_uuid u place.now)) }
+    ensures { OnOk result (GainsAmong touched.now.keys placed.old placed.new (λ u. has_uuid u place.now)) }
 {
     match place {
         Some(uuid) => add_among(placed, touched, *uuid),
@@ -135,7 +86,7 @@ fn placed_among(
     numbers: &Vec<Option<Uuid>>,
     touched: &BTreeSet<Uuid>,
 ) -> Result<BTreeSet<Uuid>, Memory>
-    ensures { IfOk result (λ placed. (u : List ℕ) → is_among touched.now.keys u ≡ true → tree.contains bytes_cmp placed u ≡ is_placed numbers.now.items u) }
+    ensures { IfOk result (λ placed. KnowsPlacedAmong touched.now.keys placed numbers.now.items) }
 {
     let mut placed = BTreeSet::new(alloc);
     for place in numbers {
@@ -145,18 +96,9 @@ fn placed_among(
 }
 
 fn is_unplaced(task: Option<&TaskMap>, placed: &BTreeSet<Uuid>, uuid: Uuid) -> bool
-    ensures { (places : Places) (tasks : TasksValue) → tree.contains bytes_cmp placed.now uuid ≡ is_placed places uuid → option_copied task.entry ≡ map.get tasks uuid → result ≡ is_unplaced places tasks uuid }
+    ensures { IsUnplacedBy placed.now (option_copied task.entry) uuid result }
 {
     is_open(task) && !placed.contains(&uuid)
-}
-
-/// The rank of a task, by what `tasks` has of it.
-pub(crate) fn rank(task: Option<&TaskMap>, uuid: Uuid) -> (u64, u64, Uuid)
-    ensures { (tasks : TasksValue) → option_copied task.entry ≡ map.get tasks uuid → result ≡ rank tasks uuid }
-{
-    let entry = second_at(task, "entry");
-    let due = second_at(task, "due");
-    (entry, due, uuid)
 }
 
 fn add_rank(
@@ -165,7 +107,7 @@ fn add_rank(
     placed: &BTreeSet<Uuid>,
     uuid: Uuid,
 ) -> Result<(), Memory>
-    ensures { OnOk result ((places : Places) → tree.contains bytes_cmp placed.now uuid ≡ is_placed places uuid → ranks.new.keys ≡ with_rank places tasks.now ranks.old.keys uuid) }
+    ensures { OnOk result ((places : Places) → KnowsPlaced placed.now places uuid → ranks.new.keys ≡ with_rank places tasks.now ranks.old.keys uuid) }
 {
     let task = tasks.get(uuid);
     if is_unplaced(task, placed, uuid) {
@@ -180,7 +122,7 @@ fn new_ranks(
     touched: &BTreeSet<Uuid>,
     placed: &BTreeSet<Uuid>,
 ) -> Result<BTreeSet<(u64, u64, Uuid)>, Memory>
-    ensures { IfOk result (λ ranks. (places : Places) → ((u : List ℕ) → is_among touched.now.keys u ≡ true → tree.contains bytes_cmp placed.now u ≡ is_placed places u) → ranks.keys ≡ with_ranks places tasks.now [] touched.now.keys) }
+    ensures { IfOk result (λ ranks. RanksUnplaced touched.now.keys placed.now tasks.now ranks.keys) }
 {
     let mut ranks = BTreeSet::new(alloc);
     for uuid in touched {
@@ -208,7 +150,7 @@ pub fn assigned(
     part: &Tasks,
     touched: &BTreeSet<Uuid>,
 ) -> Result<Vec<Option<Uuid>>, Memory>
-    ensures { IfOk result (λ places. (tasks : TasksValue) → AgreeAmong touched.now.keys part.now tasks → IsReadyFor numbers.now.items tasks touched.now.keys → places.items ≡ assigned numbers.now.items tasks) }
+    ensures { IfOk result (λ places. AssignsByPart numbers.now.items places.items part.now touched.now.keys) }
 {
     let placed = placed_among(alloc, numbers, touched)?;
     let ranks = new_ranks(alloc, part, touched, &placed)?;
@@ -224,7 +166,7 @@ pub fn pack(numbers: &mut Vec<Option<Uuid>>)
     numbers.retain(|place| place.is_some());
 }
 
-// Puts the rank of a task beside others, where it is open.
+// Puts the rank of a task beside others, if it is open.
 fn add_open(
     ranks: &mut BTreeSet<(u64, u64, Uuid)>,
     task: &TaskMap,

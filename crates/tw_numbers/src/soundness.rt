@@ -6,7 +6,7 @@ ghost use Rattle.tw_model.specs.Maps.{same_bytes};
 ghost use Rattle.tw_numbers.specs.Assigned.{is_assigned};
 ghost use Rattle.tw_numbers.specs.Placed.{uuid_of_place, placed_uuids, open_uuids, begins_with};
 
-use crate::numbering::is_open;
+use crate::rank::is_open;
 use std::alloc::Global;
 use tw_model::Tasks;
 use tw_world::Memory;

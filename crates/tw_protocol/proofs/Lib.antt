@@ -1,3 +1,4 @@
 pub mod Chains
 pub mod Between
 pub mod Telling
+pub mod Responses

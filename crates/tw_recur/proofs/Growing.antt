@@ -11,7 +11,7 @@ use Rattle.tw_recur.specs.declared.recurrence.Recurrence.{Recurrence}
 use Rattle.tw_recur.specs.Recurrence.{wanted, recurrence_of, mask_of}
 use Rattle.tw_recur.specs.Instances.{Asked, Growth, Making, mask_change, with_growth, with_recurrence, with_parent, instance_uuid, instance, mark, grown_by, in_either, with_instance, base_of, if_wanted, grown}
 
-later_none : (a b : Option TaskValue) → in_either a b ≡ None → b ≡ None
+pub later_none : (a b : Option TaskValue) → in_either a b ≡ None → b ≡ None
 later_none None b e = e
 later_none (Some x) b e = absurd (cc)
 

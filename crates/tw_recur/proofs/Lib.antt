@@ -3,3 +3,7 @@ pub mod Growing
 pub mod Each
 pub mod Apart
 pub mod Once
+pub mod Marks
+pub mod Done
+pub mod Made
+pub mod Reported

@@ -1,34 +1,31 @@
 -- Each uuid stands once in the changes of all instances.
-use Rattle.std.proofs.Common.{◌≡◌, ℕ, zero, suc, ◌+◌, Bool, true, false, cond, List, [], ◌∷◌, ◌++◌, T, Option, Some, None, is_some, refl, sym, ap, subst, ◌∙◌, append-nil, ◌||◌}
+use Rattle.std.proofs.Common.{◌≡◌, ℕ, zero, suc, ◌+◌, true, false, cond, List, [], ◌∷◌, ◌++◌, T, Option, Some, None, is_some, refl, sym, ap, subst, ◌∙◌, append-nil}
 use Rattle.std.specs.Prelude.{⊤, nat_lt, length, chars, codes}
 use Rattle.std.specs.Ordering.{is_lt, is_eq, eq_by_cmp}
-use Rattle.std.specs.Cmp.Lexicographic.{nat_list_cmp_total, texts_ties}
-use Rattle.std.specs.FinMap.{get, insert, empty, entries, find, is_sorted, entries_sorted, get-entries, get-empty}
+use Rattle.std.specs.Cmp.Lexicographic.{texts_ties}
+use Rattle.std.specs.FinMap.{get, empty, entries, find, is_sorted, entries_sorted, get-entries, get-empty}
 use Rattle.std.specs.FinMap.Entries.{below_all}
-use Rattle.tw_time.specs.Moments.{TimeZone}
-use Rattle.tw_world.specs.declared.Moment.{Moment}
 use Rattle.tw_model.specs.Maps.{bytes_cmp, same_bytes}
 use Rattle.tw_model.specs.Ops.{TaskValue, TasksValue}
-use Rattle.tw_model.specs.Changes.{ops_of_all}
 use Rattle.tw_model.specs.declared.changes.Change.{Change}
-use Rattle.tw_model.proofs.Maps.{same_bytes_exact, same_bytes_itself, same_bytes_back, get-set_at, get-set_at_apart}
+use Rattle.tw_model.proofs.Maps.{same_bytes_exact, same_bytes_itself, same_bytes_back, get-set_at_apart}
 use Rattle.tw_model.proofs.Sorted.{first, second, less}
 use Rattle.tw_urgency.specs.Stored.{moment_at}
 use Rattle.tw_recur.specs.declared.recurrence.Recurrence.{Recurrence}
 use Rattle.tw_recur.specs.Recurrence.{wanted, recurrence_of, mask_of}
-use Rattle.tw_recur.specs.Instances.{Asked, Growth, Making, instance, instance_uuid, grown_by, in_either, with_instance, base_of, if_wanted, grown, with_mask, mask_change, with_growth, with_recurrence, with_parent, with_parents, made_changes, changes_in, instance_changes, instances_of, ops_each}
+use Rattle.tw_recur.specs.Instances.{Asked, Growth, Making, instance, instance_uuid, grown_by, in_either, with_instance, base_of, if_wanted, grown, with_mask, mask_change, with_recurrence, with_parent, with_parents, made_changes, changes_in, instance_changes, instances_of}
 use Rattle.tw_recur.specs.Apart.{AreOthers, AreApart, InstancesAreApart, InstancesAreChanges}
 use Rattle.tw_recur.proofs.Apart.{each_is_all}
 
-abbrev Entries : Type 0
+abbrev pub Entries : Type 0
 Entries = List (List ℕ × TaskValue)
 
 -- ---- what is made is no task yet
 
-abbrev IsNew : TasksValue → TasksValue → Type 0
+abbrev pub IsNew : TasksValue → TasksValue → Type 0
 IsNew tasks made = (u : List ℕ) → is_some (get made u) ≡ true → get tasks u ≡ None
 
-earlier_none : (a b : Option TaskValue) → in_either a b ≡ None → a ≡ None
+pub earlier_none : (a b : Option TaskValue) → in_either a b ≡ None → a ≡ None
 earlier_none None b e = refl
 earlier_none (Some x) b e = absurd (cc)
 
@@ -57,19 +54,19 @@ module _ (a : Asked) (u : List ℕ) (task : TaskValue) where
 
 -- ---- parents are tasks, each once
 
-abbrev AreTasks : TasksValue → List Change → Type 0
+abbrev pub AreTasks : TasksValue → List Change → Type 0
 AreTasks tasks [] = ⊤
 AreTasks tasks (c ∷ cs) = (is_some (get tasks c.uuid) ≡ true) × AreTasks tasks cs
 
 -- the uuids of entries are others than those of changes
-abbrev AreAhead : Entries → List Change → Type 0
+abbrev pub AreAhead : Entries → List Change → Type 0
 AreAhead [] cs = ⊤
 AreAhead (e ∷ es) cs = AreOthers e.0 cs × AreAhead es cs
 
-record AreParents (tasks : TasksValue) (es : Entries) (cs : List Change) : Type 0 where
-  apart : AreApart cs
-  known : AreTasks tasks cs
-  ahead : AreAhead es cs
+pub record AreParents (tasks : TasksValue) (es : Entries) (cs : List Change) : Type 0 where
+  pub apart : AreApart cs
+  pub known : AreTasks tasks cs
+  pub ahead : AreAhead es cs
 
 others_behind : (u : List ℕ) (cs : List Change) (c : Change) → AreOthers u cs → same_bytes c.uuid u ≡ false → AreOthers u (cs ++ c ∷ [])
 others_behind u [] c o f = (f, tt)
@@ -84,7 +81,7 @@ known_behind tasks [] c k here = (here, tt)
 known_behind tasks (d ∷ ds) c k here = (k.0, known_behind tasks ds c k.1 here)
 
 -- a key that is below another is another
-below_apart : (u v : List ℕ) → T (is_lt (bytes_cmp u v)) → same_bytes u v ≡ false
+pub below_apart : (u v : List ℕ) → T (is_lt (bytes_cmp u v)) → same_bytes u v ≡ false
 below_apart u v h = texts_ties u v ∙ ap is_eq (less (bytes_cmp u v) h)
 
 ahead_behind : (es : Entries) (cs : List Change) (c : Change) → T (below_all bytes_cmp c.uuid es) → AreAhead es cs → AreAhead es (cs ++ c ∷ [])
@@ -95,9 +92,9 @@ one_behind : (tasks : TasksValue) (es : Entries) (cs : List Change) (c : Change)
 one_behind tasks es cs c here b o p = record { apart = apart_behind cs c p.apart o; known = known_behind tasks cs c p.known here; ahead = ahead_behind es cs c b p.ahead }
 
 -- what a step over an entry keeps
-record IsStep (tasks : TasksValue) (es : Entries) (m : Making) : Type 0 where
-  new : IsNew tasks m.made
-  parents : AreParents tasks es m.parents
+pub record IsStep (tasks : TasksValue) (es : Entries) (m : Making) : Type 0 where
+  pub new : IsNew tasks m.made
+  pub parents : AreParents tasks es m.parents
 
 module _ (a : Asked) (u : List ℕ) (task : TaskValue) (es : Entries) (here : is_some (get a.tasks u) ≡ true) (b : T (below_all bytes_cmp u es)) where
   mask_step : (cs : List Change) (mask : List ℕ) → AreOthers u cs → AreParents a.tasks es cs → AreParents a.tasks es (cs ++ mask_change u task a.now mask)
@@ -108,7 +105,7 @@ module _ (a : Asked) (u : List ℕ) (task : TaskValue) (es : Entries) (here : is
         | false ↦ subst (AreParents a.tasks es) (sym (append-nil cs)) p
       ]
 
-  parent_step : (m : Making) → AreOthers u m.parents → IsStep a.tasks es m → IsStep a.tasks es (with_parent a u task m)
+  pub parent_step : (m : Making) → AreOthers u m.parents → IsStep a.tasks es m → IsStep a.tasks es (with_parent a u task m)
   unfolding with_parent
   parent_step m o s =
       elim (recurrence_of task) as (λ r. IsStep a.tasks es (with_recurrence a u task m r)) [
@@ -121,16 +118,16 @@ module _ (a : Asked) (u : List ℕ) (task : TaskValue) (es : Entries) (here : is
       ]
 
 -- each key of entries is a task's
-abbrev AreKeys : TasksValue → Entries → Type 0
+abbrev pub AreKeys : TasksValue → Entries → Type 0
 AreKeys tasks es = (k : List ℕ) → is_some (find bytes_cmp k es) ≡ true → is_some (get tasks k) ≡ true
 
-found_first : (e : List ℕ × TaskValue) (es : Entries) → is_some (find bytes_cmp e.0 (e ∷ es)) ≡ true
+pub found_first : (e : List ℕ × TaskValue) (es : Entries) → is_some (find bytes_cmp e.0 (e ∷ es)) ≡ true
 found_first e es = ap (λ t. is_some (cond t (Some e.1) (find bytes_cmp e.0 es))) (sym (texts_ties e.0 e.0) ∙ same_bytes_itself e.0)
 
-found_later : (k : List ℕ) (e : List ℕ × TaskValue) (es : Entries) → is_some (find bytes_cmp k es) ≡ true → is_some (find bytes_cmp k (e ∷ es)) ≡ true
+pub found_later : (k : List ℕ) (e : List ℕ × TaskValue) (es : Entries) → is_some (find bytes_cmp k es) ≡ true → is_some (find bytes_cmp k (e ∷ es)) ≡ true
 found_later k e es h = elim (eq_by_cmp bytes_cmp k e.0) as (λ t. is_some (cond t (Some e.1) (find bytes_cmp k es)) ≡ true) [ true ↦ refl | false ↦ h ]
 
-all_steps : (a : Asked) (es : Entries) (m : Making) → T (is_sorted bytes_cmp es) → AreKeys a.tasks es → IsStep a.tasks es m → IsStep a.tasks [] (with_parents a m es)
+pub all_steps : (a : Asked) (es : Entries) (m : Making) → T (is_sorted bytes_cmp es) → AreKeys a.tasks es → IsStep a.tasks es m → IsStep a.tasks [] (with_parents a m es)
 all_steps a [] m h k s = s
 all_steps a (e ∷ es) m h k s =
     let rest : IsStep a.tasks es m = record { new = s.new; parents = record { apart = s.parents.apart; known = s.parents.known; ahead = s.parents.ahead.1 } } in
@@ -139,7 +136,7 @@ all_steps a (e ∷ es) m h k s =
 
 -- ---- all changes
 
-no_task : (tasks : TasksValue) (u : List ℕ) (cs : List Change) → get tasks u ≡ None → AreTasks tasks cs → AreOthers u cs
+pub no_task : (tasks : TasksValue) (u : List ℕ) (cs : List Change) → get tasks u ≡ None → AreTasks tasks cs → AreOthers u cs
 no_task tasks u [] none k = tt
 no_task tasks u (c ∷ cs) none k = (
   elim (same_bytes c.uuid u) as (λ t. same_bytes c.uuid u ≡ t → t ≡ false) [
@@ -165,10 +162,18 @@ none_ahead (e ∷ es) = (tt, none_ahead es)
 none_made : (tasks : TasksValue) → IsNew tasks empty
 none_made tasks u is = absurd (let no : is_some (get {X = TaskValue} {R = bytes_cmp} empty u) ≡ false = ap is_some (get-empty bytes_cmp u) in cc)
 
-making_apart : (a : Asked) → AreApart (changes_in (with_parents a (record { made = empty; parents = [] }) (entries a.tasks)))
+pub start_step : (tasks : TasksValue) → IsStep tasks (entries tasks) (record { made = empty; parents = [] })
+start_step tasks = record { new = none_made tasks; parents = record { apart = tt; known = tt; ahead = none_ahead (entries tasks) } }
+
+pub all_keys : (tasks : TasksValue) → AreKeys tasks (entries tasks)
+all_keys tasks = λ k f. ap is_some (get-entries tasks k) ∙ f
+
+pub making_step : (a : Asked) → IsStep a.tasks [] (with_parents a (record { made = empty; parents = [] }) (entries a.tasks))
+making_step a = all_steps a (entries a.tasks) (record { made = empty; parents = [] }) (entries_sorted a.tasks) (all_keys a.tasks) (start_step a.tasks)
+
+pub making_apart : (a : Asked) → AreApart (changes_in (with_parents a (record { made = empty; parents = [] }) (entries a.tasks)))
 making_apart a =
-    let start : IsStep a.tasks (entries a.tasks) (record { made = empty; parents = [] }) = record { new = none_made a.tasks; parents = record { apart = tt; known = tt; ahead = none_ahead (entries a.tasks) } } in
-    let s = all_steps a (entries a.tasks) (record { made = empty; parents = [] }) (entries_sorted a.tasks) (λ k f. ap is_some (get-entries a.tasks k) ∙ f) start in
+    let s = making_step a in
     let m : Making = with_parents a (record { made = empty; parents = [] }) (entries a.tasks) in
     all_apart a.tasks (entries m.made) m.parents (entries_sorted m.made) (λ k f. s.new k (ap is_some (get-entries m.made k) ∙ f)) s.parents.known s.parents.apart
 

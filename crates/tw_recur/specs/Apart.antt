@@ -13,7 +13,7 @@ abbrev pub AreOthers : List ℕ → List Change → Type 0
 AreOthers u [] = ⊤
 AreOthers u (c ∷ cs) = (same_bytes c.uuid u ≡ false) × AreOthers u cs
 
--- no uuid stands twice
+-- no two changes are of one uuid
 abbrev pub AreApart : List Change → Type 0
 AreApart [] = ⊤
 AreApart (c ∷ cs) = AreOthers c.uuid cs × AreApart cs
@@ -22,10 +22,11 @@ AreApart (c ∷ cs) = AreOthers c.uuid cs × AreApart cs
 abbrev pub EachIsAll : Type 0
 EachIsAll = (tasks : TasksValue) (changes : List Change) (at : Moment) → AreApart changes → ops_each tasks changes at ≡ ops_of_all tasks changes at
 
--- each uuid stands once in the changes of all instances
+-- no two changes of all instances are of one uuid
 abbrev pub InstancesAreApart : Type 0
 InstancesAreApart = (tasks : TasksValue) (now : ℕ) (tz : TimeZone) (limit : ℕ) → AreApart (instance_changes tasks now tz limit)
 
 -- the operations of all instances are those of their changes, one after another
 abbrev pub InstancesAreChanges : Type 0
-InstancesAreChanges = (tasks : TasksValue) (at : Moment) (tz : TimeZone) (limit : ℕ) → instances_of tasks at tz limit ≡ ops_of_all tasks (instance_changes tasks at.seconds tz limit) at
+InstancesAreChanges = (tasks : TasksValue) (at : Moment) (tz : TimeZone) (limit : ℕ)
+    → instances_of tasks at tz limit ≡ ops_of_all tasks (instance_changes tasks at.seconds tz limit) at

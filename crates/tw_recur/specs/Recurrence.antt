@@ -1,10 +1,11 @@
 -- When a recurring task is due: task(1), under "recur".
+use Rattle.std.specs.Prelude.{◌≤◌}
 use Rattle.std.specs.Prelude.{◌<◌, ℕ, zero, suc, ◌+◌, ◌-◌, ◌^◌, Bool, true, false, cond, ◌&&◌, nat_lt, nat_le, List, [], Option, Some, None, unwrap_or, codes}
 use Rattle.std.specs.Result.{result_ok}
 use Rattle.std.specs.FinMap.{get}
 use Rattle.tw_time.specs.Moments.{TimeZone}
 use Rattle.tw_time.specs.declared.Length.{Length}
-use Rattle.tw_time.specs.Lengths.{added, duration, IsOfOneUnit}
+use Rattle.tw_time.specs.Lengths.{added, duration, shift_of, IsOfOneUnit}
 use Rattle.tw_world.specs.declared.moment.TheConstants.{MOMENT_LIMIT}
 use Rattle.tw_model.specs.Ops.{TaskValue}
 use Rattle.tw_urgency.specs.Stored.{moment_at}
@@ -54,3 +55,9 @@ wanted r until tz now limit i = cond (nat_lt i (2 ^ 32) && are_due r tz now (i +
 pub record IsRecurrence (r : Recurrence) : Type 0 where
   pub due : r.due < MOMENT_LIMIT
   pub length : IsOfOneUnit r.length
+
+-- whatever the zone's clock does, all instances before one that is due at this moment are due by now
+pub record IsLongPast (r : Recurrence) (now at : ℕ) : Type 0 where
+  pub start : shift_of r.length ≤ r.due
+  pub past : at + shift_of r.length ≤ now
+  pub limit : at + shift_of r.length < MOMENT_LIMIT

@@ -5,8 +5,8 @@ ghost use Rattle.tw_world.specs.declared.Moment.{Moment as AtMoment};
 ghost use Rattle.std.specs.FinMap as map;
 ghost use Rattle.tw_model.specs.Changes.{change_ops, ops_of};
 ghost use Rattle.tw_recur.specs.Recurrence.{mask_of};
-ghost use Rattle.tw_recur.specs.Instances.{with_mask, mask_change, with_parent, with_parents, made_changes, instance_changes, ops_each, instances_of};
-ghost use Rattle.tw_recur.specs.Grown.{asked_in, making_in};
+ghost use Rattle.tw_recur.specs.Instances.{with_mask, mask_change, with_parent, made_changes, instance_changes, ops_each, instances_of};
+ghost use Rattle.tw_recur.specs.Grown.{asked_in, making_in, with_all_parents};
 
 use crate::growth::{Asking, grow};
 use crate::instance::{set_number, set_text};
@@ -84,7 +84,7 @@ fn push_parents(
     made: &mut Tasks,
     parents: &mut Vec<Change>,
 ) -> Result<(), Memory>
-    ensures { OnOk result (making_in made.new parents.new ≡ with_parents (asked_in asking.now) (making_in made.old parents.old) (map.entries asking.now.tasks.now)) }
+    ensures { OnOk result (making_in made.new parents.new ≡ with_all_parents asking.now (making_in made.old parents.old)) }
 {
     for (uuid, task) in asking.tasks.iter() {
         push_parent(alloc, asking, made, parents, *uuid, task)?;
@@ -105,9 +105,12 @@ fn push_made(alloc: Global, changes: &mut Vec<Change>, made: &Tasks) -> Result<(
     Ok(())
 }
 
-/// What becomes of tasks by the instances that are to be made by now, in Unix seconds (task(1), under "recur"): each instance in byte order of its uuid, and then the parents whose masks grow.
-/// Instance `i` is due `i` times its parent's `recur` after the parent's own `due`, so a month keeps its end. Those that are due are made and `limit` more, none after `until`, and at most a thousand of one parent at once.
-/// One whose uuid is a task already stays as it is, and the mask grows all the same: it has a character for each instance, `W` for one that waits and `-` for any other.
+/// What becomes of tasks by the instances that are to be made by now, in Unix seconds (task(1), under "recur"): each
+/// instance in byte order of its uuid, and then the parents whose masks grow.
+/// Instance `i` is due `i` times its parent's `recur` after the parent's own `due`, so a month keeps its end. Those that
+/// are due are made and `limit` more, none after `until`, and at most a thousand of one parent at once.
+/// One whose uuid is a task already stays as it is, and the mask grows all the same. The mask has a character for each
+/// instance, `W` for one that waits and `-` for any other.
 /// A task whose `due` or `recur` can't be read makes none; a `wait` or `scheduled` that can't be read is copied as it is.
 #[tactic(auto, unfolding(crate::specs::Instances::instance_changes))]
 pub fn due_changes(

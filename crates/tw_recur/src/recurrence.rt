@@ -1,8 +1,8 @@
 // When a recurring task is due.
 ghost use Rattle.std.specs.Prelude.{◌≡◌, ◌<◌, ◌≤◌, ◌^◌, true, IfSome, length, chars};
 ghost use Rattle.std.specs.Option.{option_copied};
-ghost use Rattle.tw_time.specs.Lengths.{IsOfOneUnit};
-ghost use Rattle.tw_recur.specs.Recurrence.{length_of, paired, recurrence_of, mask_of, due_of, has_come, are_due, up_to, wanted, IsRecurrence};
+ghost use Rattle.tw_time.specs.Lengths.{IsOfOneUnit, shift_of};
+ghost use Rattle.tw_recur.specs.Recurrence.{length_of, paired, recurrence_of, mask_of, due_of, are_due, up_to, wanted, IsRecurrence, IsLongPast};
 
 use tw_model::TaskMap;
 use tw_time::{Length, Zone, add_length, read_duration};
@@ -70,16 +70,27 @@ pub(crate) fn due_of(recurrence: &Recurrence, zone: &Zone, i: u32) -> Option<u64
     add_length(recurrence.due, &recurrence.length, i, zone)
 }
 
-fn has_come(now: u64, at: Option<u64>) -> bool
-    ensures { result ≡ has_come now at }
+fn shift_of(length: &Length) -> u64
+    ensures value { result ≡ shift_of length.now }
+    ensures small { result ≤ 187198 }
 {
-    match at {
-        Some(at) => at <= now,
-        None => false,
+    if length.months == 0 && length.days == 0 {
+        0
+    } else {
+        187_198
     }
 }
 
-// Whether each of the instances up to this one is due by now. So many are known to be.
+// Whether all instances before one that is due at this moment are due by now, whatever the zone's clock does.
+fn is_long_past(recurrence: &Recurrence, now: u64, at: u64) -> bool
+    requires { at < MOMENT_LIMIT }
+    ensures { result ≡ true → IsLongPast recurrence.now now at }
+{
+    let shift = shift_of(&recurrence.length);
+    shift <= recurrence.due && at + shift <= now && at + shift < MOMENT_LIMIT
+}
+
+// Whether each of the first instances is due by now, looked at from the last. So many are known to be.
 fn are_due(recurrence: &Recurrence, zone: &Zone, now: u64, known: &mut u64, count: u64) -> bool
     requires right { IsRecurrence recurrence.now }
     requires known { are_due recurrence.now zone.now now known.old ≡ true }
@@ -87,12 +98,24 @@ fn are_due(recurrence: &Recurrence, zone: &Zone, now: u64, known: &mut u64, coun
     ensures value { result ≡ are_due recurrence.now zone.now now count }
     ensures known { are_due recurrence.now zone.now now known.new ≡ true }
 {
-    while *known < count {
-        if !has_come(now, due_of(recurrence, zone, *known as u32)) {
+    if count <= *known {
+        return true;
+    }
+    let mut left = count;
+    while *known < left {
+        let Some(at) = due_of(recurrence, zone, (left - 1) as u32) else {
+            return false;
+        };
+        if now < at {
             return false;
         }
-        *known += 1;
+        if is_long_past(recurrence, now, at) {
+            *known = count;
+            return true;
+        }
+        left -= 1;
     }
+    *known = count;
     true
 }
 

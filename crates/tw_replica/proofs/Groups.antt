@@ -1,4 +1,4 @@
--- The groups of operations that bodies hold, each behind an undo point, and a list of them.
+-- The groups of operations that bodies hold, each after an undo point, and a list of them.
 use Rattle.std.proofs.Common.{◌≡◌, ℕ, zero, suc, Bool, true, false, cond, ◌&&◌, List, [], ◌∷◌, ◌++◌, length, Option, Some, None, refl, ap, subst, ◌∙◌}
 use Rattle.std.specs.Prelude.{◌==◌}
 use Rattle.std.specs.Int.{w32}
@@ -11,7 +11,7 @@ use Rattle.tw_replica.specs.Reading.{op_at, group_of, commit_of, sync_op_at, syn
 use Rattle.tw_fields.specs.Reading.{◌>>=◌, number_at, uuid_at, many_at, counted_at}
 use Rattle.tw_replica.specs.State.{in_front, split_group}
 use Rattle.tw_replica.specs.Pending.{BeginsWithPoint}
-use Rattle.tw_fields.proofs.Spelled.{bind_some}
+use Rattle.tw_fields.proofs.FieldsSpelled.{bind_some}
 use Rattle.tw_numbers.proofs.Basics.{both_hold}
 
 -- ---- a list that is split at its last undo point

@@ -10,8 +10,8 @@ use Rattle.tw_replica.specs.Body.{task_bytes, op_bytes, sync_op_bytes, IsOp, IsS
 use Rattle.tw_fields.specs.Fields.{text_bytes, option_bytes, moment_bytes, IsUuid}
 use Rattle.tw_replica.specs.Reading.{create_at, delete_at, update_at, op_at, sync_create_at, sync_delete_at, sync_update_at, sync_op_at}
 use Rattle.tw_fields.specs.Reading.{text_at, option_at, uuid_at}
-use Rattle.tw_replica.proofs.Again.{task_again}
-use Rattle.tw_fields.proofs.Again.{then_again, text_again, text_short, option_again, option_short, moment_again, uuid_again}
+use Rattle.tw_replica.proofs.TaskAgain.{task_again}
+use Rattle.tw_fields.proofs.FieldsAgain.{then_again, text_again, text_short, option_again, option_short, moment_again, uuid_again}
 
 -- ---- operations of this replica
 

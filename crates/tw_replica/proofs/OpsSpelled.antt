@@ -8,8 +8,8 @@ use Rattle.tw_replica.specs.Body.{task_bytes, op_bytes, sync_op_bytes, IsTask, I
 use Rattle.tw_fields.specs.Fields.{text_bytes, option_bytes, moment_bytes, IsText, IsUuid}
 use Rattle.tw_replica.specs.Reading.{task_at, create_at, delete_at, update_at, op_at, sync_create_at, sync_delete_at, sync_update_at, sync_op_at}
 use Rattle.tw_fields.specs.Reading.{text_at, option_at, moment_at, uuid_at}
-use Rattle.tw_replica.proofs.Spelled.{task_spelled}
-use Rattle.tw_fields.proofs.Spelled.{AreBytes, bytes_tail, Spells, Any, IsTextIfAny, itself, then_spelled, all_spelled, text_spelled, option_spelled, moment_spelled, uuid_spelled}
+use Rattle.tw_replica.proofs.TaskSpelled.{task_spelled}
+use Rattle.tw_fields.proofs.FieldsSpelled.{AreBytes, bytes_tail, Spells, Any, IsTextIfAny, itself, then_spelled, all_spelled, text_spelled, option_spelled, moment_spelled, uuid_spelled}
 
 -- lists one after another, in one
 four : (a b c d rest : List ℕ) → a ++ (b ++ (c ++ (d ++ rest))) ≡ (a ++ (b ++ (c ++ d))) ++ rest

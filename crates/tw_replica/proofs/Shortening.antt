@@ -4,7 +4,7 @@ use Rattle.std.proofs.Common.{◌≡◌, inl, inr, ℕ, ◌+◌, ◌-◌, ◌^�
 use Rattle.std.proofs.lemmas.Bool.{leb-true}
 use Rattle.std.proofs.lemmas.List.{length-append, length-drop}
 use Rattle.std.proofs.lemmas.Option.{same_Some}
-use Rattle.tw_world.specs.Disk.{DiskModel, Tells, Rose, LeavesOnly, Kept}
+use Rattle.tw_world.specs.Disk.{DiskModel, Tells, Rose, LeavesOnly, FaultsRise}
 use Rattle.tw_world.proofs.Moments.{CountsNow, OnlyNow, joined, weaker, started}
 use Rattle.tw_journal.specs.Form.{Records, HasRecords, has_areas, IsSameForm}
 use Rattle.tw_journal.specs.Open.{IsImageThen}
@@ -13,14 +13,14 @@ use Rattle.tw_journal.specs.Journal.{IsOpenOn, IsOpened, RecordsOrOne, AppendRef
 use Rattle.tw_journal.specs.declared.journal.Journal.{Journal}
 use Rattle.tw_journal.specs.declared.error.AppendError.{AppendError}
 use Rattle.tw_journal.specs.declared.error.AppendError.TheVariants as appends
-use Rattle.tw_journal.proofs.Places.{left_records}
+use Rattle.tw_journal.proofs.Offsets.{left_records}
 use Rattle.tw_replica.specs.Body.{IsStep}
 use Rattle.tw_replica.specs.State.{State, start, Stands, checkpoint}
 use Rattle.tw_replica.specs.Sound.{IsSound}
 use Rattle.tw_replica.specs.Replica.{magic, OpensTo, KeepsRecords, OpeningRefused}
 use Rattle.tw_replica.specs.Opening.{is_due, state_body, opened_bodies, IsAtMost, IsOpening, ShorteningRefused, shortening_in_open}
-use Rattle.tw_replica.specs.declared.opening.ShorteningError.{ShorteningError}
-use Rattle.tw_replica.specs.declared.opening.ShorteningError.TheVariants.{Disk, Memory}
+use Rattle.tw_replica.specs.declared.open.shorten.ShorteningError.{ShorteningError}
+use Rattle.tw_replica.specs.declared.open.shorten.ShorteningError.TheVariants.{Disk, Memory}
 use Rattle.tw_replica.proofs.StepAgain.{step_again}
 use Rattle.tw_replica.proofs.Soundness.{checkpoint_leads, stands_sound}
 use Rattle.tw_replica.proofs.Replaying.{opens_as_before}
@@ -148,6 +148,6 @@ module _ {D : Type 0} (m : DiskModel D) where
       joined m before mid new (IsOpening m before) (weaker m before mid (IsImageThen m before magic) (IsOpening m before) first (λ c has. inl has))
       (weaker m mid new (λ c. OpensTo c state) (IsOpening m before) second (λ c opens. inr (record { state = state; first = record { bodies = bodies; records = records; stands = stands }; second = opens })))
 
-  pub shortening_refused : (before mid after : D) (e : ShorteningError) → Kept m before mid → (Tells m before → KeepsRecords (m.seen before) (m.seen mid)) → ShorteningRefused m mid after e → OpeningRefused m before after (shortening_in_open e)
+  pub shortening_refused : (before mid after : D) (e : ShorteningError) → FaultsRise m before mid → (Tells m before → KeepsRecords (m.seen before) (m.seen mid)) → ShorteningRefused m mid after e → OpeningRefused m before after (shortening_in_open e)
   shortening_refused before mid after Disk kept keeps r = omega (arith, kept.faults, r)
   shortening_refused before mid after Memory kept keeps r = λ tells. opens_as_before _ _ (subst (λ (d : D). KeepsRecords (m.seen before) (m.seen d)) (sym r) (keeps tells))

@@ -12,8 +12,8 @@ use Rattle.tw_replica.specs.Body.{pair_bytes, task_bytes, op_bytes, place_bytes,
 use Rattle.tw_replica.specs.Body.Step.{Checkpoint}
 use Rattle.tw_replica.specs.Reading.{place_at, entry_at, op_at, tasks_at, checkpoint_of}
 use Rattle.tw_fields.specs.Reading.{many_at, counted_at}
-use Rattle.tw_replica.proofs.Again.{task_again}
-use Rattle.tw_fields.proofs.Again.{four_again, uuid_again, many_again, few, held}
+use Rattle.tw_replica.proofs.TaskAgain.{task_again}
+use Rattle.tw_fields.proofs.FieldsAgain.{four_again, uuid_again, many_again, few, held}
 use Rattle.tw_replica.proofs.OpsAgain.{op_again, op_has_bytes}
 
 place_again : (place : Option (List ℕ)) (rest : List ℕ) → IsPlace place × (length (place_bytes place) < 2 ^ 32) → place_at (place_bytes place ++ rest) ≡ Some (place, rest)

@@ -11,8 +11,8 @@ use Rattle.tw_replica.specs.Body.{Step, task_bytes, op_bytes, place_bytes, place
 use Rattle.tw_replica.specs.Body.Step.{Checkpoint}
 use Rattle.tw_replica.specs.Reading.{place_at, entry_at, op_at, tasks_at, checkpoint_of}
 use Rattle.tw_fields.specs.Reading.{counted_at}
-use Rattle.tw_replica.proofs.Spelled.{task_spelled}
-use Rattle.tw_fields.proofs.Spelled.{bind_some, AreBytes, bytes_tail, none_left, Spells, four_spelled, uuid_spelled, many_spelled, true_held}
+use Rattle.tw_replica.proofs.TaskSpelled.{task_spelled}
+use Rattle.tw_fields.proofs.FieldsSpelled.{bind_some, AreBytes, bytes_tail, none_left, Spells, four_spelled, uuid_spelled, many_spelled, true_held}
 use Rattle.tw_replica.proofs.OpsSpelled.{op_spelled}
 
 place_spelled : (bytes : List ℕ) (r : Option (List ℕ) × List ℕ) → AreBytes bytes → place_at bytes ≡ Some r → Spells place_bytes IsPlace bytes r

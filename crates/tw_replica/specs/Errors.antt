@@ -8,10 +8,10 @@ use Rattle.tw_journal.specs.declared.error.AppendError.{AppendError}
 use Rattle.tw_journal.specs.declared.error.AppendError.TheVariants as appends
 use Rattle.tw_journal.specs.declared.error.JournalError.{JournalError}
 use Rattle.tw_journal.specs.declared.error.JournalError.TheVariants as journal
-use Rattle.tw_replica.specs.declared.replica.records.RecordError.{RecordError}
-use Rattle.tw_replica.specs.declared.replica.records.RecordError.TheVariants as records
-use Rattle.tw_replica.specs.declared.steps.PrepareError.{PrepareError}
-use Rattle.tw_replica.specs.declared.steps.PrepareError.TheVariants as prepares
+use Rattle.tw_replica.specs.declared.error.RecordError.{RecordError}
+use Rattle.tw_replica.specs.declared.error.RecordError.TheVariants as records
+use Rattle.tw_replica.specs.declared.keeping.commit.NextError.{NextError}
+use Rattle.tw_replica.specs.declared.keeping.commit.NextError.TheVariants as prepares
 use Rattle.tw_replica.specs.declared.error.OpenError.{OpenError}
 use Rattle.tw_replica.specs.declared.error.OpenError.TheVariants as opens
 use Rattle.tw_replica.specs.declared.error.WriteError.{WriteError}
@@ -52,21 +52,21 @@ of_write writes.Disk = journal.Disk
 of_write writes.Closed = journal.Closed
 of_write (writes.TooLong bytes) = journal.TooLong bytes
 
--- the same cause, as a commit tells it
+-- the same cause, as a commit reports it
 abbrev pub record_in_commit : RecordError → CommitError
 record_in_commit (records.Journal e) = commits.Journal e
 record_in_commit records.Memory = commits.Memory
 
-abbrev pub unprepared : PrepareError → CommitError
-unprepared (prepares.Invalid index) = commits.Invalid index
-unprepared prepares.Memory = commits.Memory
+abbrev pub next_in_commit : NextError → CommitError
+next_in_commit (prepares.Invalid index) = commits.Invalid index
+next_in_commit prepares.Memory = commits.Memory
 
--- as an undo tells it
+-- as an undo reports it
 abbrev pub record_in_undo : RecordError → UndoError
 record_in_undo (records.Journal e) = undos.Journal e
 record_in_undo records.Memory = undos.Memory
 
--- as one of several calls tells it
+-- as one of several calls reports it
 abbrev pub commit_in_all : CommitError → ReplicaError
 commit_in_all (commits.Journal e) = errors.Journal (append_in_all e)
 commit_in_all (commits.Invalid index) = errors.Invalid index

@@ -15,8 +15,8 @@ use Rattle.tw_numbers.specs.Assigned.{is_among}
 use Rattle.tw_world.specs.declared.Moment.{Moment}
 use Rattle.tw_model.specs.Changes.{changed_all, ops_of_all, group_of}
 use Rattle.tw_model.specs.declared.Change.{Change}
-use Rattle.tw_replica.specs.declared.editing.Editing.{Editing}
-use Rattle.tw_replica.specs.declared.prepared.Prepared.{Prepared}
+use Rattle.tw_replica.specs.declared.step.edit.Editing.{Editing}
+use Rattle.tw_replica.specs.declared.step.write.Prepared.{Prepared}
 use Rattle.tw_replica.specs.declared.replica.Replica.{Replica}
 use Rattle.tw_replica.specs.declared.error.TakeBackError.{TakeBackError}
 use Rattle.tw_replica.specs.declared.error.TakeBackError.TheVariants as backs
@@ -63,16 +63,25 @@ pub record IsEditing (old : Replica) (made : List Change) (at : Moment) (editing
   pub ops : editing.ops.items ≡ ops_of_all old.core.tasks made at
   pub among : ChangedAmong editing.touched.keys old.core.tasks editing.core.tasks
 
+-- whichever changes were made before, these are made as well
+abbrev pub MakesAll : (old new : Editing) → List Change → Moment → Type 0
+MakesAll old new changes at = (replica : Replica) (made : List Change) → IsEditing replica made at old → IsEditing replica (made ++ changes) at new
+
 -- the step that the changes are
 abbrev pub step_of_changes : Replica → (renumber : Bool) → List Change → Moment → Step
 step_of_changes old renumber made at = Commit renumber (group_of (ops_of_all (held_state old).tasks made at))
+
+-- the step that whichever changes were made are is made in memory
+abbrev pub PreparesChanges : Editing → (renumber : Bool) → Prepared → Type 0
+PreparesChanges editing renumber prepared = (old : Replica) (made : List Change) (at : Moment) → IsEditing old made at editing
+    → IsPrepared old (step_of_changes old renumber made at) prepared
 
 -- why an undo is not prepared
 abbrev pub TakingBackRefused : Replica → TakeBackError → Type 0
 TakingBackRefused old backs.NothingToUndo = split_group (held_state old).pending ≡ None
 TakingBackRefused old backs.Memory = Unit {0}
 
--- a file has these records behind the magic, or these and those that were to be written
+-- a file has these records after the magic, or these and those that were to be written
 abbrev pub RecordsOrAll : (bodies more : List (List ℕ)) → List ℕ → Type 0
 RecordsOrAll bodies more file = Records magic file bodies ⊎ Records magic file (bodies ++ more)
 

@@ -1,5 +1,5 @@
 -- Taking the pending operations of a whole state, those of one command at a time.
-use Rattle.std.specs.Prelude.{◌≡◌, ◌⊎◌, ◌≤◌, ◌+◌, ◌==◌, ◌&&◌, ℕ, Bool, true, false, List, [], ◌∷◌, length, drop, Option, Some, None, is_none}
+use Rattle.std.specs.Prelude.{◌≡◌, ◌⊎◌, ◌≤◌, ◌+◌, ◌==◌, ℕ, Bool, true, false, List, [], ◌∷◌, length, drop, Option, Some, None}
 use Rattle.tw_model.specs.Ops.{TasksValue}
 use Rattle.tw_model.specs.LocalOps.{apply_all_local}
 use Rattle.tw_model.specs.Places.{Places}
@@ -7,14 +7,14 @@ use Rattle.tw_model.specs.declared.Op.{Op}
 use Rattle.tw_replica.specs.Body.{has_no_point}
 use Rattle.tw_replica.specs.Reading.{op_at, checkpoint_in}
 use Rattle.tw_fields.specs.Reading.{◌>>=◌, many_at, with_front}
-use Rattle.tw_replica.specs.State.{State, misfit, applied, begins_with_point}
+use Rattle.tw_replica.specs.State.{State, misfit, applied, begins_with_point, is_pending_on}
 
 -- whether bytes begin with those of an undo point
 abbrev pub begins_a_command : List ℕ → Bool
 begins_a_command [] = false
 begins_a_command (b ∷ bytes) = b == 4
 
--- of so many operations these were read: one, and those behind it up to an undo point or the end. So many are left in the bytes behind them
+-- of so many operations these were read: one, and those after it up to an undo point or the end. So many are left in the bytes after them
 pub record ReadsCommand (count : ℕ) (bytes : List ℕ) (ops : List Op) (left : ℕ) (rest : List ℕ) : Type 0 where
   pub read : with_front ops (many_at op_at left rest) ≡ many_at op_at count bytes
   pub first : begins_with_point ops ≡ begins_a_command bytes
@@ -33,7 +33,7 @@ pub record TakesAll (count : ℕ) (bytes : List ℕ) (old new : TasksValue) (pen
 -- they were, or the bytes are no such operations
 abbrev pub TakesPending : Bool → (count : ℕ) (bytes : List ℕ) (old new : TasksValue) (pending : List Op) → Type 0
 TakesPending true count bytes old new pending = TakesAll count bytes old new pending
-TakesPending false count bytes old new pending = (ops : List Op) → many_at op_at count bytes ≡ Some (ops, []) → (begins_with_point ops && is_none (misfit 0 old ops)) ≡ false
+TakesPending false count bytes old new pending = (ops : List Op) → many_at op_at count bytes ≡ Some (ops, []) → is_pending_on old ops ≡ false
 
 -- the state that a whole state leads to whose pending operations are so many in these bytes, if they are and it is sound
 abbrev pub restored_by : (base : List ℕ) (places : Places) (tasks : TasksValue) (count : ℕ) (bytes : List ℕ) → State → Option State

@@ -1,7 +1,8 @@
 -- Which tasks operations are about.
-use Rattle.std.specs.Prelude.{ℕ, Bool, false, List}
+use Rattle.std.specs.Prelude.{◌≡◌, ◌||◌, ℕ, Bool, false, List}
+use Rattle.std.specs.BTreeSet as set
 use Rattle.std.specs.List.{list_any}
-use Rattle.tw_model.specs.Maps.{same_bytes}
+use Rattle.tw_model.specs.Maps.{bytes_cmp, same_bytes}
 use Rattle.tw_model.specs.Ops.{uuid_of}
 use Rattle.tw_model.specs.declared.Op.{Op}
 use Rattle.tw_model.specs.declared.Op.TheVariants.{Create, Delete, Update, UndoPoint}
@@ -24,3 +25,7 @@ is_about_synced u op = same_bytes u (uuid_of op)
 
 abbrev pub is_touched_by_synced : List SyncOp → List ℕ → Bool
 is_touched_by_synced ops u = list_any (is_about_synced u) ops
+
+-- a set gains the uuids of which the test holds
+abbrev pub Gains : (old new : set.BTreeSet (List ℕ)) → (List ℕ → Bool) → Type 0
+Gains old new test = (u : List ℕ) → set.contains bytes_cmp new u ≡ (set.contains bytes_cmp old u || test u)

@@ -2,7 +2,6 @@
 ghost use Rattle.std.specs.Prelude.{◌≡◌};
 ghost use Rattle.tw_replica.specs.Errors.{IsReadCause, of_open};
 
-use crate::replica::RecordError;
 use std::alloc::AllocError;
 use tw_journal::{AppendError, JournalError, ReadError};
 use tw_world::Memory;
@@ -40,6 +39,15 @@ pub enum UndoError {
     Memory,
 }
 
+/// Why a sync is not finished, and why a record is not written or not taken.
+#[derive(Clone, Copy, Debug, PartialEq, Eq, Drop)]
+pub enum RecordError {
+    /// The journal refused it.
+    Journal(AppendError),
+    /// There was no memory left. Nothing has changed.
+    Memory,
+}
+
 /// Why the last group is not taken back in memory. The file is as it was.
 #[derive(Clone, Copy, Debug, PartialEq, Eq, Drop)]
 pub enum TakeBackError {
@@ -52,7 +60,7 @@ pub enum TakeBackError {
 /// Why a prepared step is not written.
 #[derive(Clone, Copy, Debug, PartialEq, Eq, Drop)]
 pub enum WriteError {
-    /// The disk failed, and the record may stand or not.
+    /// The disk failed, and the record may be there or not.
     Disk,
     /// A fault of the disk had closed the replica before.
     Closed,
@@ -146,6 +154,17 @@ impl From<Memory> for UndoError {
 
     fn from(_: Memory) -> UndoError {
         UndoError::Memory
+    }
+}
+
+impl From<Memory> for RecordError {
+    ghost use Rattle.std.specs.Prelude.{◌≡◌};
+    ghost use Rattle.tw_replica.specs.declared.error.RecordError.TheVariants.{Memory as NoMemory};
+
+    ghost from_gives = { λ _ e. e ≡ NoMemory };
+
+    fn from(_: Memory) -> RecordError {
+        RecordError::Memory
     }
 }
 

@@ -1,15 +1,15 @@
-// The pending operations, kept in the bodies of the commits that they came with, and read where they are wanted.
+// The pending operations, kept in the bodies of the commits that they came with, and read when they are wanted.
 ghost use Rattle.std.specs.Prelude.{◌≡◌, ◌<◌, ◌^◌, ◌||◌, ◌++◌, [], List, ℕ, length, drop, IfOk, OnOk, OnErr};
 ghost use Rattle.tw_model.specs.declared.Op.{Op as AnyOp};
 ghost use Rattle.tw_model.specs.LocalOps.{take_back_all};
-ghost use Rattle.tw_replica.specs.Kept.{ops_or_none, group_in, groups_in, AreKept, IsLastOf, IsLast};
+ghost use Rattle.tw_replica.specs.Groups.{ops_or_none, group_in, groups_in, AreCounted, IsLastOf, IsLast};
 ghost use Rattle.tw_replica.specs.Reading.{group_of};
 ghost use Rattle.tw_numbers.specs.Assigned.{is_among};
 ghost use Rattle.tw_replica.specs.Touched.{is_touched};
 
-use crate::about::add_all_touched;
-use crate::held::take_back_from;
-use crate::reading::read_group;
+use crate::body::step::read_group;
+use crate::state::take_back_from;
+use crate::touched::add_all_touched;
 use std::alloc::Global;
 use std::collections::BTreeSet;
 use std::marker::Model;
@@ -20,7 +20,7 @@ use uuid::Uuid;
 
 // The body of a commit, and how many operations it holds.
 #[derive(Drop)]
-struct Kept {
+struct Group {
     count: usize,
     body: Vec<u8>,
 }
@@ -28,7 +28,7 @@ struct Kept {
 /// Operations that no server has seen yet, seen as their list, the oldest first, with an undo point before those of each command.
 /// They lie in the bodies of their records: to read them takes memory, and time with their number.
 pub struct Pending {
-    bodies: Vec<Kept>,
+    bodies: Vec<Group>,
     count: usize,
 }
 
@@ -52,14 +52,14 @@ impl Model for Pending {
 
     ghost coded = { Prim.hlevel (codes, task.the_row.coded) };
 
-    ghost use Rattle.tw_replica.specs.Kept.{groups_in, AreKept};
+    ghost use Rattle.tw_replica.specs.Groups.{groups_in, AreCounted};
 
     ghost view = { λ p. groups_in p.bodies.items };
 
-    ghost invariant = { λ p. AreKept p.bodies.items p.count };
+    ghost invariant = { λ p. AreCounted p.bodies.items p.count };
 }
 
-// The operations that behind its first bytes the body of a commit holds.
+// The operations of a commit's body, without its first bytes.
 fn read_ops_of(alloc: Global, rest: &[u8]) -> Result<Vec<Op>, Memory>
     ensures { IfOk result (λ ops. ops.items ≡ ops_or_none (group_of rest.now)) }
 {
@@ -80,8 +80,8 @@ fn group_in(alloc: Global, body: &[u8]) -> Result<Vec<Op>, Memory>
     }
 }
 
-// The operations of bodies from a place on, one behind another.
-fn read_from(alloc: Global, bodies: &Vec<Kept>, from: usize) -> Result<Vec<Op>, Memory>
+// The operations of bodies from a number on, one after another.
+fn read_from(alloc: Global, bodies: &Vec<Group>, from: usize) -> Result<Vec<Op>, Memory>
     ensures { IfOk result (λ ops. ops.items ≡ groups_in (drop from bodies.now.items)) }
 {
     let mut ops = Vec::new(alloc);
@@ -112,7 +112,7 @@ fn take_these_back(
 fn take_bodies_back(
     alloc: Global,
     tasks: &mut Tasks,
-    bodies: &Vec<Kept>,
+    bodies: &Vec<Group>,
 ) -> Result<BTreeSet<Uuid>, Memory>
     ensures tasks { OnOk result (tasks.new ≡ take_back_all tasks.old (groups_in bodies.now.items)) }
     ensures touched { IfOk result (λ touched. (u : List ℕ) → is_among touched.keys u ≡ is_touched (groups_in bodies.now.items) u) }
@@ -130,11 +130,11 @@ fn take_bodies_back(
 // The operations of bodies from a number on. Bodies whose operations all come before it are not read.
 fn read_behind(
     alloc: Global,
-    bodies: &Vec<Kept>,
+    bodies: &Vec<Group>,
     count: usize,
     from: usize,
 ) -> Result<Vec<Op>, Memory>
-    requires { AreKept bodies.now.items count }
+    requires { AreCounted bodies.now.items count }
     ensures { IfOk result (λ ops. ops.items ≡ drop from (groups_in bodies.now.items)) }
 {
     let mut at = bodies.len();
@@ -210,7 +210,7 @@ impl Pending {
         Ok(Some(group_in(alloc, &self.bodies[held - 1].body)?))
     }
 
-    /// Puts the operations of a commit's body behind the others, which are so many, or changes nothing.
+    /// Puts the operations of a commit's body after the others, which are so many, or changes nothing.
     pub(crate) fn keep(&mut self, body: Vec<u8>, count: usize) -> Result<(), Memory>
         requires { count ≡ length (group_in body.items) }
         ensures ok { OnOk result (self.new ≡ self.old ++ group_in body.items) }
@@ -222,7 +222,7 @@ impl Pending {
         let Some(all) = self.count.checked_add(count) else {
             return Err(Memory);
         };
-        self.bodies.push(Kept { count, body })?;
+        self.bodies.push(Group { count, body })?;
         self.count = all;
         Ok(())
     }

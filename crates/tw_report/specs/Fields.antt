@@ -14,7 +14,7 @@ use Rattle.tw_urgency.specs.Status.{status_of}
 use Rattle.tw_urgency.specs.Urgency.{urgency}
 use Rattle.tw_urgency.specs.declared.Status.{Status}
 use Rattle.tw_urgency.specs.declared.Status.TheVariants as status
-use Rattle.tw_table.specs.Table.{Layout}
+use Rattle.tw_text.specs.Table.{Layout}
 use Rattle.tw_report.specs.Sight.{Sight}
 use Rattle.tw_report.specs.declared.report.Report.{Report}
 use Rattle.tw_report.specs.declared.report.Report.TheVariants as report

@@ -2,4 +2,3 @@ pub mod Sight
 pub mod Fields
 pub mod Order
 pub mod Texts
-pub mod Ids

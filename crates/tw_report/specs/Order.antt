@@ -20,7 +20,7 @@ Rank = ℤ × List ℕ
 abbrev pub rank_cmp : Rank → Rank → Ordering
 rank_cmp a b = ordering_then (int_cmp a.0 b.0) (bytes_cmp a.1 b.1)
 
--- a moment, and an absent one behind all
+-- a moment, and an absent one after all others
 abbrev pub absent_last : Option ℕ → ℤ
 absent_last None = pos MOMENT_LIMIT
 absent_last (Some at) = pos at

@@ -1,15 +1,12 @@
 -- What a text is made of: tasks, their numbers, a moment, a zone and the weights of urgency.
-use Rattle.std.specs.Prelude.{◌≡◌, ◌<◌, ℕ, List, Option, Some, None, ℤ, pos, neg_ℤ, ◌≤ℤ◌}
-use Rattle.std.specs.BTreeSet as set
+use Rattle.std.specs.Prelude.{◌<◌, ℕ, ℤ, pos, neg_ℤ, ◌≤ℤ◌}
 use Rattle.jiff.specs.Types.{TimeZone}
 use Rattle.tw_world.specs.declared.moment.TheConstants.{MOMENT_LIMIT}
-use Rattle.tw_model.specs.Maps.{bytes_cmp}
 use Rattle.tw_model.specs.Ops.{TasksValue}
 use Rattle.tw_model.specs.Places.{Places}
-use Rattle.tw_urgency.specs.Dependencies.{blocking}
 use Rattle.tw_urgency.specs.Urgency.{AreWeights}
 use Rattle.tw_urgency.specs.declared.coefficients.Coefficients.{Coefficients}
-use Rattle.tw_report.specs.Ids.{AreIds}
+use Rattle.tw_filter.specs.Indexes.{AreIds, AreBlocking}
 use Rattle.tw_filter.specs.declared.view.View.{View}
 use Rattle.tw_report.specs.declared.look.Look.{Look}
 
@@ -32,10 +29,6 @@ sight_of view weights = record {
 
 abbrev pub sight_in : Look → Sight
 sight_in look = sight_of look.view.now look.weights.now
-
-abbrev pub AreBlocking : Option (set.BTreeSet (List ℕ)) → TasksValue → Type 0
-AreBlocking None tasks = Unit {0}
-AreBlocking (Some uuids) tasks = (u : List ℕ) → set.contains bytes_cmp uuids u ≡ blocking tasks u
 
 -- what was found of many tasks at once is right
 pub record IsLook (look : Look) : Type 0 where

@@ -10,12 +10,14 @@ use Rattle.tw_model.specs.Maps.{bytes_cmp}
 use Rattle.tw_model.specs.Ops.{TaskValue, TasksValue}
 use Rattle.tw_model.specs.Places.{id_of}
 use Rattle.tw_urgency.specs.Urgency.{urgency}
-use Rattle.tw_table.specs.Table.{table}
+use Rattle.tw_text.specs.Table.{table}
 use Rattle.tw_report.specs.Sight.{Sight}
 use Rattle.tw_filter.specs.Chosen.{Entry, chosen}
 use Rattle.tw_report.specs.Order.{Rank, with_ranks}
 use Rattle.tw_report.specs.Fields.{fields_of, layout, number_text, field_text}
 use Rattle.tw_report.specs.declared.report.Report.{Report}
+use Rattle.tw_report.specs.declared.names.NameKind.{NameKind}
+use Rattle.tw_report.specs.declared.names.NameKind.TheVariants as kind
 
 -- ---- reports
 
@@ -92,10 +94,14 @@ abbrev pub one_more : Option ℕ → ℕ
 one_more None = 1
 one_more (Some n) = suc n
 
--- a name once more, if there is one
+-- a name once more
+abbrev pub counted : Counts → List ℕ → Counts
+counted counts name = insert counts name (one_more (get counts name))
+
+-- the same, if there is a name
 abbrev pub count_name : Counts → Option (List ℕ) → Counts
 count_name counts None = counts
-count_name counts (Some name) = insert counts name (one_more (get counts name))
+count_name counts (Some name) = counted counts name
 
 -- a name, a space and how often it occurs
 abbrev pub count_lines : List (List ℕ × ℕ) → List ℕ
@@ -117,6 +123,11 @@ count_tags_in counts (p ∷ ps) = count_tags_in (count_name counts (tag_in p.0))
 -- the tags of a task
 abbrev pub count_tags : Counts → TaskValue → Counts
 count_tags counts task = count_tags_in counts (entries task)
+
+-- the names of one kind
+abbrev pub count_of : NameKind → Counts → TaskValue → Counts
+count_of kind.Project = count_project
+count_of kind.Tag = count_tags
 
 abbrev pub count_all : (Counts → TaskValue → Counts) → Counts → List Entry → Counts
 count_all f counts [] = counts

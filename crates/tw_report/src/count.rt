@@ -2,7 +2,7 @@
 ghost use Rattle.std.specs.Prelude.{◌≡◌, ◌++◌, ◌∷◌, [], T, IfOk, OnOk};
 ghost use Rattle.std.specs.FinMap as map;
 ghost use Rattle.tw_model.specs.Maps.{bytes_cmp};
-ghost use Rattle.tw_report.specs.Texts.{one_more, count_lines};
+ghost use Rattle.tw_report.specs.Texts.{one_more, counted, count_lines};
 
 use std::alloc::Global;
 use std::collections::BTreeMap;
@@ -41,7 +41,7 @@ impl Counts {
 
     /// Counts a name once more.
     pub(crate) fn add(&mut self, alloc: Global, name: &str) -> Result<(), Memory>
-        ensures { OnOk result (self.new ≡ map.insert self.old name.now (one_more (map.get self.old name.now))) }
+        ensures { OnOk result (self.new ≡ counted self.old name.now) }
     {
         add_entry(&mut self.entries, Text::from_str(alloc, name)?)
     }
@@ -57,7 +57,7 @@ impl Counts {
 fn add_entry(entries: &mut BTreeMap<Text, u64>, name: Text) -> Result<(), Memory>
     requires { T (map.is_sorted bytes_cmp entries.old.entries) }
     ensures sorted { T (map.is_sorted bytes_cmp entries.new.entries) }
-    ensures ok { OnOk result (map.from_sorted {R = bytes_cmp} entries.new.entries ≡ map.insert (map.from_sorted entries.old.entries) name (one_more (map.get (map.from_sorted {R = bytes_cmp} entries.old.entries) name))) }
+    ensures ok { OnOk result (map.from_sorted {R = bytes_cmp} entries.new.entries ≡ counted (map.from_sorted entries.old.entries) name) }
 {
     let count = one_more(entries.get(&name).copied())?;
     let _ = entries.insert(name, count)?;

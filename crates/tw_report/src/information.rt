@@ -3,7 +3,8 @@ ghost use Rattle.std.specs.Prelude.{◌≡◌, ◌++◌, IfOk, OnOk};
 ghost use Rattle.std.specs.FinMap as map;
 ghost use Rattle.tw_urgency.specs.Urgency.{AreWeights};
 ghost use Rattle.tw_report.specs.Sight.{IsLook, sight_in, sight_of};
-ghost use Rattle.tw_report.specs.Texts.{property_line, property_lines, plain_line, id_line, uuid_line, urgency_line, head_text, blank_line, task_information, information_text};
+ghost use Rattle.tw_report.specs.Texts.{property_line, property_lines, plain_line, id_line, uuid_line, urgency_line, head_text, blank_line};
+ghost use Rattle.tw_report.specs.Texts.{task_information, information_text};
 
 use crate::field::{number_text, urgency_text};
 use crate::look::{Look, id_in, look_at, urgency_in};
@@ -32,7 +33,7 @@ pub fn information_text(
     Ok(text)
 }
 
-// What is known of the rows' tasks, behind a text.
+// What is known of the rows' tasks, after a text.
 fn push_tasks(
     alloc: Global,
     text: &mut Vec<u8>,
@@ -149,7 +150,7 @@ fn push_blank_line(text: &mut Vec<u8>, is_first: bool) -> Result<(), Memory>
     }
 }
 
-// A task's text, after a blank line where it is not the first.
+// A task's text, after a blank line if it is not the first.
 fn push_task(
     alloc: Global,
     text: &mut Vec<u8>,

@@ -1,11 +1,10 @@
 //! Tasks as texts for people: the reports, and what is told of each task.
 //! Each text is one function of the rows, the tasks, their numbers, the moment, the zone and the weights of urgency.
-//! It stands on `tw_table` for columns, on `tw_urgency` for status and urgency, and on `tw_filter`'s view.
+//! It stands on `tw_text` for columns, on `tw_urgency` for status and urgency, and on `tw_filter`'s view.
 #![tactic(auto)]
 
 mod count;
 mod field;
-mod ids;
 mod information;
 mod look;
 mod names;

@@ -7,16 +7,15 @@ ghost use Rattle.tw_urgency.specs.Dependencies.{blocking as is_blocking_in};
 ghost use Rattle.tw_urgency.specs.Urgency.{urgency, AreWeights};
 ghost use Rattle.tw_report.specs.Sight.{IsLook, IsModest, sight_in, sight_of};
 
-use crate::ids::ids_of;
 use std::alloc::Global;
 use std::collections::{BTreeMap, BTreeSet};
-use tw_filter::View;
+use tw_filter::{View, all_ids};
 use tw_model::id_of;
 use tw_urgency::{Coefficients, all_blocking, blocking, task_urgency};
 use tw_world::Memory;
 use uuid::Uuid;
 
-/// A view, and what is found in it for many tasks at once, where that is worth it.
+/// A view, and what is found in it for many tasks at once, if that is worth it.
 pub(crate) struct Look<'a> {
     pub(crate) view: &'a View<'a>,
     pub(crate) weights: &'a Coefficients,
@@ -41,7 +40,7 @@ impl Drop for Look<'_> {
 // A task's number is found by one look at each place; for more rows than these, all numbers are found at once.
 const FEW_ROWS: usize = 32;
 
-/// Finds what is asked of so many rows, and for their urgency, where that is asked for.
+/// Finds what is asked of so many rows, and for their urgency, if that is asked for.
 pub(crate) fn look_at<'a>(
     alloc: Global,
     view: &'a View<'a>,
@@ -54,7 +53,7 @@ pub(crate) fn look_at<'a>(
     ensures sight { IfOk result (λ look. sight_in look ≡ sight_of view.entry.now weights.now) }
 {
     let ids = if rows > FEW_ROWS {
-        Some(ids_of(alloc, view.numbers)?)
+        Some(all_ids(alloc, view.numbers)?)
     } else {
         None
     };

@@ -2,7 +2,7 @@
 ghost use Rattle.std.specs.Prelude.{◌≡◌, IfOk, OnOk};
 ghost use Rattle.std.specs.Option.{option_copied};
 ghost use Rattle.tw_filter.specs.Chosen.{chosen};
-ghost use Rattle.tw_report.specs.Texts.{tag_in, count_name, count_project, count_tags, count_all, projects_text, tags_text};
+ghost use Rattle.tw_report.specs.Texts.{tag_in, count_name, count_project, count_tags, count_of, count_all, projects_text, tags_text};
 
 use crate::count::Counts;
 use std::alloc::Global;
@@ -11,13 +11,20 @@ use tw_model::TaskMap;
 use tw_world::Memory;
 use uuid::Uuid;
 
+/// The names of tasks that are counted.
+#[derive(Clone, Copy)]
+pub(crate) enum NameKind {
+    Project,
+    Tag,
+}
+
 /// A line for each project of the rows' tasks, in byte order: its name, and how many of them have it (task(1), under "projects").
 /// Names are printed as they are stored.
 pub fn projects_text(alloc: Global, rows: &Vec<Uuid>, view: &View<'_>) -> Result<Vec<u8>, Memory>
     ensures { IfOk result (λ text. text.items ≡ projects_text rows.now.items view.entry.now.tasks.now) }
 {
     let mut counts = Counts::new(alloc);
-    count_projects_of(alloc, &mut counts, rows, view)?;
+    count_rows(alloc, &mut counts, NameKind::Project, rows, view)?;
     counts.lines(alloc)
 }
 
@@ -27,42 +34,41 @@ pub fn tags_text(alloc: Global, rows: &Vec<Uuid>, view: &View<'_>) -> Result<Vec
     ensures { IfOk result (λ text. text.items ≡ tags_text rows.now.items view.entry.now.tasks.now) }
 {
     let mut counts = Counts::new(alloc);
-    count_tags_of(alloc, &mut counts, rows, view)?;
+    count_rows(alloc, &mut counts, NameKind::Tag, rows, view)?;
     counts.lines(alloc)
 }
 
-fn count_projects_of(
+// Counts the names that the tasks of rows have.
+fn count_rows(
     alloc: Global,
     counts: &mut Counts,
+    kind: NameKind,
     rows: &Vec<Uuid>,
     view: &View<'_>,
 ) -> Result<(), Memory>
-    ensures { OnOk result (counts.new ≡ count_all count_project counts.old (chosen rows.now.items view.entry.now.tasks.now)) }
+    ensures { OnOk result (counts.new ≡ count_all (count_of kind) counts.old (chosen rows.now.items view.entry.now.tasks.now)) }
 {
     let chosen = chosen_of(alloc, rows)?;
     for (uuid, task) in view.tasks.iter() {
         if chosen.contains(uuid) {
-            count_project(alloc, counts, task)?;
+            count_task(alloc, counts, kind, task)?;
         }
     }
     Ok(())
 }
 
-fn count_tags_of(
+fn count_task(
     alloc: Global,
     counts: &mut Counts,
-    rows: &Vec<Uuid>,
-    view: &View<'_>,
+    kind: NameKind,
+    task: &TaskMap,
 ) -> Result<(), Memory>
-    ensures { OnOk result (counts.new ≡ count_all count_tags counts.old (chosen rows.now.items view.entry.now.tasks.now)) }
+    ensures { OnOk result (counts.new ≡ count_of kind counts.old task.now) }
 {
-    let chosen = chosen_of(alloc, rows)?;
-    for (uuid, task) in view.tasks.iter() {
-        if chosen.contains(uuid) {
-            count_tags(alloc, counts, task)?;
-        }
+    match kind {
+        NameKind::Project => count_project(alloc, counts, task),
+        NameKind::Tag => count_tags(alloc, counts, task),
     }
-    Ok(())
 }
 
 fn count_project(alloc: Global, counts: &mut Counts, task: &TaskMap) -> Result<(), Memory>

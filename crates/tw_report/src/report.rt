@@ -1,6 +1,6 @@
 // Reports.
 ghost use Rattle.std.specs.Prelude.{◌≡◌, ◌++◌, map, codes, string_bytes, length, IfOk, OnOk};
-ghost use Rattle.tw_table.specs.Table.{layout_of, row_texts, table};
+ghost use Rattle.tw_text.specs.Table.{layout_of, row_texts, table};
 ghost use Rattle.tw_urgency.specs.Urgency.{AreWeights};
 ghost use Rattle.tw_report.specs.Sight.{IsLook, sight_in, sight_of};
 ghost use Rattle.tw_report.specs.Fields.{layout, fields_of, field_text};
@@ -13,7 +13,7 @@ use std::alloc::Global;
 use std::collections::BTreeSet;
 use tw_filter::View;
 use tw_model::TaskMap;
-use tw_table::{Column, table_text};
+use tw_text::{Column, table_text};
 use tw_urgency::Coefficients;
 use tw_world::Memory;
 use uuid::Uuid;

@@ -6,20 +6,20 @@ use Rattle.tw_model.specs.declared.SyncOp.{SyncOp}
 use Rattle.tw_time.specs.Basic.{◌>>=◌}
 use Rattle.tw_segment.specs.declared.error.SegmentError.{SegmentError}
 use Rattle.tw_segment.specs.declared.error.SegmentError.TheVariants.{NotJson, Shape, TooLong, Memory}
-use Rattle.tw_segment.specs.Segment.{max_len, op_of, ops_of, place_with, bad_place, list_of, odd_place, IsJsonOf, IsSegmentOf, IsSegment}
+use Rattle.tw_segment.specs.Segment.{max_len, op_of, ops_of, index_with, bad_index, list_of, odd_index, IsJsonOf, IsSegmentOf, IsSegment}
 use Rattle.tw_segment.specs.Refusals.{IsUnread, IsUnshaped}
 
-some_both : (o : Option SyncOp) (rest : Option (List SyncOp)) (ops : List SyncOp) (bad : Option ℕ) → (o >>= λ op. option_map (λ more. op ∷ more) rest) ≡ Some ops → ((more : List SyncOp) → rest ≡ Some more → bad ≡ None) → place_with o bad ≡ None
+some_both : (o : Option SyncOp) (rest : Option (List SyncOp)) (ops : List SyncOp) (bad : Option ℕ) → (o >>= λ op. option_map (λ more. op ∷ more) rest) ≡ Some ops → ((more : List SyncOp) → rest ≡ Some more → bad ≡ None) → index_with o bad ≡ None
 some_both None rest ops bad e h = absurd (cc)
 some_both (Some op) None ops bad e h = absurd (cc)
 some_both (Some op) (Some more) ops bad e h = ap (option_map suc) (h more refl)
 
--- where each item is an operation, none is bad
-no_bad_place : (ds : Items) (ops : List SyncOp) → ops_of ds ≡ Some ops → bad_place ds ≡ None
+-- if each item is an operation, none is bad
+no_bad_place : (ds : Items) (ops : List SyncOp) → ops_of ds ≡ Some ops → bad_index ds ≡ None
 no_bad_place no_items ops e = refl
-no_bad_place (item d ds) ops e = some_both (op_of d) (ops_of ds) ops (bad_place ds) e (λ more f. no_bad_place ds more f)
+no_bad_place (item d ds) ops e = some_both (op_of d) (ops_of ds) ops (bad_index ds) e (λ more f. no_bad_place ds more f)
 
-no_odd_place : (o : Option Items) (ops : List SyncOp) (index : ℕ) → (o >>= ops_of) ≡ Some ops → odd_place o ≡ Some index → ⊥
+no_odd_place : (o : Option Items) (ops : List SyncOp) (index : ℕ) → (o >>= ops_of) ≡ Some ops → odd_index o ≡ Some index → ⊥
 no_odd_place None ops index e f = cc
 no_odd_place (Some ds) ops index e f = let none = no_bad_place ds ops e in cc
 
@@ -37,12 +37,12 @@ only_memory bytes (TooLong len) ops u within s = absurd (omega (arith, u.0, u.1,
 only_memory bytes NotJson ops u within s = absurd (u.1 s.0 s.1)
 only_memory bytes (Shape index) ops u within s =
     let value = one_value bytes s.0 u.1.0 s.1 u.1.1 in
-    absurd (no_odd_place (list_of s.0) ops index s.2 (ap (λ d. odd_place (list_of d)) value ∙ u.1.2))
+    absurd (no_odd_place (list_of s.0) ops index s.2 (ap (λ d. odd_index (list_of d)) value ∙ u.1.2))
 only_memory bytes Memory ops u within s = refl
 
 -- what is read of a value, or why it is not, is the only answer but for want of memory
 pub the_only : {V : Type 0} (items : V → List SyncOp) (bytes : List ℕ) (d : Data) (r : Result V SegmentError) → length bytes ≤ max_len → IsJsonOf bytes d
-    → IfOk r (λ v. IsSegmentOf d (items v)) → IfErr r (IsUnshaped (odd_place (list_of d))) → (ops : List SyncOp) → IsSegment bytes ops
+    → IfOk r (λ v. IsSegmentOf d (items v)) → IfErr r (IsUnshaped (odd_index (list_of d))) → (ops : List SyncOp) → IsSegment bytes ops
     → IfOk r (λ v. items v ≡ ops) × IfErr r (λ e. e ≡ Memory)
 the_only items bytes d (Ok v) within json ok err ops s = (one_list bytes (items v) ops (d, json, ok) s, tt)
 the_only items bytes d (Err (TooLong len)) within json ok err ops s = absurd err

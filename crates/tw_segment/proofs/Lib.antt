@@ -1,7 +1,7 @@
 pub mod Keys
 pub mod Loops
 pub mod Options
-pub mod Back
+pub mod OpsBack
 pub mod Decimals
 pub mod TimestampFacts
 pub mod Exact

@@ -5,7 +5,7 @@ use Rattle.serde_json.specs.Data.{Data, Items, item}
 use Rattle.serde_json.specs.View.{view, items_view}
 use Rattle.serde_json.specs.declared.value.Value.{Value}
 use Rattle.tw_model.specs.declared.SyncOp.{SyncOp}
-use Rattle.tw_segment.specs.Segment.{op_of, ops_of, bad_place}
+use Rattle.tw_segment.specs.Segment.{op_of, ops_of, bad_index}
 
 -- what is left begins with the item at hand
 pub rest_is : (vs : List Value) (i : ℕ) (v : Value) → i < length vs → v ≡ get_or vs i v → items_view (drop i vs) ≡ item (view v) (items_view (drop (i + 1) vs))
@@ -22,8 +22,8 @@ one_on : (n : ℕ) (o : Option ℕ) → option_map (λ p. n + p) (option_map suc
 one_on n None = refl
 one_on n (Some p) = ap Some (omega arith)
 
-pub place_more : (d : Data) (rest : Items) (n : ℕ) (op : SyncOp) → Some op ≡ op_of d → option_map (λ p. n + p) (bad_place (item d rest)) ≡ option_map (λ p. n + 1 + p) (bad_place rest)
-place_more d rest n op is = rw (← is) (one_on n (bad_place rest))
+pub place_more : (d : Data) (rest : Items) (n : ℕ) (op : SyncOp) → Some op ≡ op_of d → option_map (λ p. n + p) (bad_index (item d rest)) ≡ option_map (λ p. n + 1 + p) (bad_index rest)
+place_more d rest n op is = rw (← is) (one_on n (bad_index rest))
 
-pub place_here : (d : Data) (rest : Items) (n : ℕ) → None ≡ op_of d → option_map (λ p. n + p) (bad_place (item d rest)) ≡ Some n
+pub place_here : (d : Data) (rest : Items) (n : ℕ) → None ≡ op_of d → option_map (λ p. n + p) (bad_index (item d rest)) ≡ Some n
 place_here d rest n is = rw (← is) (ap Some (omega arith))

@@ -123,28 +123,32 @@ abbrev pub keyed : (Data → Option SyncOp) → Option SyncOp → Option Data �
 keyed read others None = others
 keyed read others (Some d) = read d
 
--- the operation of a value: an object whose one key says what it does
+-- the operation under the key that says what it does
+abbrev pub keyed_op : Data → Option SyncOp
+keyed_op d = keyed create_in (keyed delete_in (keyed update_in None (get (codes "Update") d)) (get (codes "Delete") d)) (get (codes "Create") d)
+
+-- the operation of a value: an object with one key
 unfoldable pub op_of : Data → Option SyncOp
-op_of d = if has_one_key d then keyed create_in (keyed delete_in (keyed update_in None (get (codes "Update") d)) (get (codes "Delete") d)) (get (codes "Create") d) else None
+op_of d = if has_one_key d then keyed_op d else None
 
 -- an operation that is read as it was written
 abbrev pub IsReadBack : SyncOp → Type 0
 IsReadBack op = op_of (op_data op) ≡ Some op
 
--- the operations of a list, where each item is one
+-- the operations of a list, if each item is one
 abbrev pub ops_of : Items → Option (List SyncOp)
 ops_of no_items = Some []
 ops_of (item d ds) = op_of d >>= λ op. option_map (λ ops. op ∷ ops) (ops_of ds)
 
--- the place of the first that is none, given the first and the place in the rest
-abbrev pub place_with : Option SyncOp → Option ℕ → Option ℕ
-place_with None rest = Some 0
-place_with (Some op) rest = option_map suc rest
+-- the index of the first that is none, given the first and the index in the rest
+abbrev pub index_with : Option SyncOp → Option ℕ → Option ℕ
+index_with None rest = Some 0
+index_with (Some op) rest = option_map suc rest
 
--- the place of the first item that is none
-abbrev pub bad_place : Items → Option ℕ
-bad_place no_items = None
-bad_place (item d ds) = place_with (op_of d) (bad_place ds)
+-- the index of the first item that is none
+abbrev pub bad_index : Items → Option ℕ
+bad_index no_items = None
+bad_index (item d ds) = index_with (op_of d) (bad_index ds)
 
 -- the list of a value's operations
 abbrev pub list_of : Data → Option Items
@@ -154,10 +158,10 @@ list_of d = get (codes "operations") d >>= as_array
 abbrev pub IsSegmentOf : Data → List SyncOp → Type 0
 IsSegmentOf d ops = (list_of d >>= ops_of) ≡ Some ops
 
--- the place of the first operation of a value that is none, or 0 where there is no list
-abbrev pub odd_place : Option Items → Option ℕ
-odd_place None = Some 0
-odd_place (Some ds) = bad_place ds
+-- the index of the first operation of a value that is none, or 0 if there is no list
+abbrev pub odd_index : Option Items → Option ℕ
+odd_index None = Some 0
+odd_index (Some ds) = bad_index ds
 
 -- the bytes are the JSON text of that value
 abbrev pub IsJsonOf : List ℕ → Data → Type 0
@@ -171,6 +175,6 @@ IsNoJson bytes = (d : Data) → ¬ (IsJsonOf bytes d)
 abbrev pub IsSegment : List ℕ → List SyncOp → Type 0
 IsSegment bytes ops = (d : Data) × IsJsonOf bytes d × IsSegmentOf d ops
 
--- the bytes are the JSON text of a value whose first bad operation is at that place
+-- the bytes are the JSON text of a value whose first bad operation has that index
 abbrev pub IsMisshaped : List ℕ → ℕ → Type 0
-IsMisshaped bytes index = (d : Data) × IsJsonOf bytes d × (odd_place (list_of d) ≡ Some index)
+IsMisshaped bytes index = (d : Data) × IsJsonOf bytes d × (odd_index (list_of d) ≡ Some index)

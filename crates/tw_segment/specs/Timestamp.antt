@@ -1,5 +1,6 @@
 -- The text of a moment in a segment, as it is written and as it is read (RFC 3339).
-use Rattle.std.specs.Prelude.{ℕ, zero, suc, ◌-◌, ◌*◌, ◌^◌, ◌==◌, ◌&&◌, nat_le, List, [], ◌∷◌, ◌++◌, codes, take, drop, take_while, length, Option, Some, None, option_map, if◌then◌else◌, ℤ, pos, negsuc, neg_ℤ, ◌-ℤ◌}
+use Rattle.std.specs.Prelude.{ℕ, zero, suc, ◌-◌, ◌*◌, ◌^◌, ◌==◌, ◌&&◌, nat_le, if◌then◌else◌, ℤ, pos, negsuc, neg_ℤ, ◌-ℤ◌}
+use Rattle.std.specs.Prelude.{List, [], ◌∷◌, ◌++◌, codes, take, drop, take_while, length, Option, Some, None, option_map}
 use Rattle.std.specs.Char.{is_ascii_digit}
 use Rattle.tw_text.specs.Natural.{number}
 use Rattle.tw_time.specs.Basic.{◌>>=◌}
@@ -46,7 +47,7 @@ ahead (c ∷ text) =
     else (if c == 43 then option_map (λ n. pos n) (clock_second text)
     else (if c == 45 then option_map (λ n. neg_ℤ (pos n)) (clock_second text) else None))
 
--- the moment of a second counted from 1970 and nanoseconds, where they are in range
+-- the moment of a second counted from 1970 and nanoseconds, if they are in range
 abbrev pub moment_at : ℤ → ℕ → Option Moment
 moment_at (pos second) nanos = moment_of second nanos
 moment_at (negsuc before) nanos = None

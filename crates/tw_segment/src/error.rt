@@ -10,7 +10,7 @@ pub enum SegmentError {
     /// The bytes are no JSON text (RFC 8259).
     NotJson,
     /// The JSON value is no segment; `index` is the first operation that is none, from 0, or 0
-    /// where there is no list of operations.
+    /// if there is no list of operations.
     Shape { index: u64 },
     /// The segment has that many bytes, which is more than 16,777,216.
     TooLong { bytes: u64 },

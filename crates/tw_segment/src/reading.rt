@@ -3,7 +3,8 @@ ghost use Rattle.std.specs.List.{AllByRecursion};
 ghost use Rattle.uuid.specs.Text.{parsed};
 ghost use Rattle.serde_json.specs.Find.{get};
 ghost use Rattle.serde_json.specs.View.{view, items_view};
-ghost use Rattle.tw_segment.specs.Segment.{max_len, text_in, uuid_in, moment_in, value_of, create_in, delete_in, update_in, has_one_key, op_of, ops_of, bad_place, list_of, odd_place, IsSegmentOf, IsJsonOf, IsSegment};
+ghost use Rattle.tw_segment.specs.Segment.{max_len, text_in, uuid_in, moment_in, value_of, create_in, delete_in, update_in, has_one_key};
+ghost use Rattle.tw_segment.specs.Segment.{op_of, ops_of, bad_index, list_of, odd_index, IsSegmentOf, IsJsonOf, IsSegment};
 ghost use Rattle.tw_model.specs.declared.SyncOp.{SyncOp};
 ghost use Rattle.tw_segment.specs.declared.error.SegmentError.TheVariants.{Memory as memory};
 ghost use Rattle.tw_segment.specs.Refusals.{IsUnread, IsUnshaped, IsUnparsed};
@@ -54,7 +55,7 @@ fn read_json(alloc: Global, bytes: &[u8]) -> Result<Value, SegmentError>
 
 fn segment_ops(alloc: Global, value: &Value) -> Result<Vec<SyncOp>, SegmentError>
     ensures ok { IfOk result (λ ops. IsSegmentOf (view value.now) ops.items) }
-    ensures err { IfErr result (IsUnshaped (odd_place (list_of (view value.now)))) }
+    ensures err { IfErr result (IsUnshaped (odd_index (list_of (view value.now)))) }
 {
     let Some(list) = value.get("operations") else {
         return Err(SegmentError::Shape { index: 0 });
@@ -67,7 +68,7 @@ fn segment_ops(alloc: Global, value: &Value) -> Result<Vec<SyncOp>, SegmentError
 
 fn ops_of(alloc: Global, values: &Vec<Value>) -> Result<Vec<SyncOp>, SegmentError>
     ensures ok { IfOk result (λ ops. ops_of (items_view values.now.items) ≡ Some ops.items) }
-    ensures err { IfErr result (IsUnshaped (bad_place (items_view values.now.items))) }
+    ensures err { IfErr result (IsUnshaped (bad_index (items_view values.now.items))) }
 {
     let mut ops = Vec::new(alloc);
     for value in values {

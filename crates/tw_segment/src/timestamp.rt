@@ -1,4 +1,5 @@
-ghost use Rattle.std.specs.Prelude.{◌≡◌, ◌+◌, ◌*◌, ◌-◌, ◌<◌, ◌≤◌, pos, negsuc, ◌≤ℤ◌, ◌-ℤ◌, take, drop, string_bytes, IfOk, OnOk, Some, IfSome, option_map, IsAscii};
+ghost use Rattle.std.specs.Prelude.{◌≡◌, ◌+◌, ◌*◌, ◌-◌, ◌<◌, ◌≤◌, pos, negsuc, ◌≤ℤ◌, ◌-ℤ◌};
+ghost use Rattle.std.specs.Prelude.{take, drop, string_bytes, IfOk, OnOk, Some, IfSome, option_map, IsAscii};
 ghost use Rattle.jiff_core.specs.Calendar.{IsWithin};
 ghost use Rattle.tw_time.specs.Forms.{digit_at};
 ghost use Rattle.tw_segment.specs.Timestamp.{timestamp, digits, nanos_at, after_point, ahead, moment_at, timestamp_moment};
@@ -123,7 +124,7 @@ fn nine_digits(n: u32) -> [u8; 9]
     ]
 }
 
-// A digit of a number, where `unit` is a power of ten.
+// A digit of a number; `unit` is a power of ten.
 fn digit(n: u32, unit: u32) -> u8
     requires { 0 < unit }
     ensures { result ≡ digit_at n unit }

@@ -12,18 +12,18 @@ use Rattle.tw_world.specs.declared.ids.IdWords.{IdWords}
 use Rattle.tw_journal.specs.Journal.{IsOpenOn, RecordsOrMore}
 use Rattle.tw_journal.specs.Open.{Records}
 use Rattle.tw_protocol.specs.Chain.{Version, IsUuid, same_id, last_from, latest, has_id}
-use Rattle.tw_protocol.specs.Answer.{Told, accepts, answer, version}
+use Rattle.tw_protocol.specs.Answer.{Finding, accepts, answer, version}
 use Rattle.tw_protocol.specs.Answer.Ask.{Add as Ask_add}
-use Rattle.tw_protocol.specs.Answer.Told.{Added, Conflict, Taken}
+use Rattle.tw_protocol.specs.Answer.Finding.{Added, Conflict, Taken}
 use Rattle.tw_protocol.proofs.Chains.{same_id_exact}
 use Rattle.tw_http.specs.declared.message.Request.TheVariants.{Add, Child}
 use Rattle.tw_http.specs.declared.message.Response.TheVariants as responses
 use Rattle.tw_http.specs.Serving.{response_of}
-use Rattle.tw_server.specs.Log.{Accepted, HasUuids, chain_of, body_of, bodies_of, entry_of, accepted_for, added, told}
+use Rattle.tw_server.specs.Log.{Accepted, HasUuids, chain_of, body_of, bodies_of, entry_of, accepted_for, added, response_at}
 use Rattle.tw_server.specs.Server.{magic, drawn_id, IsServerOn, IsAnswer, LogOrMore}
-use Rattle.tw_server.specs.Versions.{is_held}
+use Rattle.tw_server.specs.Versions.{has_that_id}
 use Rattle.tw_server.specs.declared.server.Server.{Server}
-use Rattle.tw_server.proofs.Logs.{sound-push, list_any-held}
+use Rattle.tw_server.proofs.Logs.{sound-push, list_any-id}
 use Rattle.tw_server.specs.declared.entry.Entry.{Entry}
 use Rattle.std.specs.List.{list_any}
 
@@ -64,7 +64,7 @@ last_uuid h (v ∷ vs) uuid all = last_uuid v.id vs (All-head (λ v. IsUuid v.id
 
 -- ---- the answer
 
-abbrev answer_by : Bool → Bool → List Version → (parent segment id : List ℕ) → List Version × Told
+abbrev answer_by : Bool → Bool → List Version → (parent segment id : List ℕ) → List Version × Finding
 answer_by t u chain parent segment id = cond t (cond u ([], Taken) (version id parent segment ∷ [], Added id)) ([], Conflict (latest chain))
 
 answer_is : (t u : Bool) (chain : List Version) (parent segment id : List ℕ) → accepts chain parent ≡ t → has_id id chain ≡ u → answer chain (Ask_add parent segment) id ≡ answer_by t u chain parent segment id
@@ -78,13 +78,13 @@ not_other true e = refl
 not_other false e = let no : ⊥ = cc in absurd no
 
 -- whether the client has a version of the drawn id
-pub held_is : (client id : List ℕ) (start : ℕ) (log : List Accepted) (entries : List Entry) (b : Bool) → entries ≡ map entry_of log → id ≡ drawn_id start → b ≡ list_any (is_held client id) entries → has_id (drawn_id start) (chain_of client log) ≡ b
-held_is client id start log entries b same is e =
-    ap (λ x. has_id x (chain_of client log)) (sym is) ∙ sym (list_any-held client id log) ∙ ap (list_any (is_held client id)) (sym same) ∙ sym e
+pub id_is_there : (client id : List ℕ) (start : ℕ) (log : List Accepted) (entries : List Entry) (b : Bool) → entries ≡ map entry_of log → id ≡ drawn_id start → b ≡ list_any (has_that_id client id) entries → has_id (drawn_id start) (chain_of client log) ≡ b
+id_is_there client id start log entries b same is e =
+    ap (λ x. has_id x (chain_of client log)) (sym is) ∙ sym (list_any-id client id log) ∙ ap (list_any (has_that_id client id)) (sym same) ∙ sym e
 
 module _ {D : Type 0} (m : DiskModel D) (client parent segment : List ℕ) where
   -- nothing is added
-  unchanged : (server : Server) (disk : D) (log : List Accepted) (id : List ℕ) (t : Told) → answer (chain_of client log) (Ask_add parent segment) id ≡ ([], t) → IsServerOn m server disk log
+  unchanged : (server : Server) (disk : D) (log : List Accepted) (id : List ℕ) (t : Finding) → answer (chain_of client log) (Ask_add parent segment) id ≡ ([], t) → IsServerOn m server disk log
       → IsServerOn m server disk (log ++ added log (Add client parent segment) id)
   unchanged server disk log id t is on = subst (IsServerOn m server disk) (sym (ap (λ x. log ++ map (accepted_for client) x.0) is ∙ append-nil log)) on
 
@@ -158,7 +158,7 @@ module _ {D : Type 0} (m : DiskModel D) (client parent segment : List ℕ) where
       subst (λ bs. LeavesOnly m first disk (λ c. Records magic c (bodies_of log) ⊎ Records magic c bs)) bodies run
 
   -- a get-child-version adds nothing
-  pub child_answer : (server : Server) (old new : D) (log : List Accepted) (ids : IdWords) (response : Response) → IsServerOn m server old log → Untouched m old new → response ≡ told log (Child client parent) (drawn_id ids.start)
+  pub child_answer : (server : Server) (old new : D) (log : List Accepted) (ids : IdWords) (response : Response) → IsServerOn m server old log → Untouched m old new → response ≡ response_at log (Child client parent) (drawn_id ids.start)
       → IsAnswer m server new log (Child client parent) ids ids response
   child_answer server old new log ids response on same says = record {
     says = says;

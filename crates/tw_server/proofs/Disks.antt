@@ -3,7 +3,7 @@ use Rattle.std.proofs.Common.{inl, inr, ◌≡◌, ◌+◌, ◌≤◌, ℕ, List
 use Rattle.tw_world.specs.Disk.{DiskModel, Tells, LeavesOnly, Untouched}
 use Rattle.tw_world.proofs.Moments.{OnlyNow, started, weaker}
 use Rattle.tw_journal.specs.Record.{IsLongerBy}
-use Rattle.tw_journal.proofs.Places.{still_open, left_records}
+use Rattle.tw_journal.proofs.Offsets.{still_open, left_records}
 use Rattle.tw_http.specs.declared.message.Request.{Request}
 use Rattle.tw_http.specs.declared.message.Request.TheVariants.{Add, Child}
 use Rattle.tw_http.specs.Messages.{max_body, request_body}

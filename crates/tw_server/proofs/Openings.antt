@@ -8,56 +8,52 @@ use Rattle.uuid.specs.Parts.{zero_bytes}
 use Rattle.tw_world.specs.Disk.{DiskModel, Tells, LeavesOnly, Untouched}
 use Rattle.tw_world.proofs.Moments.{CountsNow, joined, weaker}
 use Rattle.tw_journal.specs.Open.{Records, OpenRefused}
-use Rattle.tw_server.specs.declared.server.ServerError.{ServerError}
-use Rattle.tw_server.specs.declared.server.ServerError.TheVariants as errors
-use Rattle.tw_journal.proofs.Places.{still_open, same_place}
-use Rattle.tw_journal.specs.Form.{place_in}
-use Rattle.tw_journal.specs.Errors.{open_in_all, read_in_all}
+use Rattle.tw_server.specs.declared.error.ServerOpenError.{ServerOpenError}
+use Rattle.tw_server.specs.declared.error.ServerOpenError.TheVariants as errors
+use Rattle.tw_journal.proofs.Offsets.{still_open, same_offset}
+use Rattle.tw_journal.specs.Form.{offset_in}
 use Rattle.tw_journal.specs.declared.error.OpenError.{OpenError}
 use Rattle.tw_journal.specs.declared.error.OpenError.TheVariants as opening
 use Rattle.tw_journal.specs.Journal.{IsOpenOn, IsOpened, ReadRefused}
 use Rattle.tw_journal.specs.declared.journal.Journal.{Journal}
 use Rattle.tw_journal.specs.declared.error.ReadError.{ReadError}
 use Rattle.tw_journal.specs.declared.error.ReadError.TheVariants as reads
-use Rattle.tw_journal.specs.declared.error.JournalError.TheVariants as journal
 use Rattle.tw_protocol.specs.Chain.{Version, IsUuid, same_id, latest, has_id}
 use Rattle.tw_protocol.proofs.Chains.{same_id_exact}
 use Rattle.tw_server.specs.declared.entry.Entry.{Entry}
 use Rattle.tw_server.specs.declared.server.Server.{Server}
-use Rattle.tw_server.specs.Faults.{error_of}
+use Rattle.tw_server.specs.Faults.{open_in_opening, read_in_opening}
 use Rattle.tw_server.specs.Log.{Accepted, HasUuids, IsSound, chain_of, body_of, bodies_of, entry_of, accepted_in, entry_in, is_body, is_next_entry, follows}
 use Rattle.std.specs.List.{list_any}
-use Rattle.tw_server.specs.Versions.{is_held}
+use Rattle.tw_server.specs.Versions.{has_that_id}
 use Rattle.tw_server.specs.Server.{magic, IsReadTo, IsBadBody, IsOpenedOn, TakeRefused, ServerOpenRefused}
-use Rattle.tw_server.proofs.Logs.{sound-push, list_any-held}
+use Rattle.tw_server.proofs.Logs.{sound-push, list_any-id}
+use Rattle.tw_world.specs.Bytes.{IsBytes}
 
 -- a journal that is not opened refuses the opening
-pub not_opened : {D : Type 0} (m : DiskModel D) (before after : D) (e : OpenError) → OpenRefused m before after magic e → ServerOpenRefused m before after (error_of (open_in_all e))
+pub not_opened : {D : Type 0} (m : DiskModel D) (before after : D) (e : OpenError) → OpenRefused m before after magic e → ServerOpenRefused m before after (open_in_opening e)
 not_opened m before after opening.Disk refused = refused
 not_opened m before after (opening.Damaged offset) refused = λ tells. inl (refused tells)
 not_opened m before after opening.Memory refused = tt
 
--- a read is never refused as damaged where the journal is open
-pub read_not_bad : {D : Type 0} (m : DiskModel D) (j : Journal) (before after : D) (file : List ℕ) (bodies : List (List ℕ)) (n : ℕ) (e : ReadError) → ReadRefused m before after j e → IsOpenOn m magic j before bodies → IsBadBody file bodies n (error_of (read_in_all e))
+-- a read is never refused as damaged if the journal is open
+pub read_not_bad : {D : Type 0} (m : DiskModel D) (j : Journal) (before after : D) (file : List ℕ) (bodies : List (List ℕ)) (n : ℕ) (e : ReadError) → ReadRefused m before after j e → IsOpenOn m magic j before bodies → IsBadBody file bodies n (read_in_opening e)
 read_not_bad m j before after file bodies n reads.Disk refused on = tt
 read_not_bad m j before after file bodies n reads.Closed refused on = tt
 read_not_bad m j before after file bodies n (reads.Damaged offset) refused on = absurd (refused on.rest.tells magic bodies on)
 read_not_bad m j before after file bodies n reads.Memory refused on = tt
 
--- a body that may not follow stood where it stands before the journal was opened
-pub bad_before : {D : Type 0} (m : DiskModel D) (old mid now : D) (j : Journal) (o : IsOpened m magic old mid j) (n : ℕ) (e : ServerError) → m.seen now ≡ m.seen mid → IsBadBody (m.seen now) o.bodies n e → IsBadBody (m.seen old) o.bodies n e
-bad_before m old mid now j o n (errors.Journal journal.Disk) same bad = tt
-bad_before m old mid now j o n (errors.Journal journal.Closed) same bad = tt
-bad_before m old mid now j o n (errors.Journal (journal.Damaged offset)) same bad = record {
+-- a body that may not follow had its offset before the journal was opened
+pub bad_before : {D : Type 0} (m : DiskModel D) (old mid now : D) (j : Journal) (o : IsOpened m magic old mid j) (n : ℕ) (e : ServerOpenError) → m.seen now ≡ m.seen mid → IsBadBody (m.seen now) o.bodies n e → IsBadBody (m.seen old) o.bodies n e
+bad_before m old mid now j o n errors.Disk same bad = tt
+bad_before m old mid now j o n (errors.Damaged offset) same bad = record {
   log = bad.log;
   same = bad.same;
   sound = bad.sound;
   inside = bad.inside;
   bad = bad.bad;
-  place = bad.place ∙ ap (λ (s : List ℕ). place_in magic s o.bodies n) same ∙ same_place m magic old mid j o n bad.inside;
+  at = bad.at ∙ ap (λ (s : List ℕ). offset_in magic s o.bodies n) same ∙ same_offset m magic old mid j o n bad.inside;
 }
-bad_before m old mid now j o n (errors.Journal (journal.TooLong bytes)) same bad = tt
-bad_before m old mid now j o n (errors.Journal journal.Memory) same bad = tt
 bad_before m old mid now j o n errors.Memory same bad = tt
 
 pub none_false : {X : Type 0} (t : Bool) (x : X) → None ≡ (if t then Some x else None) → t ≡ false
@@ -68,7 +64,7 @@ pub some_true : {X : Type 0} (t : Bool) (x y : X) → Some y ≡ (if t then Some
 some_true true x y e = (refl, cc)
 some_true false x y e = let no : ⊥ = cc in absurd no
 
--- what is told where a test holds is told where another one holds too
+-- what a test gives is given by two tests too, if the first one fails
 pub none_either : {X : Type 0} (t u : Bool) (x : X) → (if t then Some x else None) ≡ None → None ≡ (if t && u then Some x else None)
 none_either true u x e = let no : ⊥ = cc in absurd no
 none_either false u x e = refl
@@ -96,7 +92,7 @@ body_back (kind ∷ fields) e =
     ap (λ xs. take 16 fields ++ (take 16 (drop 16 fields) ++ xs)) (rejoin 16 32 fields) ∙ ap (λ xs. take 16 fields ++ xs) (rejoin 16 16 fields) ∙ take-append-drop 16 fields in
     ap (λ xs. 1 ∷ xs) rest ∙ ap (λ k. k ∷ fields) (sym one)
 
-field_uuid : (n : ℕ) (xs : List ℕ) → n + 16 ≤ length xs → All (λ b. b < 256) xs → IsUuid (take 16 (drop n xs))
+field_uuid : (n : ℕ) (xs : List ℕ) → n + 16 ≤ length xs → IsBytes xs → IsUuid (take 16 (drop n xs))
 field_uuid n xs long small = record {
   long = let a = length-take 16 (drop n xs) in let b = length-drop n xs in omega (arith, a, b, long);
   bytes = All-take (λ b. b < 256) 16 (drop n xs) (All-drop (λ b. b < 256) n xs small);
@@ -109,7 +105,7 @@ long_body (kind ∷ fields) e =
     let many : 48 ≤ length fields = grind (arith, nat_tests) in
     omega (arith, many)
 
-pub body_uuids : (body : List ℕ) → 49 ≤ length body → All (λ b. b < 256) body → HasUuids (accepted_in body)
+pub body_uuids : (body : List ℕ) → 49 ≤ length body → IsBytes body → HasUuids (accepted_in body)
 body_uuids body long small = record {
   client = (field_uuid 1 body (omega (arith, long)) small).long;
   id = field_uuid 17 body (omega (arith, long)) small;
@@ -121,7 +117,7 @@ not_true true e = let no : ⊥ = cc in absurd no
 not_true false e = refl
 
 -- the next body is read
-pub read_on : (server next : Server) (bodies : List (List ℕ)) (n : ℕ) (body : List ℕ) (read : IsReadTo server bodies n) → n < length bodies → body ≡ get_or bodies n [] → All (λ b. b < 256) body → follows read.log body ≡ true
+pub read_on : (server next : Server) (bodies : List (List ℕ)) (n : ℕ) (body : List ℕ) (read : IsReadTo server bodies n) → n < length bodies → body ≡ get_or bodies n [] → IsBytes body → follows read.log body ≡ true
     → next.versions.entries.items ≡ server.versions.entries.items ++ entry_of (accepted_in body) ∷ [] → IsReadTo next bodies (n + 1)
 read_on server next bodies n body read inside is small ok entries =
     let log = read.log in
@@ -140,11 +136,11 @@ read_on server next bodies n body read inside is small ok entries =
 pub next_by : (log : List Accepted) (e : Entry) (t u v : Bool) → same_id e.id zero_bytes ≡ t → has_id e.id (chain_of e.client log) ≡ u → same_id (latest (chain_of e.client log)) e.parent ≡ v → (not t && not u && v) ≡ is_next_entry log e
 next_by log e t u v a b d =
     let nil = same_id e.id zero_bytes in
-    let held = has_id e.id (chain_of e.client log) in
-    ap (λ x. not x && not u && v) (sym a) ∙ ap (λ x. not nil && not x && v) (sym b) ∙ ap (λ x. not nil && not held && x) (sym d)
+    let known = has_id e.id (chain_of e.client log) in
+    ap (λ x. not x && not u && v) (sym a) ∙ ap (λ x. not nil && not x && v) (sym b) ∙ ap (λ x. not nil && not known && x) (sym d)
 
-pub held_in : (client id : List ℕ) (log : List Accepted) (entries : List Entry) (b : Bool) → entries ≡ map entry_of log → b ≡ list_any (is_held client id) entries → has_id id (chain_of client log) ≡ b
-held_in client id log entries b same e = sym (list_any-held client id log) ∙ ap (list_any (is_held client id)) (sym same) ∙ sym e
+pub id_among : (client id : List ℕ) (log : List Accepted) (entries : List Entry) (b : Bool) → entries ≡ map entry_of log → b ≡ list_any (has_that_id client id) entries → has_id id (chain_of client log) ≡ b
+id_among client id log entries b same e = sym (list_any-id client id log) ∙ ap (list_any (has_that_id client id)) (sym same) ∙ sym e
 
 pub nothing_sound : IsSound []
 nothing_sound = record {
@@ -158,17 +154,14 @@ after_reads m old mid new P counts_now first tells second =
     joined m old mid new P first (weaker m mid new (m.leaves mid) P (second.run tells) (λ c left. first.each c (counts_now mid (m.moment old) c first.later left)))
 
 -- the journal that is still open after reads
-pub open_now : {D : Type 0} (m : DiskModel D) (opened held : Journal) (mid now : D) (bodies : List (List ℕ)) → held ≡ opened → Untouched m mid now → IsOpenOn m magic opened mid bodies → IsOpenOn m magic held now bodies
-open_now m opened held mid now bodies same reads on = subst (λ j. IsOpenOn m magic j now bodies) (sym same) (still_open m magic opened mid now bodies reads on)
+pub open_now : {D : Type 0} (m : DiskModel D) (opened still : Journal) (mid now : D) (bodies : List (List ℕ)) → still ≡ opened → Untouched m mid now → IsOpenOn m magic opened mid bodies → IsOpenOn m magic still now bodies
+open_now m opened still mid now bodies same reads on = subst (λ j. IsOpenOn m magic j now bodies) (sym same) (still_open m magic opened mid now bodies reads on)
 
 -- a body that is not taken refuses the opening
-pub open_refused : {D : Type 0} (m : DiskModel D) (old mid now new : D) (n : ℕ) (e : ServerError) → m.faults old ≤ m.faults mid → m.faults mid ≤ m.faults now → TakeRefused m now new e
+pub open_refused : {D : Type 0} (m : DiskModel D) (old mid now new : D) (n : ℕ) (e : ServerOpenError) → m.faults old ≤ m.faults mid → m.faults mid ≤ m.faults now → TakeRefused m now new e
     → (Tells m old → (bodies : List (List ℕ)) × Records magic (m.seen old) bodies × IsBadBody (m.seen old) bodies n e) → ServerOpenRefused m old new e
-open_refused m old mid now new n (errors.Journal journal.Disk) first second refused bad = omega (arith, first, second, refused)
-open_refused m old mid now new n (errors.Journal journal.Closed) first second refused bad = absurd refused
-open_refused m old mid now new n (errors.Journal (journal.Damaged offset)) first second refused bad = λ tells. let b = bad tells in inr (record { bodies = b.0; records = b.1; number = n; bad = b.2 })
-open_refused m old mid now new n (errors.Journal (journal.TooLong bytes)) first second refused bad = absurd refused
-open_refused m old mid now new n (errors.Journal journal.Memory) first second refused bad = absurd refused
+open_refused m old mid now new n errors.Disk first second refused bad = omega (arith, first, second, refused)
+open_refused m old mid now new n (errors.Damaged offset) first second refused bad = λ tells. let b = bad tells in inr (record { bodies = b.0; records = b.1; number = n; bad = b.2 })
 open_refused m old mid now new n errors.Memory first second refused bad = tt
 
 -- all bodies are read

@@ -7,9 +7,4 @@ pub mod Server
 pub mod Versions
 pub mod Room
 pub mod Laws
-pub mod Kept
-pub mod MemoryServer
-pub mod Props
-pub mod Script
-pub mod Exchanges
-pub mod MemoryLink
+pub mod Memory

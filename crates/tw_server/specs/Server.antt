@@ -1,14 +1,16 @@
 -- A server on its disk, and why it refuses.
 use Rattle.std.specs.Prelude.{◌≡◌, ◌⊎◌, ℕ, ◌+◌, ◌%◌, ◌<◌, ◌^◌, Bool, true, false, List, [], ◌++◌, codes, length, take, drop, slice_index_or, map, if◌then◌else◌}
-use Rattle.tw_world.specs.Disk.{DiskModel, Tells, Rose}
-use Rattle.tw_journal.specs.Journal.{IsOpenOn, is_closed as is_journal_closed, journal_end}
-use Rattle.tw_journal.specs.Form.{place_in}
+use Rattle.tw_world.specs.Disk.{DiskModel, Tells, LeavesOnly, Rose}
+use Rattle.tw_journal.specs.Journal.{IsOpenOn, IsOnWay, IsSameBesideRoom, is_closed as is_journal_closed, journal_end}
+use Rattle.tw_journal.specs.Form.{offset_in}
 use Rattle.tw_journal.specs.Reading.{IsNoRecord, IsSizeAt}
+use Rattle.tw_journal.specs.Record.{IsLongerBy}
 use Rattle.tw_journal.specs.Open.{Records, IsDamagedAt}
-use Rattle.tw_journal.specs.declared.error.JournalError.TheVariants as journal
 use Rattle.tw_server.specs.declared.server.Server.{Server}
-use Rattle.tw_server.specs.declared.server.ServerError.{ServerError}
-use Rattle.tw_server.specs.declared.server.ServerError.TheVariants.{Journal, Memory}
+use Rattle.tw_server.specs.declared.error.ServerOpenError.{ServerOpenError}
+use Rattle.tw_server.specs.declared.error.ServerOpenError.TheVariants as opening
+use Rattle.tw_server.specs.declared.error.AnswerError.{AnswerError}
+use Rattle.tw_server.specs.declared.error.AnswerError.TheVariants as answer
 use Rattle.tw_protocol.specs.Answer.{accepts}
 use Rattle.tw_world.specs.declared.ids.IdWords.{IdWords}
 use Rattle.tw_world.specs.Ids.{id_bytes}
@@ -18,7 +20,7 @@ use Rattle.tw_http.specs.declared.message.Response.{Response}
 use Rattle.tw_http.specs.declared.message.Response.TheVariants as responses
 use Rattle.tw_http.specs.declared.message.Asked.{Asked}
 use Rattle.tw_http.specs.Responses.{answers}
-use Rattle.tw_server.specs.Log.{Accepted, IsSound, bodies_of, entry_of, chain_of, added, told, is_body, follows}
+use Rattle.tw_server.specs.Log.{Accepted, IsSound, bodies_of, entry_of, chain_of, added, response_at, is_body, follows}
 
 abbrev pub magic : List ℕ
 magic = codes "TWSERV01"
@@ -28,6 +30,14 @@ pub record IsServerOn {D : Type 0} (m : DiskModel D) (server : Server) (disk : D
   pub journal : IsOpenOn m magic server.journal disk (bodies_of log)
   pub entries : server.versions.entries.items ≡ map entry_of log
   pub sound : IsSound log
+
+-- whichever versions a server has on its disk
+abbrev pub OnLog : {D : Type 0} → DiskModel D → Server → D → (List Accepted → Type 0) → Type 0
+OnLog m server disk P = (log : List Accepted) → IsServerOn m server disk log → P log
+
+-- this is the response to a request at those versions, whatever id would be drawn
+abbrev pub RespondsAt : List Accepted → Request → Response → Type 0
+RespondsAt log request response = (id : List ℕ) → response ≡ response_at log request id
 
 -- the server knows these versions
 abbrev pub Knows : Server → List Accepted → Type 0
@@ -45,6 +55,14 @@ server_end server = journal_end server.journal
 abbrev pub LogOrMore : List Accepted → List Accepted → List ℕ → Type 0
 LogOrMore log more file = Records magic file (bodies_of log) ⊎ Records magic file (bodies_of (log ++ more))
 
+-- a crash leaves the versions that the server has, or these and more
+abbrev pub LeavesLog : {D : Type 0} → DiskModel D → Server → (before after : D) → (more : List Accepted → List Accepted) → Type 0
+LeavesLog m server before after more = OnLog m server before (λ log. LeavesOnly m before after (LogOrMore log (more log)))
+
+-- a crash leaves an image that is longer by at most so many bytes
+abbrev pub GrowsLogBy : {D : Type 0} → DiskModel D → Server → (before after : D) → (bytes : ℕ) → Type 0
+GrowsLogBy m server before after bytes = OnLog m server before (λ log. LeavesOnly m before after (IsLongerBy m before bytes))
+
 -- whether a request is an accepted add-version
 abbrev pub is_accepted : List Accepted → Request → Bool
 is_accepted log (Add client parent segment) = accepts (chain_of client log) parent
@@ -59,7 +77,7 @@ pub record IsDrawn (accepted : Bool) (old new : IdWords) : Type 0 where
   pub start : new.start ≡ (if accepted then (old.start + old.step) % 2 ^ 128 else old.start)
   pub step : new.step ≡ old.step
 
--- whether a response tells that the bytes are no request
+-- whether a response says that the bytes are no request
 abbrev pub is_refusal : Response → Bool
 is_refusal (responses.Added id) = false
 is_refusal (responses.Conflict latest) = false
@@ -79,29 +97,38 @@ abbrev pub most_added : Request → ℕ
 most_added (Add client parent segment) = length segment + 54
 most_added (Child client parent) = 0
 
--- a request was answered: what its client is told, the log that the disk holds now, and the ids that are left
-pub record IsAnswer {D : Type 0} (m : DiskModel D) (server : Server) (disk : D) (log : List Accepted) (request : Request) (old new : IdWords) (response : Response) : Type 0 where
-  pub says : response ≡ told log request (drawn_id old.start)
-  pub holds : IsServerOn m server disk (log ++ added log request (drawn_id old.start))
-  pub drawn : IsDrawn (is_accepted log request) old new
+module _ {D : Type 0} (m : DiskModel D) (server : Server) (disk : D) where
+  -- a request was answered: the response to it, the log that the disk holds now, and the ids that are left
+  pub record IsAnswer (log : List Accepted) (request : Request) (old new : IdWords) (response : Response) : Type 0 where
+    pub says : response ≡ response_at log request (drawn_id old.start)
+    pub holds : IsServerOn m server disk (log ++ added log request (drawn_id old.start))
+    pub drawn : IsDrawn (is_accepted log request) old new
 
--- at this place of a file no record stands, or one whose body is no version
+-- whichever versions the server had, the request was answered so
+abbrev pub IsAnswered : {D : Type 0} → DiskModel D → (old new : Server) (before after : D) → Request → (ids ids_now : IdWords) → Response → Type 0
+IsAnswered m old new before after request ids ids_now response = OnLog m old before (λ log. IsAnswer m new after log request ids ids_now response)
+
+-- the body, of so many bytes, of a record at this offset
+abbrev pub sized_body : (file : List ℕ) (offset size : ℕ) → List ℕ
+sized_body file offset size = take size (drop 5 (drop offset file))
+
+-- at this offset of a file there is no record, or one whose body is no version
 abbrev pub IsNoVersionAt : List ℕ → ℕ → Type 0
-IsNoVersionAt file offset = IsNoRecord (drop offset file) ⊎ ((size : ℕ) × IsSizeAt (drop offset file) size × (is_body (take size (drop 5 (drop offset file))) ≡ false))
+IsNoVersionAt file offset = IsNoRecord (drop offset file) ⊎ ((size : ℕ) × IsSizeAt (drop offset file) size × (is_body (sized_body file offset size) ≡ false))
 
--- damage was found at this place of a disk, so that the server has no versions on it
+-- damage was found at this offset of a disk, on the way to the record of a version, so that the server has no versions on it
 pub record IsDamage {D : Type 0} (m : DiskModel D) (server : Server) (disk : D) (offset : ℕ) : Type 0 where
-  pub place : Tells m disk → IsNoVersionAt (m.seen disk) offset
+  pub at : Tells m disk → IsNoVersionAt (m.seen disk) offset
+  pub way : Tells m disk → (n : ℕ) × (n < length server.versions.entries.items) × IsOnWay server.journal (m.seen disk) n offset
   pub never : Tells m disk → (log : List Accepted) → IsServerOn m server disk log → ⊥
 
 -- why a request is not answered
-abbrev pub AnswerRefused : {D : Type 0} → DiskModel D → (old new : Server) (before after : D) → ServerError → Type 0
-AnswerRefused m old new before after (Journal journal.Disk) = Rose (m.faults before) (m.faults after) × (is_closed old ≡ false)
-AnswerRefused m old new before after (Journal journal.Closed) = (is_closed old ≡ true) × (new ≡ old) × (after ≡ before)
-AnswerRefused m old new before after (Journal (journal.Damaged offset)) = (new ≡ old) × IsDamage m old before offset
-AnswerRefused m old new before after (Journal (journal.TooLong bytes)) = (2 ^ 30 < bytes) × (after ≡ before) × (new.journal ≡ old.journal)
-AnswerRefused m old new before after (Journal journal.Memory) = ⊥
-AnswerRefused m old new before after Memory = new.journal ≡ old.journal
+abbrev pub AnswerRefused : {D : Type 0} → DiskModel D → (old new : Server) (before after : D) → AnswerError → Type 0
+AnswerRefused m old new before after answer.Disk = Rose (m.faults before) (m.faults after) × (is_closed old ≡ false)
+AnswerRefused m old new before after answer.Closed = (is_closed old ≡ true) × (new ≡ old) × (after ≡ before)
+AnswerRefused m old new before after (answer.Damaged offset) = (new ≡ old) × IsDamage m old before offset
+AnswerRefused m old new before after (answer.TooLong bytes) = (2 ^ 30 < bytes) × (after ≡ before) × IsSameBesideRoom old.journal new.journal
+AnswerRefused m old new before after answer.Memory = IsSameBesideRoom old.journal new.journal
 
 -- ---- an opening
 
@@ -112,51 +139,50 @@ pub record IsReadTo (server : Server) (bodies : List (List ℕ)) (n : ℕ) : Typ
   pub same : bodies_of log ≡ take n bodies
   pub sound : IsSound log
 
+-- whichever bodies its journal has on a disk, of which the server knows the first so many
+abbrev pub OnRead : {D : Type 0} → DiskModel D → Server → D → (n : ℕ) → (List (List ℕ) → Type 0) → Type 0
+OnRead m server disk n P = (bodies : List (List ℕ)) → IsOpenOn m magic server.journal disk bodies → IsReadTo server bodies n → P bodies
+
 -- the file had the records of these versions, and the server is open on them
 pub record IsOpenedOn {D : Type 0} (m : DiskModel D) (before after : D) (server : Server) : Type 0 where
   pub log : List Accepted
   pub records : Records magic (m.seen before) (bodies_of log)
   pub now : IsServerOn m server after log
 
--- of a file with these bodies the versions up to this place are chains, and the body there is none that may follow
+-- of a file with these bodies the versions before this number are chains, and the body of this number may not follow them
 pub record IsBadAt (file : List ℕ) (bodies : List (List ℕ)) (n offset : ℕ) : Type 0 where
   pub log : List Accepted
   pub same : bodies_of log ≡ take n bodies
   pub sound : IsSound log
   pub inside : n < length bodies
   pub bad : follows log (slice_index_or bodies n []) ≡ false
-  pub place : offset ≡ place_in magic file bodies n
+  pub at : offset ≡ offset_in magic file bodies n
 
--- the file's records are no versions, from this place on
+-- the file's records are no versions, from this offset on
 pub record IsDamagedLog (file : List ℕ) (offset : ℕ) : Type 0 where
   pub bodies : List (List ℕ)
   pub records : Records magic file bodies
   pub number : ℕ
   pub bad : IsBadAt file bodies number offset
 
--- why a body is not taken
-abbrev pub TakeRefused : {D : Type 0} → DiskModel D → (before after : D) → ServerError → Type 0
-TakeRefused m before after (Journal journal.Disk) = Rose (m.faults before) (m.faults after)
-TakeRefused m before after (Journal journal.Closed) = ⊥
-TakeRefused m before after (Journal (journal.Damaged offset)) = Unit {0}
-TakeRefused m before after (Journal (journal.TooLong bytes)) = ⊥
-TakeRefused m before after (Journal journal.Memory) = ⊥
-TakeRefused m before after Memory = Unit {0}
+-- a file of another form, or one with bytes that are no record or no version, at this offset
+abbrev pub IsDamagedFile : List ℕ → ℕ → Type 0
+IsDamagedFile file offset = IsDamagedAt magic file offset ⊎ IsDamagedLog file offset
 
--- where a body is damaged, it is none that may follow
-abbrev pub IsBadBody : List ℕ → List (List ℕ) → ℕ → ServerError → Type 0
-IsBadBody file bodies n (Journal journal.Disk) = Unit {0}
-IsBadBody file bodies n (Journal journal.Closed) = Unit {0}
-IsBadBody file bodies n (Journal (journal.Damaged offset)) = IsBadAt file bodies n offset
-IsBadBody file bodies n (Journal (journal.TooLong bytes)) = Unit {0}
-IsBadBody file bodies n (Journal journal.Memory) = Unit {0}
-IsBadBody file bodies n Memory = Unit {0}
+-- why a body is not taken
+abbrev pub TakeRefused : {D : Type 0} → DiskModel D → (before after : D) → ServerOpenError → Type 0
+TakeRefused m before after opening.Disk = Rose (m.faults before) (m.faults after)
+TakeRefused m before after (opening.Damaged offset) = Unit {0}
+TakeRefused m before after opening.Memory = Unit {0}
+
+-- if a body is damaged, it may not follow
+abbrev pub IsBadBody : List ℕ → List (List ℕ) → ℕ → ServerOpenError → Type 0
+IsBadBody file bodies n opening.Disk = Unit {0}
+IsBadBody file bodies n (opening.Damaged offset) = IsBadAt file bodies n offset
+IsBadBody file bodies n opening.Memory = Unit {0}
 
 -- why a server is not opened
-abbrev pub ServerOpenRefused : {D : Type 0} → DiskModel D → (before after : D) → ServerError → Type 0
-ServerOpenRefused m before after (Journal journal.Disk) = Rose (m.faults before) (m.faults after)
-ServerOpenRefused m before after (Journal journal.Closed) = ⊥
-ServerOpenRefused m before after (Journal (journal.Damaged offset)) = Tells m before → IsDamagedAt magic (m.seen before) offset ⊎ IsDamagedLog (m.seen before) offset
-ServerOpenRefused m before after (Journal (journal.TooLong bytes)) = ⊥
-ServerOpenRefused m before after (Journal journal.Memory) = ⊥
-ServerOpenRefused m before after Memory = Unit {0}
+abbrev pub ServerOpenRefused : {D : Type 0} → DiskModel D → (before after : D) → ServerOpenError → Type 0
+ServerOpenRefused m before after opening.Disk = Rose (m.faults before) (m.faults after)
+ServerOpenRefused m before after (opening.Damaged offset) = Tells m before → IsDamagedFile (m.seen before) offset
+ServerOpenRefused m before after opening.Memory = Unit {0}

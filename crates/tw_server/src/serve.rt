@@ -1,25 +1,22 @@
 // One connection.
-ghost use Rattle.std.specs.Prelude.{◌≡◌, ◌⊎◌, ◌≤◌, ◌+◌, true, false, length, List, ℕ, IsTrue, Result, Ok, Err};
-ghost use Rattle.tw_world.specs.Disk.{LeavesOnly, Kept, Rose};
+ghost use Rattle.std.specs.Prelude.{◌≡◌, ◌⊎◌, ◌≤◌, ◌+◌, true, false, length, IsTrue, Ok};
+ghost use Rattle.tw_world.specs.Disk.{FaultsRise};
 ghost use Rattle.tw_world.specs.Peer.{SameHeld, SameRest, sink_of};
 ghost use Rattle.tw_world.specs.Sink.{SinkKept};
-ghost use Rattle.tw_http.specs.declared.message.HttpError.{HttpError};
-ghost use Rattle.tw_http.specs.declared.message.Request.{Request};
 ghost use Rattle.tw_http.specs.Messages.{max_body, request_body, status_of};
 ghost use Rattle.tw_http.specs.Serving.{refusal_of};
-ghost use Rattle.tw_journal.specs.Record.{IsLongerBy};
-ghost use Rattle.tw_server.specs.Log.{Accepted};
-ghost use Rattle.tw_server.specs.Message.{IsMessage, IsReadUpTo};
-ghost use Rattle.tw_server.specs.Serve.{IfCutOff, IfServed, IfSilent, IsCutOff, IsSent, IsServed, IsServedOrShort, IsStep, ServeEnded};
-ghost use Rattle.tw_server.specs.Server.{IsServerOn, drawn_id, is_closed, server_end};
+ghost use Rattle.tw_server.specs.Message.{IsReadUpTo};
+ghost use Rattle.tw_server.specs.Serve.{IfSilent, IsAsked, IsSent, IsServedOrShort, IsStepOn, ServeEnded, SomeIsAsked, UnlessFault};
+ghost use Rattle.tw_server.specs.Serve.{CutsAnswerOff, CutsMessageOff, ServesAnswer, ServesMessage, ServesRefusal};
+ghost use Rattle.tw_server.specs.Server.{GrowsLogBy, OnLog, drawn_id, is_closed, server_end};
 ghost use Rattle.tw_server.specs.Ends.{end_of};
 ghost use Rattle.tw_server.specs.declared.serve.ServeEnd.TheVariants.{Closed, DiskFault};
 
+use crate::error::AnswerError;
 use crate::message::{MessageError, read_message};
-use crate::server::{Server, ServerError};
+use crate::server::Server;
 use std::alloc::Global;
 use tw_http::{HttpError, Request, Response, write_response};
-use tw_journal::JournalError;
 use tw_world::{Disk, IdWords, Peer};
 
 /// How the serving of a connection ends.
@@ -27,13 +24,13 @@ use tw_world::{Disk, IdWords, Peer};
 pub enum ServeEnd {
     /// A response of this status was written.
     Served { status: u16 },
-    /// The peer failed. A version may have been added; of the response a front part may be written.
+    /// The peer failed. A version may have been added, and a front part of the response may be written.
     PeerFault,
     /// The disk failed. After an append the server is closed.
     DiskFault,
     /// A fault of the disk closed the server before, and the message is a request.
     Closed,
-    /// The bytes at this place of the file are no record, or one whose body is no version.
+    /// The bytes at this offset of the file are no record, or one whose body is no version.
     Damaged { offset: u64 },
     /// There was no memory. A version may have been added.
     Memory,
@@ -42,11 +39,11 @@ pub enum ServeEnd {
 /// Serves one connection: reads one message, answers it as the protocol does and writes the one text of the answer
 /// (TaskChampion book, "HTTP Representation").
 ///
-/// The message is the shortest front part of the peer's bytes that is a request or is refused; what is no request is
-/// answered 400, or 413 where it is too long, and so is an input that ends inside a message. A version stands before
-/// its answer is written. Nothing is written on an end other than `Served` and `PeerFault`. Where neither the peer nor
-/// the disk fails, a server that stands on its disk ends it by `Served`, or by `Memory`.
-/// Reading takes 4,096 bytes at a time, so that some behind the message may be taken, and stops once it is there.
+/// The message is the shortest front part of the peer's bytes that is a request or is refused. What is no request is
+/// answered 400, or 413 if it is too long, and so is an input that ends inside a message. A version is on the disk before
+/// its answer is written. Nothing is written on an end other than `Served` and `PeerFault`. If neither the peer nor the
+/// disk fails, a server that is on its disk ends it by `Served`, or by `Memory`.
+/// Reading takes 4,096 bytes at a time, so that some after the message may be taken, and stops once it is there.
 pub fn serve_one<P: Peer, D: Disk>(
     alloc: Global,
     peer: &mut P,
@@ -56,18 +53,18 @@ pub fn serve_one<P: Peer, D: Disk>(
 ) -> ServeEnd
     requires { is_closed server.old ≡ false → D.model.len disk.old ≡ server_end server.old }
 
-    ensures served { IfServed result (λ status. IsTrue (P.model.tells peer.old) → (answer : Result Request HttpError) × IsMessage (P.model.rest peer.old) answer × IsServed D.model server.old server.new disk.old disk.new P.model peer.old peer.new ids.old ids.new answer status) }
-    ensures step { (log : List Accepted) → IsServerOn D.model server.old disk.old log → IsStep D.model server.old server.new disk.old disk.new log (λ request. IsTrue (P.model.tells peer.old) → IsMessage (P.model.rest peer.old) (Ok request)) (drawn_id ids.old.start) }
-    ensures growth { (log : List Accepted) → IsServerOn D.model server.old disk.old log → LeavesOnly D.model disk.old disk.new (IsLongerBy D.model disk.old (max_body + 54)) }
+    ensures served { ServesMessage D.model server.old server.new disk.old disk.new P.model peer.old peer.new ids.old ids.new result }
+    ensures step { IsStepOn D.model server.old server.new disk.old disk.new (IsAsked P.model peer.old) (drawn_id ids.old.start) }
+    ensures growth { GrowsLogBy D.model server.old disk.old disk.new (max_body + 54) }
     ensures length { is_closed server.new ≡ false → D.model.len disk.new ≡ server_end server.new }
-    ensures kept { Kept D.model disk.old disk.new }
+    ensures kept { FaultsRise D.model disk.old disk.new }
 
-    ensures ended { ServeEnded D.model server.old server.new disk.old disk.new P.model peer.old peer.new (IsTrue (P.model.tells peer.old) → (request : Request) × IsMessage (P.model.rest peer.old) (Ok request)) result }
-    ensures complete { (log : List Accepted) → IsServerOn D.model server.old disk.old log → (Rose (P.model.faults peer.old) (P.model.faults peer.new) → ⊥) → (Rose (D.model.faults disk.old) (D.model.faults disk.new) → ⊥) → IsServedOrShort result }
+    ensures ended { ServeEnded D.model server.old server.new disk.old disk.new P.model peer.old peer.new (SomeIsAsked P.model peer.old) result }
+    ensures complete { OnLog D.model server.old disk.old (λ log. UnlessFault D.model disk.old disk.new P.model peer.old peer.new (IsServedOrShort result)) }
     ensures taken { IsTrue (P.model.tells peer.old) → IsReadUpTo (P.model.rest peer.old) (P.model.rest peer.new) }
-    ensures cut_off { IfCutOff result (IsTrue (P.model.tells peer.old) → (P.model.held peer.new ≡ P.model.held peer.old) ⊎ ((answer : Result Request HttpError) × IsMessage (P.model.rest peer.old) answer × IsCutOff D.model server.old server.new disk.old disk.new P.model peer.old peer.new ids.old ids.new answer)) }
+    ensures cut_off { CutsMessageOff D.model server.old server.new disk.old disk.new P.model peer.old peer.new ids.old ids.new result }
     ensures silent { IfSilent result (SameHeld P.model peer.old peer.new) }
-    ensures closed { is_closed server.old ≡ true → IfServed result (λ status. IsTrue (P.model.tells peer.old) → (e : HttpError) × IsMessage (P.model.rest peer.old) (Err e) × (status ≡ status_of (refusal_of e))) }
+    ensures closed { is_closed server.old ≡ true → ServesRefusal P.model peer.old result }
     ensures closes { is_closed server.new ≡ true → (is_closed server.old ≡ true) ⊎ (result ≡ DiskFault) }
 {
     match read_message(alloc, peer) {
@@ -90,15 +87,15 @@ fn serve_request<P: Peer, D: Disk>(
     requires length { is_closed server.old ≡ false → D.model.len disk.old ≡ server_end server.old }
     requires fits { length (request_body request.now) ≤ max_body }
 
-    ensures served { IfServed result (λ status. IsTrue (P.model.tells peer.old) → IsServed D.model server.old server.new disk.old disk.new P.model peer.old peer.new ids.old ids.new (Ok request.now) status) }
-    ensures step { (log : List Accepted) → IsServerOn D.model server.old disk.old log → IsStep D.model server.old server.new disk.old disk.new log (λ r. r ≡ request.now) (drawn_id ids.old.start) }
-    ensures growth { (log : List Accepted) → IsServerOn D.model server.old disk.old log → LeavesOnly D.model disk.old disk.new (IsLongerBy D.model disk.old (max_body + 54)) }
+    ensures served { ServesAnswer D.model server.old server.new disk.old disk.new P.model peer.old peer.new ids.old ids.new (Ok request.now) result }
+    ensures step { IsStepOn D.model server.old server.new disk.old disk.new (λ r. r ≡ request.now) (drawn_id ids.old.start) }
+    ensures growth { GrowsLogBy D.model server.old disk.old disk.new (max_body + 54) }
     ensures length { is_closed server.new ≡ false → D.model.len disk.new ≡ server_end server.new }
-    ensures kept { Kept D.model disk.old disk.new }
+    ensures kept { FaultsRise D.model disk.old disk.new }
 
     ensures ended { ServeEnded D.model server.old server.new disk.old disk.new P.model peer.old peer.new (Unit {0}) result }
     ensures rest { SameRest P.model peer.old peer.new }
-    ensures cut_off { IfCutOff result (IsTrue (P.model.tells peer.old) → IsCutOff D.model server.old server.new disk.old disk.new P.model peer.old peer.new ids.old ids.new (Ok request.now)) }
+    ensures cut_off { CutsAnswerOff D.model server.old server.new disk.old disk.new P.model peer.old peer.new ids.old ids.new (Ok request.now) result }
     ensures silent { IfSilent result (SameHeld P.model peer.old peer.new) }
     ensures closed { is_closed server.old ≡ true → result ≡ Closed }
     ensures closes { is_closed server.new ≡ true → (is_closed server.old ≡ true) ⊎ (result ≡ DiskFault) }
@@ -151,16 +148,15 @@ pub(crate) fn refusal_of(error: HttpError) -> Response
     }
 }
 
-// The end where a request is not answered. No request that is read has a record that is too long.
-fn end_of(error: ServerError) -> ServeEnd
+// The end if a request is not answered. No request that is read has a record that is too long.
+fn end_of(error: AnswerError) -> ServeEnd
     ensures { result ≡ end_of error }
 {
     match error {
-        ServerError::Journal(JournalError::Disk) => ServeEnd::DiskFault,
-        ServerError::Journal(JournalError::Closed) => ServeEnd::Closed,
-        ServerError::Journal(JournalError::Damaged { offset }) => ServeEnd::Damaged { offset },
-        ServerError::Journal(JournalError::TooLong { .. }) => ServeEnd::Memory,
-        ServerError::Journal(JournalError::Memory) => ServeEnd::Memory,
-        ServerError::Memory => ServeEnd::Memory,
+        AnswerError::Disk => ServeEnd::DiskFault,
+        AnswerError::Closed => ServeEnd::Closed,
+        AnswerError::Damaged { offset } => ServeEnd::Damaged { offset },
+        AnswerError::TooLong { .. } => ServeEnd::Memory,
+        AnswerError::Memory => ServeEnd::Memory,
     }
 }

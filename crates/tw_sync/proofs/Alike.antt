@@ -10,8 +10,9 @@ use Rattle.tw_model.specs.declared.Op.{Op}
 use Rattle.tw_model.specs.declared.Op.TheVariants.{Create, Delete, Update, UndoPoint}
 use Rattle.tw_model.proofs.Maps.{same_bytes_exact, get-set_at, get-set_at_here, set_at_back}
 use Rattle.tw_model.proofs.Ops.{apply_unfit}
-use Rattle.tw_transform.specs.declared.table.Kept.{Kept}
-use Rattle.tw_transform.specs.Grid.{both, table_on_one, table, put_if, carry, grid}
+use Rattle.tw_transform.specs.declared.table.Verdict.{Verdict}
+use Rattle.tw_transform.specs.Grid.{put_if, carry, grid}
+use Rattle.tw_transform.specs.Table.{both, table_on_one, table}
 use Rattle.tw_sync.specs.Alike.{SameFor, IsPartOf, with_copy}
 
 -- ---- what stays the same
@@ -68,7 +69,7 @@ IsApart s (l ∷ ls) = (same_bytes (uuid_of s) (uuid_of l) ≡ false) × IsApart
 carry_apart : (s : SyncOp) (ls : List SyncOp) → IsApart s ls → (carry s ls).1 ≡ ls
 carry_apart s [] apart = refl
 carry_apart s (l ∷ ls) apart =
-    ap (λ (k : Bool). put_if (cond {A = Kept} k (table_on_one s l) both).local l (cond {A = Bool × List SyncOp} (cond {A = Kept} k (table_on_one s l) both).server (carry s ls) (false, ls)).1) apart.0
+    ap (λ (k : Bool). put_if (cond {A = Verdict} k (table_on_one s l) both).local l (cond {A = Bool × List SyncOp} (cond {A = Verdict} k (table_on_one s l) both).server (carry s ls) (false, ls)).1) apart.0
     ∙ ap (λ xs. l ∷ xs) (carry_apart s ls apart.1)
 
 same_or_apart : (s : SyncOp) (ls : List SyncOp) (a b : TasksValue) → SameFor ls a b → (get a (uuid_of s) ≡ get b (uuid_of s)) ⊎ IsApart s ls

@@ -19,13 +19,13 @@ use Rattle.tw_sync.specs.declared.ask.ChildAnswer.TheVariants.{UpToDate}
 use Rattle.tw_sync.specs.declared.ask.AddAnswer.TheVariants.{Conflict}
 use Rattle.tw_sync.specs.declared.cursor.Cursor.{Cursor}
 use Rattle.tw_sync.specs.declared.error.SyncError.TheVariants as errors
-use Rattle.tw_sync.proofs.Standing.{cut_grows, stands_grown}
-use Rattle.tw_sync.proofs.Coming.{late_goes_on}
+use Rattle.tw_sync.proofs.CursorInChain.{cut_grows, stands_grown}
+use Rattle.tw_sync.proofs.HonestProgress.{late_goes_on}
 use Rattle.tw_sync.proofs.Hearing.{kept_on, growing_on, hears_on}
-use Rattle.tw_sync.proofs.GoingOn.{conflict_leads, not_late, goes_to_last, goes_on_so_far, heard_any}
+use Rattle.tw_sync.proofs.ExpectedReplies.{conflict_leads, not_late, goes_to_last, goes_on_so_far, heard_any}
 use Rattle.tw_sync.proofs.Results.{ended_by}
 use Rattle.tw_sync.proofs.Served.{grows_on}
-use Rattle.tw_sync.proofs.Turns.{IsAsked, IsTold, asked_on}
+use Rattle.tw_sync.proofs.OneExchangeMore.{IsAsked, SaysTruly, asked_on}
 
 -- the cursor with one conflict more
 pub record IsLater (p q : Cursor) : Type 0 where
@@ -128,7 +128,7 @@ late_pulls m client host state first now p last s few = record {
 
 -- there is no version behind the cursor, where one came before what was left
 pub late_alone : {L : Type 0} (m : LinkModel L) (client host : List ℕ) (state : State) (first a b : L) (p : Cursor) (last : List ℕ) → IsLate m client host state first a p last → p.conflicts ≤ 15 → IsAsked m client host a b (child_heard client p.at UpToDate)
-    → (IsHonest m a client → IsTold m client a b p.at UpToDate) → IsStopped m client host state first b (errors.OutOfSync p.at last)
+    → (IsHonest m a client → SaysTruly m client a b p.at UpToDate) → IsStopped m client host state first b (errors.OutOfSync p.at last)
 late_alone m client host state first a b p last s tries asked tells = record {
   kept = kept_on m first a b s.asked.kept asked.kept;
   cause = tt;

@@ -9,7 +9,7 @@ use Rattle.tw_model.proofs.LocalOps.{plain_same}
 use Rattle.tw_protocol.specs.Chain.{Version, IsChain}
 use Rattle.tw_replica.specs.State.{State, start}
 use Rattle.tw_replica.specs.Sound.{IsSound, start_of}
-use Rattle.tw_numbers.proofs.Touched.{assigned_in}
+use Rattle.tw_numbers.proofs.PlacedAfter.{assigned_in}
 use Rattle.tw_replica.proofs.Soundness as replica
 use Rattle.tw_sync.specs.Fold.{IsFold, Agrees}
 use Rattle.tw_sync.specs.End.{ServerChain, IsLeft, IsPushed, stands_at}
@@ -18,7 +18,7 @@ use Rattle.tw_sync.specs.declared.report.SyncReport.{SyncReport}
 use Rattle.tw_sync.proofs.Reading.{reads-append, reads_last}
 use Rattle.tw_sync.proofs.PositionLemmas.{own_versions_cancel_at}
 use Rattle.tw_sync.proofs.Folds.{agrees_is_kept, fold_on}
-use Rattle.tw_sync.proofs.Standing.{between_grows}
+use Rattle.tw_sync.proofs.CursorInChain.{between_grows}
 
 pub new_replica_agrees : NewReplicaAgrees
 new_replica_agrees chain = record {

@@ -3,10 +3,11 @@ use Rattle.std.proofs.Common.{◌≡◌, ℕ, ◌+◌, ◌<◌, ◌≤◌, lengt
 use Rattle.std.proofs.lemmas.List.{append_assoc, drop_more}
 use Rattle.tw_model.specs.Ops.{TasksValue, apply, apply_all, fit_part}
 use Rattle.tw_model.specs.declared.SyncOp.{SyncOp}
-use Rattle.tw_transform.specs.Grid.{table, put_if, carry, grid}
+use Rattle.tw_transform.specs.Grid.{put_if, carry, grid}
+use Rattle.tw_transform.specs.Table.{table}
+use Rattle.tw_transform.proofs.Positions.{fit_part-append}
 use Rattle.tw_sync.specs.Cursor.{TakesVersion}
 use Rattle.tw_sync.specs.declared.cursor.Cursor.{Cursor}
-use Rattle.tw_sync.proofs.PositionLemmas.{fit_part-append}
 
 at_cursor : (xs : List SyncOp) (at : ℕ) (x : SyncOp) → at < length xs → x ≡ get_or xs at x → drop at xs ≡ x ∷ drop (at + 1) xs
 at_cursor xs at x h e = drop_more xs at x h ∙ ap (λ y. y ∷ drop (at + 1) xs) (sym e)

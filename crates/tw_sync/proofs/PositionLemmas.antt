@@ -1,11 +1,11 @@
 -- Positions of a local list in a chain.
-use Rattle.std.proofs.Common.{◌≡◌, ℕ, true, false, cond, List, [], ◌∷◌, ◌++◌, refl, sym, ap, subst, ◌∙◌}
+use Rattle.std.proofs.Common.{◌≡◌, ℕ, List, [], ◌∷◌, ◌++◌, refl, sym, ap, subst, ◌∙◌}
 use Rattle.std.proofs.lemmas.List.{append-nil}
 use Rattle.std.specs.FinMap.{empty}
 use Rattle.uuid.specs.Parts.{zero_bytes}
-use Rattle.tw_model.specs.Ops.{TasksValue, fits, apply, apply_all, FitAll, fit_part}
+use Rattle.tw_model.specs.Ops.{TasksValue, apply_all, FitAll, fit_part}
 use Rattle.tw_model.specs.declared.SyncOp.{SyncOp}
-use Rattle.tw_model.proofs.Ops.{apply_all-append, apply_unfit, fit_part_all}
+use Rattle.tw_model.proofs.Ops.{apply_all-append, fit_part_all}
 use Rattle.tw_protocol.specs.Chain.{Version, latest, IsChain, IsBetween}
 use Rattle.tw_protocol.proofs.Chains.{last_from-append, row_is_split_once}
 use Rattle.tw_protocol.proofs.Between.{between_joins}
@@ -13,7 +13,7 @@ use Rattle.tw_segment.specs.Segment.{IsSegment}
 use Rattle.tw_transform.specs.Grid.{grid}
 use Rattle.tw_transform.specs.Positions.{IsPosition}
 use Rattle.tw_transform.specs.Refusals.{Refusal, sent_from_base}
-use Rattle.tw_transform.proofs.Positions.{position_pulls, position_fits, position_pushes}
+use Rattle.tw_transform.proofs.Positions.{fit_part-append, position_pulls, position_fits, position_pushes}
 use Rattle.tw_transform.proofs.Cancel.{own_versions, own_versions_each_time}
 use Rattle.tw_sync.specs.Fold.{Reads, IsFold}
 use Rattle.tw_sync.specs.Positions.{IsPositionIn, ChainStarts, ChainPulls, ChainFits, ChainPushes, OwnVersionsCancelAt, OwnVersionCancelsIn, sent_each, fitted, FitEach, OwnVersionsCancelEachTime}
@@ -70,14 +70,6 @@ chain_pushes chain v there mine whole f s =
     }
 
 -- ---- what was sent comes back
-
-pub fit_part-append : (t : TasksValue) (xs ys : List SyncOp) → fit_part t (xs ++ ys) ≡ fit_part t xs ++ fit_part (apply_all t xs) ys
-fit_part-append t [] ys = refl
-fit_part-append t (x ∷ xs) ys =
-    elim (fits t x) as (λ b. fits t x ≡ b → cond b (x ∷ fit_part (apply t x) (xs ++ ys)) (fit_part t (xs ++ ys)) ≡ cond b (x ∷ fit_part (apply t x) xs) (fit_part t xs) ++ fit_part (apply_all (apply t x) xs) ys) [
-      | true ↦ λ e. ap (λ zs. x ∷ zs) (fit_part-append (apply t x) xs ys)
-      | false ↦ λ e. fit_part-append t xs ys ∙ ap (λ w. fit_part t xs ++ fit_part (apply_all w xs) ys) (sym (apply_unfit t x e))
-    ] refl
 
 -- what was left fits whole where it is sent
 sent_fits : (base : TasksValue) (mine pulled sent : List SyncOp) → FitAll base mine → IsPosition base mine pulled sent → fit_part base (pulled ++ sent) ≡ fit_part base pulled ++ sent

@@ -12,14 +12,15 @@ pub passed_on : {T E : Type 0} (r : Result T E) (e : E) (P : E → Type 0) → I
 passed_on (Ok v) e P is has = tt
 passed_on (Err x) e P is has = subst P (sym is) has
 
-pub on_ok_map : {T E P Q : Type 0} (r : Result T E) → OnOk r P → (P → Q) → OnOk r Q
-on_ok_map (Ok v) p f = f p
-on_ok_map (Err x) p f = tt
+-- what holds of a result says more of it
+pub on_ok : {T E P Q : Type 0} (r : Result T E) → OnOk r P → (P → Q) → OnOk r Q
+on_ok (Ok v) p f = f p
+on_ok (Err x) p f = tt
 
-pub if_err_map : {T E : Type 0} (r : Result T E) (P Q : E → Type 0) → IfErr r P → ((x : E) → P x → Q x) → IfErr r Q
-if_err_map (Ok v) P Q p f = tt
-if_err_map (Err x) P Q p f = f x p
+pub if_ok : {T E : Type 0} {P Q : T → Type 0} (r : Result T E) → IfOk r P → ((v : T) → P v → Q v) → IfOk r Q
+if_ok (Ok v) p f = f v p
+if_ok (Err x) p f = tt
 
-pub if_ok_map : {T E : Type 0} (r : Result T E) (P Q : T → Type 0) → IfOk r P → ((x : T) → P x → Q x) → IfOk r Q
-if_ok_map (Ok v) P Q p f = f v p
-if_ok_map (Err x) P Q p f = tt
+pub if_err : {T E : Type 0} {P Q : E → Type 0} (r : Result T E) → IfErr r P → ((x : E) → P x → Q x) → IfErr r Q
+if_err (Ok v) p f = tt
+if_err (Err x) p f = f x p

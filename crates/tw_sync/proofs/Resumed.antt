@@ -21,8 +21,8 @@ use Rattle.tw_sync.specs.Progress.{HasNothingLeft, HasSent, HasMet}
 use Rattle.tw_sync.specs.declared.cursor.Cursor.{Cursor}
 use Rattle.tw_sync.proofs.Reading.{reads_one, reads-append, reads_last}
 use Rattle.tw_sync.proofs.PositionLemmas.{own_versions_cancel_at}
-use Rattle.tw_sync.proofs.Standing.{cut_before, cut_behind}
-use Rattle.tw_sync.proofs.Moved.{made_report}
+use Rattle.tw_sync.proofs.CursorInChain.{cut_before, cut_behind}
+use Rattle.tw_sync.proofs.ReplicaMoved.{made_report}
 
 -- ---- versions in two parts
 

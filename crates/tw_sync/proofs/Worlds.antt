@@ -1,22 +1,22 @@
 -- Each event of a world keeps it good.
-use Rattle.std.proofs.Common.{◌≡◌, ◌⊎◌, ◌≤◌, Bool, true, false, cond, length, All, inl, inr, ⊎_elim, ◌∙◌, refl, sym, ap, subst, ℕ, List, [], ◌∷◌, ◌++◌, Option, Some, None}
+use Rattle.std.proofs.Common.{◌≡◌, ◌⊎◌, ◌≤◌, Bool, true, false, cond, length, All, inl, inr, ⊎_elim, sym, subst, ℕ, List, [], ◌∷◌, ◌++◌, Option, Some, None}
 use Rattle.std.specs.List.{AllByRecursion}
 use Rattle.std.proofs.lemmas.List.Elements.{All-nil, All-push, All-append}
 use Rattle.tw_protocol.specs.Chain.{Version, Grows, latest, has_id}
-use Rattle.tw_protocol.specs.Answer.{Told, answer, answered, accepts, version}
-use Rattle.tw_protocol.specs.Answer.Told.{Added, Conflict, Taken}
+use Rattle.tw_protocol.specs.Answer.{Finding, answer, answered, accepts, version}
+use Rattle.tw_protocol.specs.Answer.Finding.{Added, Conflict, Taken}
 use Rattle.tw_protocol.proofs.Chains.{answer_grows, answer_keeps_chain}
 use Rattle.tw_http.specs.Link.{IsServedChain}
 use Rattle.tw_http.specs.Serving.{ask_of, SegmentsFit}
 use Rattle.tw_http.specs.Messages.{max_body, request_body}
 use Rattle.tw_http.specs.declared.message.Request.{Request}
 use Rattle.tw_http.specs.declared.message.Request.TheVariants.{Add, Child}
-use Rattle.tw_replica.specs.State.{State, start, undone}
+use Rattle.tw_replica.specs.State.{State, start}
 use Rattle.tw_sync.specs.Fold.{Agrees}
-use Rattle.tw_sync.specs.World.{World, AllAgree, IsGood, IsAmong, IsCommit, IsSync, Makes, with_next, Runs, Crashes, Event, OnMachine, Answers, Leads, IsNew, Reach, ReachedIsGood, FollowsTheChain, ReachedFollows}
+use Rattle.tw_sync.specs.World.{World, AllAgree, IsGood, IsAmong, Makes, with_next, Runs, Crashes, Event, OnMachine, Answers, Leads, IsNew, ReachedIsGood, FollowsTheChain, ReachedFollows}
 use Rattle.tw_sync.specs.World.Event.{Run, Crash, Answer}
 use Rattle.tw_sync.proofs.Folds.{agrees_is_kept, pending_acts_on_the_fold}
-use Rattle.tw_sync.proofs.Steps.{commit_agrees, undo_agrees}
+use Rattle.tw_sync.proofs.LocalSteps.{commit_agrees, undo_agrees}
 use Rattle.tw_sync.proofs.Ends.{new_replica_agrees, sync_end_agrees}
 
 -- ---- lists
@@ -90,7 +90,7 @@ added_fit : (chain : List Version) (request : Request) (id : List ℕ) → lengt
 added_fit chain (Child client parent) id le = All-nil Fits
 added_fit chain (Add client parent segment) id le = by (accepts chain parent) (has_id id chain)
   where
-    by : (accepted known : Bool) → All Fits (cond {A = List Version × Told} accepted (cond known ([], Taken) (version id parent segment ∷ [], Added id)) ([], Conflict (latest chain))).0
+    by : (accepted known : Bool) → All Fits (cond {A = List Version × Finding} accepted (cond known ([], Taken) (version id parent segment ∷ [], Added id)) ([], Conflict (latest chain))).0
     by true true = All-nil Fits
     by true false = All-push Fits [] (version id parent segment) (All-nil Fits) le
     by false known = All-nil Fits

@@ -1,4 +1,4 @@
--- Databases that have the same where operations look.
+-- Databases that have the same tasks of those that operations are about.
 use Rattle.std.specs.Prelude.{◌≡◌, ◌⊎◌, ℕ, cond, List, [], ◌∷◌, None, is_some}
 use Rattle.std.specs.FinMap.{get}
 use Rattle.tw_model.specs.Maps.{set_at}

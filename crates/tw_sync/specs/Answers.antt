@@ -1,12 +1,13 @@
 -- What the server's answers say of the chain, over an honest link (TaskChampion book, "Sync Protocol").
-use Rattle.std.specs.Prelude.{◌≡◌, ◌⊎◌, ℕ, ◌≤◌, List, [], ◌∷◌, ◌++◌, Result, Ok}
+use Rattle.std.specs.Prelude.{◌≡◌, ◌⊎◌, ℕ, ◌≤◌, IsTrue, List, [], ◌∷◌, ◌++◌, length, Result, Ok}
 use Rattle.uuid.specs.Parts.{zero_bytes}
 use Rattle.tw_protocol.specs.Chain.{Version, IsChain, IsBetween, Grows, latest}
 use Rattle.tw_protocol.specs.Answer.{version, IsKnown}
 use Rattle.tw_world.specs.Disk.{Rose}
-use Rattle.tw_http.specs.Link.{LinkModel, IsHonest}
+use Rattle.tw_http.specs.Link.{LinkModel, IsHonest, Serves, MayServe}
+use Rattle.tw_http.specs.Messages.{max_body, request_body}
 use Rattle.tw_http.specs.Responses.{IsResponseAnswer}
-use Rattle.tw_http.specs.Serving.{kind_of}
+use Rattle.tw_http.specs.Serving.{client_of, kind_of}
 use Rattle.tw_http.specs.declared.message.Request.{Request}
 use Rattle.tw_http.specs.declared.message.Request.TheVariants as asks
 use Rattle.tw_http.specs.declared.message.Response.{Response}
@@ -18,6 +19,7 @@ use Rattle.tw_sync.specs.declared.ask.ChildAnswer.{ChildAnswer}
 use Rattle.tw_sync.specs.declared.ask.ChildAnswer.TheVariants.{Found, UpToDate, Gone}
 use Rattle.tw_sync.specs.declared.ask.AddAnswer.{AddAnswer}
 use Rattle.tw_sync.specs.declared.ask.AddAnswer.TheVariants.{Added, Conflict}
+use Rattle.tw_sync.specs.declared.error.ReplyKind.{ReplyKind}
 use Rattle.tw_sync.specs.declared.error.ReplyKind.TheVariants.{Status}
 use Rattle.tw_sync.specs.declared.error.AskError.{AskError}
 use Rattle.tw_sync.specs.declared.error.AskError.TheVariants as asking
@@ -40,6 +42,22 @@ pub record GrowsOn {L : Type 0} (m : LinkModel L) (old new : L) (client : List �
 pub record AnsweredAt {L : Type 0} (m : LinkModel L) (old new : L) (at : List Version) : Type 0 where
   pub before : Grows (m.chain old) at
   pub after : Grows at (m.chain new)
+
+-- ---- one exchange
+
+-- if the link tells its exchanges, one was added: this request, and its reply
+abbrev pub ListsOne : {L : Type 0} → LinkModel L → (old new : L) → (request reply : List ℕ) → Type 0
+ListsOne m old new request reply = IsTrue (m.tells_list old) → m.list new ≡ m.list old ++ record { request = request; reply = reply } ∷ []
+
+-- over an honest link the reply is the server's, if it reads the request
+abbrev pub ServesOn : {L : Type 0} → LinkModel L → (old new : L) → Request → (reply : List ℕ) → Type 0
+ServesOn m old new request reply =
+    IsHonest m old (client_of request) → length (request_body request) ≤ max_body → Serves (m.chain old) (m.chain new) (m.own old) (m.own new) request reply
+
+-- over an honest link the server may have acted on the request, if it reads it
+abbrev pub MayServeOn : {L : Type 0} → LinkModel L → (old new : L) → Request → Type 0
+MayServeOn m old new request =
+    IsHonest m old (client_of request) → length (request_body request) ≤ max_body → MayServe (m.chain old) (m.chain new) (m.own old) (m.own new) request
 
 -- ---- get-child-version
 
@@ -66,7 +84,7 @@ child_heard client parent answer = heard (asks.Child client parent) (Ok (child_r
 
 -- ---- add-version
 
--- the version was added behind the parent, which was the latest
+-- the version was added after the parent, which was the latest
 pub record IsAddedOne {L : Type 0} (m : LinkModel L) (old new : L) (v : Version) : Type 0 where
   pub at : List Version
   pub before : Grows (m.chain old) at
@@ -74,7 +92,7 @@ pub record IsAddedOne {L : Type 0} (m : LinkModel L) (old new : L) (v : Version)
   pub after : Grows (at ++ v ∷ []) (m.chain new)
   pub mine : m.own new ≡ m.own old ++ v ∷ []
 
--- the parent was not the latest, which is told
+-- the parent was not the latest, which the answer names
 pub record IsRefusedOne {L : Type 0} (m : LinkModel L) (old new : L) (parent last : List ℕ) : Type 0 where
   pub at : List Version
   pub given : AnsweredAt m old new at
@@ -97,16 +115,20 @@ add_heard client parent segment answer = heard (asks.Add client parent segment) 
 
 -- ---- refusals
 
--- bytes are read as a reply to a request that no sync goes on from, unless memory ran out
+-- bytes are read as a reply to a request that no sync goes on from
+abbrev pub ReadsBadly : Request → List ℕ → ReplyKind → Type 0
+ReadsBadly asked bytes kind = (reply : Result Response HttpError) × IsResponseAnswer (kind_of asked) bytes reply × IsBadReply kind (heard asked reply)
+
+-- they are, unless memory ran out
 abbrev pub IsBadlyAnswered : Request → List ℕ → AskError → Type 0
-IsBadlyAnswered asked bytes (asking.Reply kind) = (reply : Result Response HttpError) × IsResponseAnswer (kind_of asked) bytes reply × IsBadReply kind (heard asked reply)
+IsBadlyAnswered asked bytes (asking.Reply kind) = ReadsBadly asked bytes kind
 IsBadlyAnswered asked bytes asking.Memory = Unit {0}
 IsBadlyAnswered asked bytes asking.Link = ⊥
 
 -- what a refused question heard: a bad reply, or none that it read
-abbrev pub HeardUnasked : List Heard → AskError → Type 0
-HeardUnasked hs (asking.Reply kind) = (h : Heard) × (hs ≡ h ∷ []) × IsBadReply kind h
-HeardUnasked hs e = hs ≡ []
+abbrev pub HeardRefusedAsk : List Heard → AskError → Type 0
+HeardRefusedAsk hs (asking.Reply kind) = (h : Heard) × (hs ≡ h ∷ []) × IsBadReply kind h
+HeardRefusedAsk hs e = hs ≡ []
 
 -- a response whose status answers a question
 abbrev pub HasStatus : Response → Type 0
@@ -129,7 +151,7 @@ AskRefused m old new asking.Link = Rose (m.faults old) (m.faults new)
 AskRefused m old new (asking.Reply kind) = Unit {0}
 AskRefused m old new asking.Memory = Unit {0}
 
--- a refused add-version has added nothing, or its version where the link failed or memory ran out;
+-- a refused add-version has added nothing, or its version if the link failed or memory ran out;
 -- over an honest link the one bad reply is that the drawn id is taken
 abbrev pub AddRefused : {L : Type 0} → LinkModel L → (old new : L) → (parent segment : List ℕ) → AskError → Type 0
 AddRefused m old new parent segment e =

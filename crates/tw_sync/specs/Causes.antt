@@ -1,8 +1,8 @@
--- The causes of the inner calls, as a sync tells them.
+-- The causes of the inner calls, as causes of a sync.
 use Rattle.tw_http.specs.declared.link.LinkError.{LinkError}
 use Rattle.tw_http.specs.declared.link.LinkError.TheVariants.{Failed, Memory}
-use Rattle.tw_replica.specs.declared.replica.records.RecordError.{RecordError}
-use Rattle.tw_replica.specs.declared.replica.records.RecordError.TheVariants as records
+use Rattle.tw_replica.specs.declared.error.RecordError.{RecordError}
+use Rattle.tw_replica.specs.declared.error.RecordError.TheVariants as records
 use Rattle.tw_sync.specs.declared.error.AskError.{AskError}
 use Rattle.tw_sync.specs.declared.error.AskError.TheVariants as asking
 use Rattle.tw_sync.specs.declared.error.TakeError.{TakeError}

@@ -1,4 +1,4 @@
--- Where a sync stands in a chain.
+-- Where a sync is in a chain.
 use Rattle.std.specs.Prelude.{◌≡◌, ◌⊎◌, ℕ, ◌+◌, ◌<◌, ◌≤◌, List, [], ◌++◌, length}
 use Rattle.tw_model.specs.Ops.{apply_all, fit_part}
 use Rattle.tw_model.specs.LocalOps.{plain}
@@ -44,7 +44,7 @@ IsNotTaken cursor id segment (taking.TooLong bytes) = (bytes ≡ cursor.bytes + 
 IsNotTaken cursor id segment (taking.Segment version) = (version ≡ id) × IsUnreadable segment × (cursor.bytes + length segment ≤ max_pull)
 IsNotTaken cursor id segment taking.Memory = cursor.bytes + length segment ≤ max_pull
 
--- a sync of this state stands where it begins, and has pulled nothing
+-- a sync of this state is where it begins, and has pulled nothing
 pub record IsAtStart (state : State) (cursor : Cursor) : Type 0 where
   pub at : cursor.at ≡ state.base
   pub left : cursor.left.items ≡ plain state.pending
@@ -59,7 +59,7 @@ pub record HasLeft (state : State) (cursor : Cursor) : Type 0 where
   pub position : IsPosition (start_of state) (plain state.pending) cursor.remote.items cursor.left.items
   pub tasks : SameFor cursor.left.items cursor.tasks (apply_all (start_of state) cursor.remote.items)
 
--- a sync of this state stands here in the chain
+-- a sync of this state is here in the chain
 pub record StandsIn (state : State) (chain : List Version) (cursor : Cursor) : Type 0 where
   pub versions : List Version
   pub pulled : IsPulled state chain cursor.at versions cursor.remote.items cursor.left.items
@@ -67,11 +67,11 @@ pub record StandsIn (state : State) (chain : List Version) (cursor : Cursor) : T
   pub count : cursor.versions ≡ length versions
   pub bytes : cursor.bytes ≡ segments_len versions
 
--- it stands at the start, of which the chain may know nothing, or in the chain
+-- it is at the start, which the chain may not know, or in the chain
 abbrev pub Stands : State → List Version → Cursor → Type 0
 Stands state chain cursor = IsAtStart state cursor ⊎ StandsIn state chain cursor
 
--- versions stand behind this one
+-- there are versions after this one
 pub record GoesFurther (chain : List Version) (v : List ℕ) : Type 0 where
   pub front : List Version
   pub back : List Version

@@ -6,7 +6,7 @@ use Rattle.tw_model.specs.declared.SyncOp.{SyncOp}
 use Rattle.tw_protocol.specs.Chain.{Version, IsBetween, HoldsAll, Grows}
 use Rattle.tw_segment.specs.Segment.{max_len, segment_text, IsSegment}
 use Rattle.tw_transform.specs.Positions.{IsPosition}
-use Rattle.tw_numbers.specs.Assign.{assigned}
+use Rattle.tw_numbers.specs.Numbering.{assigned}
 use Rattle.tw_replica.specs.State.{State}
 use Rattle.tw_replica.specs.Sound.{start_of}
 use Rattle.tw_sync.specs.Fold.{Reads}
@@ -49,7 +49,7 @@ pub record IsLeft (old new : State) (before after : ServerChain) (report : SyncR
   pub mine : after.own ≡ before.own
   pub report_is : report ≡ report_of (length versions) (length (plain old.pending)) 0 new.base
 
--- what was left is sent, and stands behind what was pulled. All that the chain held before is pulled
+-- what was left is sent, as the version after what was pulled. All that the chain held before is pulled
 pub record IsPushed (old new : State) (before after : ServerChain) (report : SyncReport) : Type 0 where
   pub versions : List Version
   pub ops : List SyncOp
@@ -69,11 +69,15 @@ pub record IsPushed (old new : State) (before after : ServerChain) (report : Syn
   pub counted : dropped + length left ≡ length (plain old.pending)
   pub report_is : report ≡ report_of (length versions) dropped (length left) v.id
 
+-- nothing was to do, nothing was left to send, or what was left is sent
+abbrev pub IsOneEnd : (old new : State) (before after : ServerChain) (report : SyncReport) → Type 0
+IsOneEnd old new before after report = IsIdle old new before after report ⊎ IsLeft old new before after report ⊎ IsPushed old new before after report
+
 -- the end of a sync that is not refused
 abbrev pub SyncEnd : (old new : State) (before after : ServerChain) (report : SyncReport) → Type 0
-SyncEnd old new before after report = Grows before.chain after.chain × (IsIdle old new before after report ⊎ IsLeft old new before after report ⊎ IsPushed old new before after report)
+SyncEnd old new before after report = Grows before.chain after.chain × IsOneEnd old new before after report
 
--- one version was added behind all that the chain held before: what was left of what is pending at its parent
+-- one version was added after all that the chain held before: what was left of what is pending at its parent
 pub record AddedOne (old : State) (before after : ServerChain) : Type 0 where
   pub v : Version
   pub versions : List Version

@@ -1,5 +1,5 @@
 -- What a call heard over its link: its requests, and what the replies are read as (TaskChampion book, "HTTP Representation").
-use Rattle.std.specs.Prelude.{◌≡◌, ◌⊎◌, ℕ, ◌+◌, ◌*◌, min, List, [], ◌∷◌, ◌++◌, length, Result, Ok, Err}
+use Rattle.std.specs.Prelude.{◌≡◌, ◌⊎◌, ℕ, ◌+◌, ◌*◌, min, IsTrue, List, [], ◌∷◌, ◌++◌, length, Result, Ok, Err}
 use Rattle.tw_protocol.specs.Chain.{Version}
 use Rattle.tw_protocol.specs.Answer.{version}
 use Rattle.tw_http.specs.Link.{LinkModel, Exchange}
@@ -43,7 +43,7 @@ pub record Hears {L : Type 0} (m : LinkModel L) (client host : List ℕ) (old ne
   pub listed : m.list new ≡ m.list old ++ exchanges
   pub are_heard : AreHeard client host exchanges hs
 
--- all that a call heard, but for the last reply, which it did not read
+-- all that a call heard, except the last reply, which it did not read
 pub record HearsUnread {L : Type 0} (m : LinkModel L) (client host : List ℕ) (old new : L) (hs : List Heard) : Type 0 where
   pub exchanges : List Exchange
   pub last : Exchange
@@ -52,7 +52,7 @@ pub record HearsUnread {L : Type 0} (m : LinkModel L) (client host : List ℕ) (
   pub asked : Request
   pub sent : IsSent client host last asked
 
--- all that a refused call heard: where memory ran out, it may not have read the last reply
+-- all that a refused call heard: if memory ran out, it may not have read the last reply
 abbrev pub HearsUntil : {L : Type 0} → LinkModel L → (client host : List ℕ) → (old new : L) → List Heard → SyncError → Type 0
 HearsUntil m client host old new hs errors.Memory = Hears m client host old new hs ⊎ HearsUnread m client host old new hs
 HearsUntil m client host old new hs (errors.Journal e) = Hears m client host old new hs
@@ -64,6 +64,18 @@ HearsUntil m client host old new hs (errors.OutOfSync base parent) = Hears m cli
 HearsUntil m client host old new hs (errors.Segment version) = Hears m client host old new hs
 HearsUntil m client host old new hs (errors.SegmentTooLong bytes) = Hears m client host old new hs
 HearsUntil m client host old new hs (errors.PullTooLong bytes) = Hears m client host old new hs
+
+-- if the link tells its exchanges, what a call heard is such
+abbrev pub HearsThat : {L : Type 0} → LinkModel L → (client host : List ℕ) → (old new : L) → (List Heard → Type 0) → Type 0
+HearsThat m client host old new P = IsTrue (m.tells_list old) → (hs : List Heard) × Hears m client host old new hs × P hs
+
+-- what a refused call heard is such
+abbrev pub HearsUntilThat : {L : Type 0} → LinkModel L → (client host : List ℕ) → (old new : L) → SyncError → (List Heard → Type 0) → Type 0
+HearsUntilThat m client host old new e P = IsTrue (m.tells_list old) → (hs : List Heard) × HearsUntil m client host old new hs e × P hs
+
+-- a call heard this alone
+abbrev pub HearsOne : {L : Type 0} → LinkModel L → (client host : List ℕ) → (old new : L) → Heard → Type 0
+HearsOne m client host old new h = IsTrue (m.tells_list old) → Hears m client host old new (h ∷ [])
 
 -- ---- counts of what was heard
 
@@ -91,29 +103,21 @@ brought_by (Ok TooLong) = []
 brought_by (Ok Taken) = []
 brought_by (Err e) = []
 
--- one for a 200 to get-child
-abbrev pub is_child : Result Response HttpError → ℕ
-is_child (Ok (Child id parent segment)) = 1
-is_child (Ok (Added id)) = 0
-is_child (Ok (Conflict latest)) = 0
-is_child (Ok UpToDate) = 0
-is_child (Ok Gone) = 0
-is_child (Ok Bad) = 0
-is_child (Ok TooLong) = 0
-is_child (Ok Taken) = 0
-is_child (Err e) = 0
+-- how many versions a reply brought: one for a 200 to get-child
+abbrev pub versions_of : Result Response HttpError → ℕ
+versions_of reply = length (brought_by reply)
 
--- one for a 409
-abbrev pub is_conflict : Result Response HttpError → ℕ
-is_conflict (Ok (Conflict latest)) = 1
-is_conflict (Ok (Child id parent segment)) = 0
-is_conflict (Ok (Added id)) = 0
-is_conflict (Ok UpToDate) = 0
-is_conflict (Ok Gone) = 0
-is_conflict (Ok Bad) = 0
-is_conflict (Ok TooLong) = 0
-is_conflict (Ok Taken) = 0
-is_conflict (Err e) = 0
+-- how many conflicts a reply is: one for a 409
+abbrev pub conflicts_of : Result Response HttpError → ℕ
+conflicts_of (Ok (Conflict latest)) = 1
+conflicts_of (Ok (Child id parent segment)) = 0
+conflicts_of (Ok (Added id)) = 0
+conflicts_of (Ok UpToDate) = 0
+conflicts_of (Ok Gone) = 0
+conflicts_of (Ok Bad) = 0
+conflicts_of (Ok TooLong) = 0
+conflicts_of (Ok Taken) = 0
+conflicts_of (Err e) = 0
 
 -- the versions that were brought, one after another
 abbrev pub versions_in : List Heard → List Version
@@ -128,13 +132,13 @@ pulled_bytes (h ∷ hs) = length (brought_bytes h.reply) + pulled_bytes hs
 -- how many versions were brought
 abbrev pub brought : List Heard → ℕ
 brought [] = 0
-brought (h ∷ hs) = is_child h.reply + brought hs
+brought (h ∷ hs) = versions_of h.reply + brought hs
 
 -- how many replies were 409
 abbrev pub conflicts : List Heard → ℕ
 conflicts [] = 0
-conflicts (h ∷ hs) = is_conflict h.reply + conflicts hs
+conflicts (h ∷ hs) = conflicts_of h.reply + conflicts hs
 
--- the most exchanges of a sync that ends, where so many versions were brought
+-- the most exchanges of a sync that ends, if so many versions were brought
 abbrev pub most_exchanges : ℕ → ℕ
 most_exchanges pulled = pulled + 2 * (min pulled 15 + 1)

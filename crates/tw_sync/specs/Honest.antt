@@ -1,5 +1,5 @@
--- What a refusal says over an honest link that tells its chain, and where a sync is not refused.
-use Rattle.std.specs.Prelude.{◌≡◌, ◌⊎◌, ℕ, ◌+◌, ◌≤◌, ◌^◌, false, IsTrue, List, [], ◌∷◌, ◌++◌, length, All, Contains}
+-- What a refusal says over an honest link that tells its chain, and when a sync is not refused.
+use Rattle.std.specs.Prelude.{◌≡◌, ◌⊎◌, ℕ, ◌+◌, ◌≤◌, ◌^◌, false, List, [], ◌∷◌, ◌++◌, length, All, Contains}
 use Rattle.tw_world.specs.Disk.{DiskModel, Rose}
 use Rattle.tw_model.specs.declared.SyncOp.{SyncOp}
 use Rattle.tw_protocol.specs.Chain.{Version, IsBetween, HoldsAll}
@@ -15,7 +15,7 @@ use Rattle.tw_replica.specs.State.{State}
 use Rattle.tw_replica.specs.declared.replica.Replica.{Replica}
 use Rattle.tw_sync.specs.Fold.{Reads, Agrees}
 use Rattle.tw_sync.specs.End.{ServerChain, IsPulled}
-use Rattle.tw_sync.specs.Heard.{Heard, Hears, versions_in}
+use Rattle.tw_sync.specs.Heard.{HearsThat, versions_in}
 use Rattle.tw_sync.specs.Refused.{max_pull}
 use Rattle.tw_sync.specs.Sync.{server_chain, record_size}
 use Rattle.tw_sync.specs.declared.error.ReplyKind.TheVariants.{Status}
@@ -51,7 +51,7 @@ pub record IsLongSegment (old : State) (before after : ServerChain) (bytes : ℕ
   pub pulled : IsPulled old after.chain h versions ops left
   pub len : bytes ≡ length (segment_text left)
 
--- a version behind the base can't be read
+-- a version after the base can't be read
 pub record IsUnreadIn (old : State) (chain : List Version) (id : List ℕ) : Type 0 where
   pub versions : List Version
   pub v : Version
@@ -61,7 +61,7 @@ pub record IsUnreadIn (old : State) (chain : List Version) (id : List ℕ) : Typ
   pub unread : IsUnread v.segment error
   pub other : ¬ (error ≡ segments.Memory)
 
--- the record of all versions behind the base that the chain held before, and of what is left, is too long
+-- the record of all versions after the base that the chain held before, and of what is left, is too long
 pub record IsLongRecord (old : State) (before after : ServerChain) (bytes : ℕ) : Type 0 where
   pub h : List ℕ
   pub last : HoldsAll before.chain after.chain h
@@ -86,9 +86,9 @@ HonestRefused old before after (errors.Journal Closed) = Unit {0}
 HonestRefused old before after errors.Link = Unit {0}
 HonestRefused old before after errors.Memory = Unit {0}
 
--- a sync pulled this version, where the link tells its exchanges
+-- a sync pulled this version, if the link tells its exchanges
 abbrev pub WasPulled : {L : Type 0} → LinkModel L → (client host : List ℕ) → (first last : L) → Version → Type 0
-WasPulled links client host first last v = IsTrue (links.tells_list first) → (hs : List Heard) × Hears links client host first last hs × Contains (versions_in hs) v
+WasPulled m client host first last v = HearsThat m client host first last (λ hs. Contains (versions_in hs) v)
 
 -- a segment that can be read
 pub record IsReadable (segment : List ℕ) : Type 0 where
@@ -96,36 +96,52 @@ pub record IsReadable (segment : List ℕ) : Type 0 where
   pub within : length segment ≤ max_len
   pub reads : IsSegment segment ops
 
--- what is pulled, and what is left of what is pending once all is pulled that the chain held before, are within their limits
-pub record AreWithin {L : Type 0} (links : LinkModel L) (client host : List ℕ) (old : State) (first last : L) : Type 0 where
-  pub pull : (versions : List Version) (v : Version) → IsBetween (links.chain last) old.base v.id (versions ++ v ∷ []) → WasPulled links client host first last v → segments_len (versions ++ v ∷ []) ≤ max_pull
-  pub read : (versions : List Version) (v : Version) → IsBetween (links.chain last) old.base v.id (versions ++ v ∷ []) → WasPulled links client host first last v → IsReadable v.segment
-  pub segment : (h : List ℕ) (versions : List Version) (ops left : List SyncOp) → HoldsAll (links.chain first) (links.chain last) h → IsPulled old (links.chain last) h versions ops left → length (segment_text left) ≤ max_len
-  pub record_fits : (h : List ℕ) (versions : List Version) (ops : List SyncOp) → HoldsAll (links.chain first) (links.chain last) h → IsBetween (links.chain last) old.base h versions → Reads versions ops → record_size h ops ≤ 2 ^ 30
+-- each version that a sync pulled is such, with those before it
+abbrev pub EachPulled : {L : Type 0} → LinkModel L → (client host : List ℕ) → (old : State) → (first last : L) → (List Version → Version → Type 0) → Type 0
+EachPulled m client host old first last P = (versions : List Version) (v : Version) → IsBetween (m.chain last) old.base v.id (versions ++ v ∷ [])
+    → WasPulled m client host first last v → P versions v
 
--- what a sync needs: nothing fails meanwhile, the link is honest, the replica agrees with the chain, others add fewer than sixteen versions, and all is within its limits
-pub record CanSync {D L : Type 0} (m : DiskModel D) (links : LinkModel L) (old : Replica) (before after : D) (first last : L) (client host : List ℕ) : Type 0 where
+-- what is left of what is pending, once all is pulled that the chain held before, fits a segment
+abbrev pub LeftFitsSegment : (old : State) → (before after : List Version) → Type 0
+LeftFitsSegment old before after = (h : List ℕ) (versions : List Version) (ops left : List SyncOp) → HoldsAll before after h
+    → IsPulled old after h versions ops left → length (segment_text left) ≤ max_len
+
+-- what is pulled once all is pulled that the chain held before, with what was left, fits a record
+abbrev pub AllFitsRecord : (old : State) → (before after : List Version) → Type 0
+AllFitsRecord old before after = (h : List ℕ) (versions : List Version) (ops : List SyncOp) → HoldsAll before after h
+    → IsBetween after old.base h versions → Reads versions ops → record_size h ops ≤ 2 ^ 30
+
+-- what is pulled, and what is left of what is pending once all is pulled that the chain held before, are within their limits
+pub record AreWithin {L : Type 0} (m : LinkModel L) (client host : List ℕ) (old : State) (first last : L) : Type 0 where
+  pub pull : EachPulled m client host old first last (λ versions v. segments_len (versions ++ v ∷ []) ≤ max_pull)
+  pub read : EachPulled m client host old first last (λ versions v. IsReadable v.segment)
+  pub segment : LeftFitsSegment old (m.chain first) (m.chain last)
+  pub record_fits : AllFitsRecord old (m.chain first) (m.chain last)
+
+-- what a sync needs: nothing fails meanwhile, the link is honest, the replica agrees with the chain, others add fewer than sixteen versions,
+-- and all is within its limits
+pub record CanSync {D L : Type 0} (d : DiskModel D) (m : LinkModel L) (old : Replica) (before after : D) (first last : L) (client host : List ℕ) : Type 0 where
   pub is_open : is_closed old.journal ≡ false
-  pub disk_works : ¬ (Rose (m.faults before) (m.faults after))
-  pub link_works : ¬ (Rose (links.faults first) (links.faults last))
-  pub honest : IsHonest links first client
-  pub agrees : Agrees (state_of old.core) (links.chain first)
-  pub few : ¬ (OthersAdded (server_chain links first) (server_chain links last) 16)
-  pub within : AreWithin links client host (state_of old.core) first last
+  pub disk_works : ¬ (Rose (d.faults before) (d.faults after))
+  pub link_works : ¬ (Rose (m.faults first) (m.faults last))
+  pub honest : IsHonest m first client
+  pub agrees : Agrees (state_of old.core) (m.chain first)
+  pub few : ¬ (OthersAdded (server_chain m first) (server_chain m last) 16)
+  pub within : AreWithin m client host (state_of old.core) first last
 
 -- what a refusal for a version of the chain rests on was pulled
 abbrev pub RestsOnPulled : {L : Type 0} → LinkModel L → (client host : List ℕ) → (old : State) → (first last : L) → SyncError → Type 0
-RestsOnPulled links client host old first last (errors.Segment version) = (u : IsUnreadIn old (links.chain last) version) × WasPulled links client host first last u.v
-RestsOnPulled links client host old first last (errors.PullTooLong bytes) = (l : IsLongPull old (links.chain last) bytes) × WasPulled links client host first last l.v
-RestsOnPulled links client host old first last (errors.Reply kind) = Unit {0}
-RestsOnPulled links client host old first last (errors.Gone base) = Unit {0}
-RestsOnPulled links client host old first last (errors.Busy parent) = Unit {0}
-RestsOnPulled links client host old first last (errors.OutOfSync base parent) = Unit {0}
-RestsOnPulled links client host old first last (errors.SegmentTooLong bytes) = Unit {0}
-RestsOnPulled links client host old first last (errors.Journal e) = Unit {0}
-RestsOnPulled links client host old first last errors.Link = Unit {0}
-RestsOnPulled links client host old first last errors.Memory = Unit {0}
+RestsOnPulled m client host old first last (errors.Segment version) = (u : IsUnreadIn old (m.chain last) version) × WasPulled m client host first last u.v
+RestsOnPulled m client host old first last (errors.PullTooLong bytes) = (l : IsLongPull old (m.chain last) bytes) × WasPulled m client host first last l.v
+RestsOnPulled m client host old first last (errors.Reply kind) = Unit {0}
+RestsOnPulled m client host old first last (errors.Gone base) = Unit {0}
+RestsOnPulled m client host old first last (errors.Busy parent) = Unit {0}
+RestsOnPulled m client host old first last (errors.OutOfSync base parent) = Unit {0}
+RestsOnPulled m client host old first last (errors.SegmentTooLong bytes) = Unit {0}
+RestsOnPulled m client host old first last (errors.Journal e) = Unit {0}
+RestsOnPulled m client host old first last errors.Link = Unit {0}
+RestsOnPulled m client host old first last errors.Memory = Unit {0}
 
--- where a sync can be done, it is refused only for want of memory, or since the server drew an id that is taken
+-- if a sync can be done, it is refused only since memory ran out, or since the server drew an id that is taken
 abbrev pub IsWant : SyncError → Type 0
 IsWant e = (e ≡ errors.Memory) ⊎ (e ≡ errors.Reply (Status 500))

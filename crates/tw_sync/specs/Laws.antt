@@ -27,12 +27,13 @@ FoldIsOne = (chain : List Version) (v : List ℕ) (tasks others : TasksValue) �
 
 -- the tasks of a replica are the chain folded to its base, then what is pending
 abbrev pub PendingActsOnTheFold : Type 0
-PendingActsOnTheFold = (state : State) (chain : List Version) (there : TasksValue) → IsChain chain → Agrees state chain → IsFold chain state.base there → state.tasks ≡ apply_all there (plain state.pending)
+PendingActsOnTheFold = (state : State) (chain : List Version) (there : TasksValue) → IsChain chain → Agrees state chain → IsFold chain state.base there
+    → state.tasks ≡ apply_all there (plain state.pending)
 
--- two replicas that stand at one version with nothing to send have the same tasks
+-- two replicas that have one base and nothing to send have the same tasks
 abbrev pub AgreeingReplicasAreEqual : Type 0
-AgreeingReplicasAreEqual = (one other : State) (chain : List Version) → IsChain chain → Agrees one chain → Agrees other chain → one.base ≡ other.base → plain one.pending ≡ [] → plain other.pending ≡ []
-    → one.tasks ≡ other.tasks
+AgreeingReplicasAreEqual = (one other : State) (chain : List Version) → IsChain chain → Agrees one chain → Agrees other chain
+    → one.base ≡ other.base → plain one.pending ≡ [] → plain other.pending ≡ [] → one.tasks ≡ other.tasks
 
 -- the version that a refused sync added is pulled, and later operations were appended: only what is left of these is left
 abbrev pub AddedVersionCancels : Type 0
@@ -41,12 +42,15 @@ AddedVersionCancels = (old : State) (before after : ServerChain) (later : List S
 
 -- what a sync that ends has added is what a refused one may have added
 abbrev pub PushedIsAdded : Type 0
-PushedIsAdded = (old new : State) (before after : ServerChain) (report : SyncReport) (pushed : IsPushed old new before after report) → (added : AddedOne old before after) × (added.v ≡ pushed.v)
+PushedIsAdded = (old new : State) (before after : ServerChain) (report : SyncReport) (pushed : IsPushed old new before after report)
+    → (added : AddedOne old before after) × (added.v ≡ pushed.v)
 
--- where a sync is cut off between its add-version and its record, its version was added, of all that is pending
+-- if a sync is cut off between its add-version and its record, its version was added, of all that is pending
 abbrev pub CutOffIsAdded : Type 0
-CutOffIsAdded = (old new : State) (before after : ServerChain) (chain : List Version) (report : SyncReport) (pushed : IsPushed old new before after report) → Grows after.chain chain → (was : WasAdded old chain (plain old.pending) []) × (was.v ≡ pushed.v)
+CutOffIsAdded = (old new : State) (before after : ServerChain) (chain : List Version) (report : SyncReport) (pushed : IsPushed old new before after report)
+    → Grows after.chain chain → (was : WasAdded old chain (plain old.pending) []) × (was.v ≡ pushed.v)
 
 -- a sync of a replica that agrees with the chain ends in one that agrees with it
 abbrev pub SyncEndAgrees : Type 0
-SyncEndAgrees = (old new : State) (before after : ServerChain) (report : SyncReport) → IsChain after.chain → Agrees old before.chain → SyncEnd old new before after report → Agrees new after.chain
+SyncEndAgrees = (old new : State) (before after : ServerChain) (report : SyncReport) → IsChain after.chain → Agrees old before.chain
+    → SyncEnd old new before after report → Agrees new after.chain

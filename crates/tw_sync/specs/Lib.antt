@@ -1,7 +1,7 @@
 pub mod Fold
 pub mod Positions
 pub mod End
-pub mod Steps
+pub mod LocalSteps
 pub mod Laws
 pub mod Causes
 pub mod Heard
@@ -15,7 +15,7 @@ pub mod Cursor
 pub mod Progress
 pub mod Resuming
 pub mod Sending
-pub mod Keeping
-pub mod Synced
-pub mod Following
+pub mod Moved
+pub mod Contract
+pub mod LaterOps
 pub mod World

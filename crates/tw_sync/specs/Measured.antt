@@ -21,12 +21,12 @@ pub record HasHeardAll (state : State) (client : List ℕ) (hs : List Heard) (ba
   pub at : base ≡ last_from state.base (versions_in hs)
   pub ended : EndedBy hs (IsUpToDate client base)
 
--- what was left of what is pending was sent, and stands as the version `base`
+-- what was left of what is pending was sent, and is the version `base`
 pub record HasHeardSent (state : State) (hs : List Heard) (base : List ℕ) (pulled left : List SyncOp) : Type 0 where
   pub position : IsPosition (start_of state) (plain state.pending) pulled left
   pub ended : EndedBy hs (λ last. last.reply ≡ Ok (replies.Added base))
 
--- the operations of the versions that were brought, and behind them those that were sent
+-- the operations of the versions that were brought, and after them those that were sent
 pub record IsHeardRecord (state : State) (client : List ℕ) (hs : List Heard) (base : List ℕ) (ops : List SyncOp) : Type 0 where
   pub pulled : List SyncOp
   pub reads : Reads (versions_in hs) pulled
@@ -49,7 +49,7 @@ pub record IsRecordLen (state : State) (client : List ℕ) (hs : List Heard) (by
   pub heard : IsHeardRecord state client hs base ops
   pub len : bytes ≡ record_size base ops
 
--- where a refusal tells a number that is no sum of what was brought, it is that of what was heard
+-- the number of a refusal, unless it is a sum of what was brought, is that of what was heard
 abbrev pub IsMeasured : State → (client : List ℕ) → List Heard → SyncError → Type 0
 IsMeasured state client hs (errors.SegmentTooLong bytes) = IsSegmentLen state client hs bytes
 IsMeasured state client hs (errors.Journal (TooLong bytes)) = IsRecordLen state client hs bytes

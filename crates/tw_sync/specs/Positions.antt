@@ -1,4 +1,4 @@
--- Where a local list stands in a chain, and what becomes of it as versions are pulled and added.
+-- What is left of a local list as versions of a chain are pulled and added.
 use Rattle.std.specs.Prelude.{◌≡◌, ℕ, List, [], ◌∷◌, ◌++◌}
 use Rattle.tw_model.specs.Ops.{TasksValue, apply_all, FitAll, fit_part}
 use Rattle.tw_model.specs.declared.SyncOp.{SyncOp}
@@ -25,18 +25,19 @@ ChainStarts = (chain : List Version) (b : List ℕ) (mine : List SyncOp) (base :
 
 -- the version after h is pulled: what was left crosses the part of it that fits there
 abbrev pub ChainPulls : Type 0
-ChainPulls = (chain : List Version) (b h : List ℕ) (v : Version) (mine left more : List SyncOp) (there : TasksValue) → IsChain chain → IsPositionIn chain b mine h left
-    → IsBetween chain h v.id (v ∷ []) → IsFold chain h there → IsSegment v.segment more → IsPositionIn chain b mine v.id (grid (fit_part there more) left).1
+ChainPulls = (chain : List Version) (b h : List ℕ) (v : Version) (mine left more : List SyncOp) (there : TasksValue) → IsChain chain
+    → IsPositionIn chain b mine h left → IsBetween chain h v.id (v ∷ []) → IsFold chain h there → IsSegment v.segment more
+    → IsPositionIn chain b mine v.id (grid (fit_part there more) left).1
 
--- what is left fits the chain folded to where it stands
+-- what is left fits the chain folded to the version up to which was pulled
 abbrev pub ChainFits : Type 0
 ChainFits = (chain : List Version) (b h : List ℕ) (mine left : List SyncOp) (base there : TasksValue) → IsChain chain → IsFold chain b base → FitAll base mine
     → IsPositionIn chain b mine h left → IsFold chain h there → FitAll there left
 
 -- a further version that holds a list acts on the chain's tasks
 abbrev pub ChainPushes : Type 0
-ChainPushes = (chain : List Version) (v : Version) (there : TasksValue) (mine : List SyncOp) → IsChain chain → IsFold chain (latest chain) there → IsSegment v.segment mine
-    → IsFold (chain ++ v ∷ []) v.id (apply_all there mine)
+ChainPushes = (chain : List Version) (v : Version) (there : TasksValue) (mine : List SyncOp) → IsChain chain → IsFold chain (latest chain) there
+    → IsSegment v.segment mine → IsFold (chain ++ v ∷ []) v.id (apply_all there mine)
 
 -- what a refused sync sent comes back, and later operations were appended: only what is left of these is left
 abbrev pub OwnVersionsCancelAt : Type 0
@@ -45,8 +46,9 @@ OwnVersionsCancelAt = (base : TasksValue) (mine pulled sent later : List SyncOp)
 
 -- a version that holds what was left at its parent leaves nothing of it
 abbrev pub OwnVersionCancelsIn : Type 0
-OwnVersionCancelsIn = (chain : List Version) (b h : List ℕ) (v : Version) (mine sent : List SyncOp) (base : TasksValue) → IsChain chain → IsFold chain b base → FitAll base mine
-    → IsPositionIn chain b mine h sent → IsBetween chain h v.id (v ∷ []) → IsSegment v.segment sent → IsPositionIn chain b mine v.id []
+OwnVersionCancelsIn = (chain : List Version) (b h : List ℕ) (v : Version) (mine sent : List SyncOp) (base : TasksValue) → IsChain chain
+    → IsFold chain b base → FitAll base mine → IsPositionIn chain b mine h sent → IsBetween chain h v.id (v ∷ []) → IsSegment v.segment sent
+    → IsPositionIn chain b mine v.id []
 
 -- what each of several refused syncs sends. The base stays, so all that is pending crosses what fits of all that was added since
 abbrev pub sent_each : TasksValue → List SyncOp → List SyncOp → List Refusal → List (List SyncOp)
@@ -56,7 +58,7 @@ sent_each base pulled pending (r ∷ rs) =
     let sent = (grid (fit_part base now) pending).1 in
     sent ∷ sent_each base (now ++ sent) (pending ++ r.later) rs
 
--- the same refusals, with that part alone of what others added that fits where it is pulled
+-- the same refusals, each with the part of what others added that fits when it is pulled
 abbrev pub fitted : TasksValue → List SyncOp → List SyncOp → List Refusal → List Refusal
 fitted base pulled pending [] = []
 fitted base pulled pending (r ∷ rs) =

@@ -10,7 +10,7 @@ use Rattle.tw_segment.specs.Segment.{segment_text, max_len, IsSegment}
 use Rattle.tw_replica.specs.State.{State}
 use Rattle.tw_sync.specs.Fold.{Reads}
 use Rattle.tw_sync.specs.End.{IsPulled, MayHaveAdded}
-use Rattle.tw_sync.specs.Heard.{Heard, Hears, HearsUntil, is_conflict, brought, pulled_bytes, conflicts, versions_in, most_exchanges}
+use Rattle.tw_sync.specs.Heard.{Heard, Hears, HearsUntil, conflicts_of, brought, pulled_bytes, conflicts, versions_in, most_exchanges}
 use Rattle.tw_sync.specs.Answers.{IsLinkKept, GrowsOn, AnsweredAt}
 use Rattle.tw_sync.specs.Refused.{EndedBy, LeadsOn, EachBringsNext, IsConflict, IsUpToDate, GoesOnFrom, HeardRefused, MayAdd, max_pull}
 use Rattle.tw_sync.specs.Sync.{server_chain, IsLastReply}
@@ -24,7 +24,8 @@ use Rattle.tw_sync.specs.declared.error.SyncError.TheVariants as errors
 -- ---- what was asked
 
 -- what was heard since a sync began counts what the cursor counts, and is so
-pub record HeardSoFar {L : Type 0} (m : LinkModel L) (client host : List ℕ) (state : State) (first now : L) (cursor : Cursor) (Q : List Heard → Type 0) : Type 0 where
+pub record HeardSoFar {L : Type 0} (m : LinkModel L) (client host : List ℕ) (state : State) (first now : L) (cursor : Cursor)
+    (Q : List Heard → Type 0) : Type 0 where
   pub hs : List Heard
   pub hears : Hears m client host first now hs
   pub at_is : cursor.at ≡ last_from state.base (versions_in hs)
@@ -37,15 +38,16 @@ pub record HeardSoFar {L : Type 0} (m : LinkModel L) (client host : List ℕ) (s
   pub so : Q hs
 
 -- there were exchanges for the versions, two for each conflict, and so many besides
-pub record HasAsked {L : Type 0} (m : LinkModel L) (client host : List ℕ) (state : State) (first now : L) (cursor : Cursor) (besides : ℕ) (Q : List Heard → Type 0) : Type 0 where
+pub record HasAsked {L : Type 0} (m : LinkModel L) (client host : List ℕ) (state : State) (first now : L) (cursor : Cursor)
+    (besides : ℕ) (Q : List Heard → Type 0) : Type 0 where
   pub kept : IsLinkKept m first now
   pub count : m.exchanges now ≤ m.exchanges first + (cursor.versions + 2 * cursor.conflicts + besides)
   pub heard : IsTrue (m.tells_list first) → HeardSoFar m client host state first now cursor Q
 
--- one where the last thing heard is a 409
+-- one if the last thing heard is a 409
 abbrev pub ends_late : List Heard → ℕ
 ends_late [] = 0
-ends_late (h ∷ []) = is_conflict h.reply
+ends_late (h ∷ []) = conflicts_of h.reply
 ends_late (h ∷ next ∷ hs) = ends_late (next ∷ hs)
 
 -- ---- how far it has come over an honest link
@@ -58,7 +60,7 @@ pub record HasCome {L : Type 0} (m : LinkModel L) (client : List ℕ) (state : S
   pub others : length (m.chain first) + cursor.conflicts ≤ length (m.chain now)
   pub late : (cursor.conflicts ≤ cursor.versions) ⊎ ((cursor.conflicts ≤ cursor.versions + 1) × GoesFurther (m.chain now) cursor.at)
 
--- it has added nothing, and stands where the chain ended when it asked
+-- it has added nothing, and is at the version that was the chain's last when it asked
 pub record IsAtEnd {L : Type 0} (m : LinkModel L) (client : List ℕ) (state : State) (first now : L) (cursor : Cursor) : Type 0 where
   pub on : GrowsOn m first now client
   pub mine : m.own now ≡ m.own first
@@ -71,7 +73,7 @@ pub record IsAtEnd {L : Type 0} (m : LinkModel L) (client : List ℕ) (state : S
 
 -- ---- its steps
 
--- a sync that began at this state and this link asks for what stands behind its cursor, and what it heard is so
+-- a sync that began at this state and this link asks for the version after its cursor, and what it heard is so
 pub record Asks {L : Type 0} (m : LinkModel L) (client host : List ℕ) (state : State) (first now : L) (cursor : Cursor) (Q : List Heard → Type 0) : Type 0 where
   pub fewer : length cursor.left.items ≤ length (plain state.pending)
   pub tries : cursor.conflicts ≤ 15
@@ -86,7 +88,7 @@ IsAsking m client host state first now cursor = Asks m client host state first n
 abbrev pub IsPulling : {L : Type 0} → LinkModel L → (client host : List ℕ) → State → (first now : L) → Cursor → Type 0
 IsPulling m client host state first now cursor = Asks m client host state first now cursor (λ hs. ends_late hs ≡ 0)
 
--- it was told that nothing does
+-- it heard that nothing does
 pub record HasPulled {L : Type 0} (m : LinkModel L) (client host : List ℕ) (state : State) (first now : L) (cursor : Cursor) : Type 0 where
   pub fewer : length cursor.left.items ≤ length (plain state.pending)
   pub tries : cursor.conflicts ≤ 15
@@ -110,7 +112,7 @@ pub record IsLate {L : Type 0} (m : LinkModel L) (client host : List ℕ) (state
 
 -- ---- its end
 
--- what was left was added behind what was pulled
+-- what was left was added after what was pulled
 pub record HasSent {L : Type 0} (m : LinkModel L) (state : State) (first now : L) (cursor : Cursor) (sent : ℕ) : Type 0 where
   pub versions : List Version
   pub ops : List SyncOp
@@ -198,3 +200,55 @@ pub record IsStopped {L : Type 0} (m : LinkModel L) (client host : List ℕ) (st
   pub cause : IsCause m first now e
   pub heard : IsTrue (m.tells_list first) → HeardToStop m client host state first now e
   pub come : IsHonest m first client → StopsTruly m client host state first now e
+
+-- ---- what a call does to each sync that has come to its cursor, whichever state and link this began at
+
+-- a sync that pulls has pulled all
+abbrev pub PullsAll : {L : Type 0} → LinkModel L → (client host : List ℕ) → (before : L) → Cursor → (after : L) → Cursor → Type 0
+PullsAll {L = L} m client host before cursor after moved = (state : State) (first : L) → IsPulling m client host state first before cursor
+    → HasPulled m client host state first after moved
+
+-- it has pulled one version more, or all
+abbrev pub PullsOne : {L : Type 0} → LinkModel L → (client host : List ℕ) → (before : L) → Cursor → (after : L) → Cursor → (more : Bool) → Type 0
+PullsOne {L = L} m client host before cursor after moved more = (state : State) (first : L) → IsPulling m client host state first before cursor
+    → PullsOn more m client host state first after moved
+
+-- it is refused
+abbrev pub StopsPulling : {L : Type 0} → LinkModel L → (client host : List ℕ) → (before : L) → Cursor → (after : L) → SyncError → Type 0
+StopsPulling {L = L} m client host before cursor after e = (state : State) (first : L) → IsPulling m client host state first before cursor
+    → IsStopped m client host state first after e
+
+-- it has met the server's chain, and so many operations were sent
+abbrev pub Meets : {L : Type 0} → LinkModel L → (client host : List ℕ) → (before : L) → Cursor → (after : L) → Cursor → (sent : ℕ) → Type 0
+Meets {L = L} m client host before cursor after moved sent = (state : State) (first : L) → IsPulling m client host state first before cursor
+    → IsMet m client host state first after moved sent
+
+-- a sync that asks, also after a conflict, pulls
+abbrev pub FindsOne : {L : Type 0} → LinkModel L → (client host : List ℕ) → (before : L) → Cursor → (after : L) → Cursor → Type 0
+FindsOne {L = L} m client host before cursor after moved = (state : State) (first : L) → IsAsking m client host state first before cursor
+    → IsPulling m client host state first after moved
+
+-- it is refused
+abbrev pub StopsAsking : {L : Type 0} → LinkModel L → (client host : List ℕ) → (before : L) → Cursor → (after : L) → SyncError → Type 0
+StopsAsking {L = L} m client host before cursor after e = (state : State) (first : L) → IsAsking m client host state first before cursor
+    → IsStopped m client host state first after e
+
+-- a sync whose version came too late is refused, since there is nothing to pull
+abbrev pub FindsNoneLate : {L : Type 0} → LinkModel L → (client host : List ℕ) → (before : L) → Cursor → (after : L) → Cursor → Type 0
+FindsNoneLate {L = L} m client host before cursor after moved = cursor.conflicts ≤ 15 → (state : State) (first : L) (last : List ℕ)
+    → IsLate m client host state first before cursor last → IsStopped m client host state first after (errors.OutOfSync moved.at last)
+
+-- after a conflict that named this version it has pulled all
+abbrev pub PullsLate : {L : Type 0} → LinkModel L → (client host : List ℕ) → (before : L) → Cursor → (last : List ℕ) → (after : L) → Cursor → Type 0
+PullsLate {L = L} m client host before cursor last after moved = (state : State) (first : L) → IsLate m client host state first before cursor last
+    → HasPulled m client host state first after moved
+
+-- it is refused
+abbrev pub StopsLate : {L : Type 0} → LinkModel L → (client host : List ℕ) → (before : L) → Cursor → (last : List ℕ) → (after : L) → SyncError → Type 0
+StopsLate {L = L} m client host before cursor last after e = (state : State) (first : L) → IsLate m client host state first before cursor last
+    → IsStopped m client host state first after e
+
+-- a sync that has pulled all is refused
+abbrev pub StopsSending : {L : Type 0} → LinkModel L → (client host : List ℕ) → (before : L) → Cursor → (after : L) → SyncError → Type 0
+StopsSending {L = L} m client host before cursor after e = (state : State) (first : L) → HasPulled m client host state first before cursor
+    → IsStopped m client host state first after e

@@ -17,7 +17,7 @@ use Rattle.tw_segment.specs.declared.error.SegmentError.TheVariants as segments
 use Rattle.tw_replica.specs.Core.{state_of}
 use Rattle.tw_replica.specs.Replica.{IsSame}
 use Rattle.tw_replica.specs.declared.replica.Replica.{Replica}
-use Rattle.tw_sync.specs.Heard.{Heard, is_child, is_conflict, conflicts, pulled_bytes}
+use Rattle.tw_sync.specs.Heard.{Heard, versions_of, conflicts_of, conflicts, pulled_bytes}
 use Rattle.tw_sync.specs.declared.error.ReplyKind.{ReplyKind}
 use Rattle.tw_sync.specs.declared.error.ReplyKind.TheVariants.{Cut, Head, Header, Length, TooLong, Parent, Nil, Status}
 use Rattle.tw_sync.specs.declared.error.SyncError.{SyncError}
@@ -43,10 +43,19 @@ abbrev pub IsOtherParent : Heard → Type 0
 IsOtherParent heard = (client : List ℕ) × (asked : List ℕ) × (id : List ℕ) × (parent : List ℕ) × (segment : List ℕ)
     × (heard.asked ≡ asks.Child client asked) × (heard.reply ≡ Ok (replies.Child id parent segment)) × ¬ (parent ≡ asked)
 
--- a new version whose id is nil. The child of the version that was asked for, where it is one
+-- the child of the version that was asked for, whose id is nil
+abbrev pub IsNilChild : Heard → Type 0
+IsNilChild heard = (client : List ℕ) × (parent : List ℕ) × (segment : List ℕ)
+    × (heard.asked ≡ asks.Child client parent) × (heard.reply ≡ Ok (replies.Child zero_bytes parent segment))
+
+-- a version that was added or brought has the id nil
 abbrev pub IsNilVersion : Heard → Type 0
-IsNilVersion heard = (heard.reply ≡ Ok (replies.Added zero_bytes))
-    ⊎ ((client : List ℕ) × (parent : List ℕ) × (segment : List ℕ) × (heard.asked ≡ asks.Child client parent) × (heard.reply ≡ Ok (replies.Child zero_bytes parent segment)))
+IsNilVersion heard = (heard.reply ≡ Ok (replies.Added zero_bytes)) ⊎ IsNilChild heard
+
+-- a reply with this status, which none has that a sync goes on from
+abbrev pub HasBadStatus : (code : ℕ) → Heard → Type 0
+HasBadStatus code heard = (heard.reply ≡ Err (http.Status code))
+    ⊎ ((code ≡ 400) × (heard.reply ≡ Ok replies.Bad)) ⊎ ((code ≡ 413) × (heard.reply ≡ Ok replies.TooLong)) ⊎ ((code ≡ 500) × (heard.reply ≡ Ok replies.Taken))
 
 -- a reply that no sync goes on from
 abbrev pub IsBadReply : ReplyKind → Heard → Type 0
@@ -57,7 +66,7 @@ IsBadReply Length heard = heard.reply ≡ Err http.Length
 IsBadReply TooLong heard = heard.reply ≡ Err http.TooLong
 IsBadReply Parent heard = IsOtherParent heard
 IsBadReply Nil heard = IsNilVersion heard
-IsBadReply (Status code) heard = (heard.reply ≡ Err (http.Status code)) ⊎ ((code ≡ 400) × (heard.reply ≡ Ok replies.Bad)) ⊎ ((code ≡ 413) × (heard.reply ≡ Ok replies.TooLong)) ⊎ ((code ≡ 500) × (heard.reply ≡ Ok replies.Taken))
+IsBadReply (Status code) heard = HasBadStatus code heard
 
 -- a reply that a sync goes on from, or that says why it can't
 abbrev pub IsWelcome : Heard → Type 0
@@ -67,7 +76,7 @@ IsWelcome heard = (kind : ReplyKind) → ¬ (IsBadReply kind heard)
 abbrev pub LeadsOn : Heard → Type 0
 LeadsOn heard = IsWelcome heard × ¬ (heard.reply ≡ Ok replies.Gone)
 
--- a 404 to get-child of this version: there is none behind it
+-- a 404 to get-child of this version: there is none after it
 abbrev pub IsUpToDate : (client base : List ℕ) → Heard → Type 0
 IsUpToDate client base heard = (heard.asked ≡ asks.Child client base) × (heard.reply ≡ Ok replies.UpToDate)
 
@@ -104,7 +113,7 @@ pub record IsTooMuch (hs : List Heard) (bytes : ℕ) : Type 0 where
   pub sum : bytes ≡ pulled_bytes hs
   pub over : max_pull < bytes
 
--- the cause of a refusal, where it was heard
+-- the cause of a refusal, if it was heard
 abbrev pub HeardCause : (client : List ℕ) → List Heard → SyncError → Type 0
 HeardCause client hs (errors.Reply kind) = EndedBy hs (IsBadReply kind)
 HeardCause client hs (errors.Gone base) = EndedBy hs (IsGone client base)
@@ -120,7 +129,7 @@ HeardCause client hs errors.Memory = Unit {0}
 -- what follows a 409 brings a version
 abbrev pub BringsNext : Heard → List Heard → Type 0
 BringsNext h [] = Unit {0}
-BringsNext h (next ∷ hs) = is_conflict h.reply ≡ 1 → is_child next.reply ≡ 1
+BringsNext h (next ∷ hs) = conflicts_of h.reply ≡ 1 → versions_of next.reply ≡ 1
 
 abbrev pub EachBringsNext : List Heard → Type 0
 EachBringsNext [] = Unit {0}
@@ -134,22 +143,22 @@ pub record GoesOnFrom (hs : List Heard) : Type 0 where
   pub few : conflicts hs ≤ 15
 
 -- it goes on from all but the last
-abbrev pub GoesOnToLast : List Heard → Type 0
-GoesOnToLast hs = (last : Heard) × (ends : EndsWith hs last) × GoesOnFrom ends.earlier
+abbrev pub GoesOnFromAllButLast : List Heard → Type 0
+GoesOnFromAllButLast hs = (last : Heard) × (ends : EndsWith hs last) × GoesOnFrom ends.earlier
 
 -- a sync is refused for a reply or for a limit at the first reply that it does not go on from
-abbrev pub GoesOnUntil : List Heard → SyncError → Type 0
-GoesOnUntil hs (errors.Reply kind) = GoesOnToLast hs
-GoesOnUntil hs (errors.Gone base) = GoesOnToLast hs
-GoesOnUntil hs (errors.OutOfSync base parent) = GoesOnToLast hs
-GoesOnUntil hs (errors.Busy parent) = GoesOnToLast hs
-GoesOnUntil hs (errors.PullTooLong bytes) = GoesOnToLast hs
-GoesOnUntil hs e = GoesOnFrom hs
+abbrev pub GoesOnToRefusal : List Heard → SyncError → Type 0
+GoesOnToRefusal hs (errors.Reply kind) = GoesOnFromAllButLast hs
+GoesOnToRefusal hs (errors.Gone base) = GoesOnFromAllButLast hs
+GoesOnToRefusal hs (errors.OutOfSync base parent) = GoesOnFromAllButLast hs
+GoesOnToRefusal hs (errors.Busy parent) = GoesOnFromAllButLast hs
+GoesOnToRefusal hs (errors.PullTooLong bytes) = GoesOnFromAllButLast hs
+GoesOnToRefusal hs e = GoesOnFrom hs
 
--- what was heard where a sync is refused
+-- what was heard by a sync that is refused
 pub record HeardRefused (client : List ℕ) (hs : List Heard) (e : SyncError) : Type 0 where
   pub cause : HeardCause client hs e
-  pub until : GoesOnUntil hs e
+  pub until : GoesOnToRefusal hs e
 
 -- ---- what stays
 
@@ -165,7 +174,7 @@ JournalRefused m old new before after first last journal.Disk =
 JournalRefused m old new before after first last journal.Closed = (is_closed old.journal ≡ true) × IsSame old new before after × (last ≡ first)
 JournalRefused m old new before after first last (journal.TooLong bytes) = (2 ^ 30 < bytes) × IsUnchanged old new before after
 
--- why a sync is refused, and what stays. The counts tell the fault of the disk and of the link
+-- why a sync is refused, and what stays. Counts show the faults of the disk and of the link
 abbrev pub SyncRefused : {D L : Type 0} → DiskModel D → LinkModel L → (old new : Replica) (before after : D) (first last : L) → SyncError → Type 0
 SyncRefused m links old new before after first last (errors.Journal e) = JournalRefused m old new before after first last e
 SyncRefused m links old new before after first last errors.Link = Rose (links.faults first) (links.faults last) × IsUnchanged old new before after
@@ -178,7 +187,7 @@ SyncRefused m links old new before after first last (errors.SegmentTooLong bytes
 SyncRefused m links old new before after first last (errors.PullTooLong bytes) = (max_pull < bytes) × IsUnchanged old new before after
 SyncRefused m links old new before after first last errors.Memory = IsUnchanged old new before after
 
--- the causes where a refused sync may have added a version
+-- the causes after which a refused sync may have added a version
 abbrev pub MayAdd : SyncError → Type 0
 MayAdd errors.Link = Unit {0}
 MayAdd errors.Memory = Unit {0}

@@ -27,15 +27,22 @@ pub record WasAdded (old : State) (chain : List Version) (mine later : List Sync
 
 -- what is left of the later operations over what was left of that pull, and then over more
 abbrev pub left_of_later : TasksValue → (mine later pulled sent more : List SyncOp) → List SyncOp
-left_of_later base mine later pulled sent more = (grid (fit_part (apply_all base (pulled ++ sent)) more) (grid (grid (fit_part base pulled) mine).0 later).1).1
+left_of_later base mine later pulled sent more =
+    let crossed = (grid (fit_part base pulled) mine).0 in
+    (grid (fit_part (apply_all base (pulled ++ sent)) more) (grid crossed later).1).1
 
--- a sync that ends pulls that version and more behind it, and sends what is left of the later operations alone
-pub record SendsLater (old : State) (before after : ServerChain) (report : SyncReport) (mine later : List SyncOp) (was : WasAdded old before.chain mine later) : Type 0 where
+-- the same over the version that a refused sync added
+abbrev pub left_since : (old : State) (chain : List Version) (mine later : List SyncOp) → WasAdded old chain mine later → (more : List SyncOp) → List SyncOp
+left_since old chain mine later was more = left_of_later (start_of old) mine later was.pulled was.sent more
+
+-- a sync that ends pulls that version and more after it, and sends what is left of the later operations alone
+pub record SendsLater (old : State) (before after : ServerChain) (report : SyncReport) (mine later : List SyncOp)
+    (was : WasAdded old before.chain mine later) : Type 0 where
   pub h : List ℕ
   pub versions : List Version
   pub behind : IsBetween after.chain was.v.id h versions
   pub more : List SyncOp
   pub reads : Reads versions more
-  pub pushed : report.pushed ≡ length (left_of_later (start_of old) mine later was.pulled was.sent more)
-  pub sent : ((after.own ≡ before.own) × (left_of_later (start_of old) mine later was.pulled was.sent more ≡ []))
-      ⊎ ((v : Version) × (after.own ≡ before.own ++ v ∷ []) × (v.parent ≡ h) × (v.segment ≡ segment_text (left_of_later (start_of old) mine later was.pulled was.sent more)))
+  pub pushed : report.pushed ≡ length (left_since old before.chain mine later was more)
+  pub sent : ((after.own ≡ before.own) × (left_since old before.chain mine later was more ≡ []))
+      ⊎ ((v : Version) × (after.own ≡ before.own ++ v ∷ []) × (v.parent ≡ h) × (v.segment ≡ segment_text (left_since old before.chain mine later was more)))

@@ -4,7 +4,7 @@ use Rattle.tw_model.specs.declared.SyncOp.{SyncOp}
 use Rattle.tw_http.specs.Link.{LinkModel}
 use Rattle.tw_segment.specs.Segment.{max_len, segment_text}
 use Rattle.tw_replica.specs.State.{State}
-use Rattle.tw_sync.specs.Progress.{IsMet, IsLate}
+use Rattle.tw_sync.specs.Progress.{HasPulled, IsMet, IsLate}
 use Rattle.tw_sync.specs.declared.pushing.Sent.{Sent}
 use Rattle.tw_sync.specs.declared.pushing.Sent.TheVariants.{Added, Late}
 use Rattle.tw_sync.specs.declared.cursor.Cursor.{Cursor}
@@ -16,7 +16,7 @@ abbrev pub IsUnsent : List SyncOp → SendError → Type 0
 IsUnsent ops (sending.TooLong bytes) = (bytes ≡ length (segment_text ops)) × (max_len < bytes)
 IsUnsent ops sending.Memory = Unit {0}
 
--- the sync ends where what was left is added, and goes on where it came too late
+-- the sync ends if what was left is added, and goes on if it came too late
 abbrev pub Pushes : {L : Type 0} → Sent → LinkModel L → (client host : List ℕ) → State → (first now : L) → Cursor → Type 0
 Pushes (Added operations) m client host state first now cursor = IsMet m client host state first now cursor operations
 Pushes (Late latest) m client host state first now cursor = IsLate m client host state first now cursor latest
@@ -25,3 +25,8 @@ Pushes (Late latest) m client host state first now cursor = IsLate m client host
 abbrev pub CountsConflict : Sent → (old new : Cursor) → Type 0
 CountsConflict (Added operations) old new = Unit {0}
 CountsConflict (Late latest) old new = new.conflicts ≡ old.conflicts + 1
+
+-- what becomes of each sync that has pulled all, whichever state and link it began at
+abbrev pub SendsLeft : {L : Type 0} → LinkModel L → (client host : List ℕ) → (before : L) → Cursor → (after : L) → Cursor → Sent → Type 0
+SendsLeft {L = L} m client host before cursor after moved sent = (state : State) (first : L) → HasPulled m client host state first before cursor
+    → Pushes sent m client host state first after moved

@@ -33,8 +33,10 @@ pub record WritesNothing {D : Type 0} (m : DiskModel D) (old new : Replica) (bef
   pub base : new.core.base ≡ old.core.base
   pub same : IsSame old new before after
 
--- a sync that moves the base writes one record: the new base, and the operations of all versions since the old one. At any moment the disk opens to the state before or to the new one
-pub record WritesOne {D : Type 0} (m : DiskModel D) (old new : Replica) (before after : D) (honest : Type 0) (chain : List Version) (bodies : List (List ℕ)) : Type 0 where
+-- a sync that moves the base writes one record: the new base, and the operations of all versions since the old one.
+-- At any moment the disk opens to the state before or to the new one
+pub record WritesOne {D : Type 0} (m : DiskModel D) (old new : Replica) (before after : D) (honest : Type 0) (chain : List Version)
+    (bodies : List (List ℕ)) : Type 0 where
   pub moved : ¬ (new.core.base ≡ old.core.base)
   pub ops : List SyncOp
   pub read : honest → ReadsBetween chain old.core.base new.core.base ops
@@ -66,7 +68,7 @@ pub record LeavesEnd {D : Type 0} (m : DiskModel D) (before after : D) (old : St
 abbrev pub IsLastReply : (client base : List ℕ) → Heard → Type 0
 IsLastReply client base last = IsUpToDate client base last ⊎ (last.reply ≡ Ok (replies.Added base))
 
--- what was heard where a sync ends
+-- what was heard by a sync that ends
 pub record HeardEnd (client : List ℕ) (hs : List Heard) (report : SyncReport) : Type 0 where
   pub ended : EndedBy hs (IsLastReply client report.base)
   pub brought_is : brought hs ≡ report.pulled

@@ -27,7 +27,7 @@ pub record World : Type 0 where
 abbrev pub AllAgree : List Version → List State → Type 0
 AllAgree chain states = AllByRecursion (λ state. Agrees state chain) states
 
--- the chain is one that a server tells, and each state of each machine agrees with it
+-- the chain is one that a server has, and each state of each machine agrees with it
 pub record IsGood (world : World) : Type 0 where
   pub served : IsServedChain world.chain
   pub agree : AllByRecursion (AllAgree world.chain) world.machines

@@ -1,29 +1,30 @@
-// What is asked of the server, and what its answers say.
-ghost use Rattle.std.specs.Prelude.{◌≡◌, ◌≤◌, ◌+◌, ◌⊎◌, ◌∷◌, ◌++◌, [], List, ℕ, length, IsTrue, IfOk, IfErr, OnErr, Ok};
-ghost use Rattle.uuid.specs.Parts.{zero_bytes};
-ghost use Rattle.tw_http.specs.Link.{IsHonest, Serves, MayServe};
-ghost use Rattle.tw_http.specs.Messages.{IsHost, max_body, request_text, request_body};
+// What is asked of the server, and its answers.
+ghost use Rattle.std.specs.Prelude.{◌≡◌, ◌≤◌, ◌+◌, List, ℕ, length, IsTrue, IfOk, IfErr, OnErr, Ok};
+ghost use Rattle.tw_http.specs.Link.{IsHonest};
+ghost use Rattle.tw_http.specs.Messages.{IsHost, max_body, request_text};
 ghost use Rattle.tw_http.specs.Responses.{IsResponseAnswer};
-ghost use Rattle.tw_http.specs.Serving.{client_of, kind_of};
+ghost use Rattle.tw_http.specs.Serving.{kind_of};
 ghost use Rattle.tw_http.specs.declared.message.Request.{Request as HttpRequest};
 ghost use Rattle.tw_http.specs.declared.message.Asked.TheVariants as asked;
 ghost use Rattle.tw_http.specs.declared.message.Request.TheVariants as asks;
 ghost use Rattle.tw_sync.specs.declared.error.AskError.TheVariants as asking;
 ghost use Rattle.tw_sync.specs.Causes.{of_ask};
 ghost use Rattle.tw_sync.specs.declared.error.ReplyKind.TheVariants as kinds;
-ghost use Rattle.tw_sync.specs.Heard.{Heard, Hears, HearsUntil};
+ghost use Rattle.tw_sync.specs.Heard.{HearsOne, HearsUntilThat};
 ghost use Rattle.tw_sync.specs.Refused.{IsWelcome};
-ghost use Rattle.tw_sync.specs.Answers.{IsLinkKept, GrowsOn, IsChildAnswer, child_response, child_heard, HasStatus, IsAddAnswer, add_response, add_heard, IsBadlyAnswered, HeardUnasked, AskRefused, NoReply, AddRefused};
+ghost use Rattle.tw_sync.specs.Answers.{IsLinkKept, GrowsOn, ListsOne, ServesOn, MayServeOn};
+ghost use Rattle.tw_sync.specs.Answers.{IsChildAnswer, child_response, child_heard, IsAddAnswer, add_response, add_heard};
+ghost use Rattle.tw_sync.specs.Answers.{HasStatus, IsBadlyAnswered, HeardRefusedAsk, AskRefused, NoReply, AddRefused};
 
 use crate::error::{AskError, ReplyKind};
 use std::alloc::Global;
 use tw_http::{Asked, Bytes, HttpError, Link, Request, Response, read_response, write_request};
 use uuid::Uuid;
 
-/// What the server knows behind a version.
+/// What the server knows after a version.
 #[derive(Drop)]
 pub(crate) enum ChildAnswer {
-    /// The version behind it, whose id is not nil.
+    /// The version after it, whose id is not nil.
     Found { id: Uuid, segment: Bytes },
     /// There is none.
     UpToDate,
@@ -34,13 +35,13 @@ pub(crate) enum ChildAnswer {
 /// What became of a version that was sent.
 #[derive(Clone, Copy, Drop)]
 pub(crate) enum AddAnswer {
-    /// It stands in the chain under this id, which is not nil.
+    /// It is in the chain under this id, which is not nil.
     Added { id: Uuid },
     /// Its parent is not the latest version, which is this.
     Conflict { latest: Uuid },
 }
 
-/// Asks for the version behind another.
+/// Asks for the version after another.
 pub(crate) fn ask_child<L: Link>(
     alloc: Global,
     link: &mut L,
@@ -52,10 +53,10 @@ pub(crate) fn ask_child<L: Link>(
     ensures answer { IfOk result (λ answer. IsHonest L.model link.old client → IsChildAnswer L.model link.old link.new parent answer) }
     ensures grows { IsHonest L.model link.old client → GrowsOn L.model link.old link.new client }
     ensures own { IsHonest L.model link.old client → L.model.own link.new ≡ L.model.own link.old }
-    ensures heard { IfOk result (λ answer. IsTrue (L.model.tells_list link.old) → Hears L.model client host.now link.old link.new (child_heard client parent answer ∷ [])) }
+    ensures heard { IfOk result (λ answer. HearsOne L.model client host.now link.old link.new (child_heard client parent answer)) }
     ensures welcome { IfOk result (λ answer. IsWelcome (child_heard client parent answer)) }
     ensures refused { IfErr result (AskRefused L.model link.old link.new) }
-    ensures refused_heard { IfErr result (λ e. IsTrue (L.model.tells_list link.old) → (hs : List Heard) × HearsUntil L.model client host.now link.old link.new hs (of_ask e) × HeardUnasked hs e) }
+    ensures refused_heard { IfErr result (λ e. HearsUntilThat L.model client host.now link.old link.new (of_ask e) (λ hs. HeardRefusedAsk hs e)) }
     ensures refused_honest { IfErr result (λ e. IsHonest L.model link.old client → NoReply e) }
     ensures count { L.model.exchanges link.new ≤ L.model.exchanges link.old + 1 }
     ensures kept { IsLinkKept L.model link.old link.new }
@@ -65,8 +66,7 @@ pub(crate) fn ask_child<L: Link>(
     child_answer(alloc, reply.as_slice(), parent)
 }
 
-/// Sends a version to be added behind another. A segment of more than 16,777,216 bytes is sent too,
-/// and no server reads it.
+/// Sends a version to be added after another.
 pub(crate) fn ask_add<L: Link>(
     alloc: Global,
     link: &mut L,
@@ -79,10 +79,10 @@ pub(crate) fn ask_add<L: Link>(
     requires within { length segment.items ≤ max_body }
     ensures answer { IfOk result (λ answer. IsHonest L.model link.old client → IsAddAnswer L.model link.old link.new parent segment.items answer) }
     ensures grows { IsHonest L.model link.old client → GrowsOn L.model link.old link.new client }
-    ensures heard { IfOk result (λ answer. IsTrue (L.model.tells_list link.old) → Hears L.model client host.now link.old link.new (add_heard client parent segment.items answer ∷ [])) }
+    ensures heard { IfOk result (λ answer. HearsOne L.model client host.now link.old link.new (add_heard client parent segment.items answer)) }
     ensures welcome { IfOk result (λ answer. IsWelcome (add_heard client parent segment.items answer)) }
     ensures refused { IfErr result (AskRefused L.model link.old link.new) }
-    ensures refused_heard { IfErr result (λ e. IsTrue (L.model.tells_list link.old) → (hs : List Heard) × HearsUntil L.model client host.now link.old link.new hs (of_ask e) × HeardUnasked hs e) }
+    ensures refused_heard { IfErr result (λ e. HearsUntilThat L.model client host.now link.old link.new (of_ask e) (λ hs. HeardRefusedAsk hs e)) }
     ensures refused_honest { IfErr result (λ e. IsHonest L.model link.old client → AddRefused L.model link.old link.new parent segment.items e) }
     ensures count { L.model.exchanges link.new ≤ L.model.exchanges link.old + 1 }
     ensures kept { IsLinkKept L.model link.old link.new }
@@ -104,10 +104,10 @@ fn exchange<L: Link>(
     host: &str,
 ) -> Result<Vec<u8>, AskError>
     requires host { IsHost host.now }
-    ensures listed { IfOk result (λ reply. IsTrue (L.model.tells_list link.old) → L.model.list link.new ≡ L.model.list link.old ++ record { request = request_text request.now host.now; reply = reply.items } ∷ []) }
+    ensures listed { IfOk result (λ reply. ListsOne L.model link.old link.new (request_text request.now host.now) reply.items) }
     ensures unlisted { OnErr result (IsTrue (L.model.tells_list link.old) → L.model.list link.new ≡ L.model.list link.old) }
-    ensures served { IfOk result (λ reply. IsHonest L.model link.old (client_of request.now) → length (request_body request.now) ≤ max_body → Serves (L.model.chain link.old) (L.model.chain link.new) (L.model.own link.old) (L.model.own link.new) request.now reply.items) }
-    ensures may_serve { OnErr result (IsHonest L.model link.old (client_of request.now) → length (request_body request.now) ≤ max_body → MayServe (L.model.chain link.old) (L.model.chain link.new) (L.model.own link.old) (L.model.own link.new) request.now) }
+    ensures served { IfOk result (λ reply. ServesOn L.model link.old link.new request.now reply.items) }
+    ensures may_serve { OnErr result (MayServeOn L.model link.old link.new request.now) }
     ensures refused { IfErr result (AskRefused L.model link.old link.new) }
     ensures no_reply { IfErr result NoReply }
     ensures count { L.model.exchanges link.new ≤ L.model.exchanges link.old + 1 }
@@ -149,8 +149,8 @@ fn child_answer(alloc: Global, bytes: &[u8], parent: Uuid) -> Result<ChildAnswer
 // The answer that a reply to add-version brings.
 fn add_answer(alloc: Global, bytes: &[u8]) -> Result<AddAnswer, AskError>
     ensures read { IfOk result (λ answer. IsResponseAnswer asked.Add bytes.now (Ok (add_response answer))) }
-    ensures welcome { IfOk result (λ answer. (client : List ℕ) (parent : List ℕ) (segment : List ℕ) → IsWelcome (add_heard client parent segment answer)) }
-    ensures refused { IfErr result (λ e. (client : List ℕ) (parent : List ℕ) (segment : List ℕ) → IsBadlyAnswered (asks.Add client parent segment) bytes.now e) }
+    ensures welcome { IfOk result (λ answer. (client parent segment : List ℕ) → IsWelcome (add_heard client parent segment answer)) }
+    ensures refused { IfErr result (λ e. (client parent segment : List ℕ) → IsBadlyAnswered (asks.Add client parent segment) bytes.now e) }
 {
     match read_reply(alloc, bytes, Asked::Add)? {
         Response::Added { id } => {

@@ -1,11 +1,14 @@
-// Where a sync stands in the chain.
+// Where a sync is in the chain.
 ghost use Rattle.std.specs.Prelude.{◌≡◌, ◌≤◌};
 ghost use Rattle.tw_sync.specs.Refused.{max_pull};
+
+mod start;
+mod take_version;
 
 use tw_model::{SyncOp, Tasks};
 use uuid::Uuid;
 
-/// Where a sync stands: a version, what is left there of the local list, and what came on the way.
+/// Where a sync is: at a version, with what is left there of the local list, and what came on the way.
 #[derive(Drop)]
 pub struct Cursor {
     /// The version.

@@ -19,7 +19,7 @@ pub enum ReplyKind {
     Cut,
     /// The head is none of HTTP/1.0 or 1.1, or has more than 64 header lines.
     Head,
-    /// An id that the reply needs is missing, stands twice or is no hyphenated uuid.
+    /// An id that the reply needs is missing, is there twice or is no hyphenated uuid.
     Header,
     /// The length of the body is not given as 1 to 19 digits, or not alone.
     Length,
@@ -29,26 +29,26 @@ pub enum ReplyKind {
     Parent,
     /// The id of the version is nil, which names no version.
     Nil,
-    /// The status is none that a sync goes on from.
+    /// A sync can't go on from this status.
     Status { code: u16 },
 }
 
 /// Why a sync was refused. Only a fault of the disk changes the replica: it closes it.
 ///
-/// After `Link`, `Memory` and `Journal` the server may have added one version; the next sync pulls it.
+/// After `Link`, `Memory` and a fault of the disk the server may have added one version; the next sync pulls it.
 #[derive(Clone, Copy, PartialEq, Eq, Drop)]
 pub enum SyncError {
     /// The record of the sync was not written.
     Journal(AppendError),
     /// The way to the server failed.
     Link,
-    /// A reply is none that a sync goes on from.
+    /// A sync can't go on from a reply.
     Reply { kind: ReplyKind },
-    /// The server does not know the version that the replica stands at.
+    /// The server does not know the replica's base.
     Gone { base: Uuid },
     /// Others added versions each time before the replica could, sixteen times. The server's latest was `parent`.
     Busy { parent: Uuid },
-    /// The server refused a version since its latest was `parent`, and then knew none behind `base`.
+    /// The server refused a version since its latest was `parent`, and then knew none after `base`.
     OutOfSync { base: Uuid, parent: Uuid },
     /// The segment of a version can't be read.
     Segment { version: Uuid },
@@ -65,7 +65,7 @@ pub enum SyncError {
 pub enum AskError {
     /// The way to the server failed.
     Link,
-    /// The reply is none that a sync goes on from.
+    /// A sync can't go on from the reply.
     Reply { kind: ReplyKind },
     /// There was no memory.
     Memory,

@@ -1,9 +1,10 @@
 //! Laws of chains, positions and ends of a sync. Each function does nothing: its contract is the law.
-ghost use Rattle.tw_sync.specs.Laws.{NewReplicaAgrees, AgreesIsKept, FoldIsOne, PendingActsOnTheFold, AgreeingReplicasAreEqual, AddedVersionCancels, PushedIsAdded, CutOffIsAdded, SyncEndAgrees};
-ghost use Rattle.tw_sync.specs.Following.{CommitFollows, UndoStaysBehind, AddedForFollowing};
+ghost use Rattle.tw_sync.specs.Laws.{NewReplicaAgrees, AgreesIsKept, FoldIsOne, PendingActsOnTheFold, AgreeingReplicasAreEqual};
+ghost use Rattle.tw_sync.specs.Laws.{AddedVersionCancels, PushedIsAdded, CutOffIsAdded, SyncEndAgrees};
+ghost use Rattle.tw_sync.specs.LaterOps.{CommitFollows, UndoStaysBehind, AddedForFollowing};
 ghost use Rattle.tw_sync.specs.World.{ReachedIsGood, ReachedFollows};
 ghost use Rattle.tw_sync.specs.Positions.{ChainStarts, ChainPulls, ChainFits, ChainPushes, OwnVersionsCancelAt, OwnVersionCancelsIn, OwnVersionsCancelEachTime};
-ghost use Rattle.tw_sync.specs.Steps.{CommitAgrees, UndoAgrees};
+ghost use Rattle.tw_sync.specs.LocalSteps.{CommitAgrees, UndoAgrees};
 
 /// A new replica agrees with every chain.
 pub fn a_new_replica_agrees()
@@ -25,7 +26,7 @@ pub fn pending_acts_on_the_fold()
     ensures { PendingActsOnTheFold }
 {}
 
-/// Replicas that agree with one chain, stand at one version and have nothing pending hold the same tasks,
+/// Replicas that agree with one chain, have one base and have nothing pending hold the same tasks,
 /// and so print the same export.
 pub fn agreeing_replicas_are_equal()
     ensures { AgreeingReplicasAreEqual }
@@ -41,22 +42,22 @@ pub fn chain_pulls()
     ensures { ChainPulls }
 {}
 
-/// What is left fits the chain folded to where the replica stands.
+/// What is left fits the chain folded to the version up to which was pulled.
 pub fn chain_fits()
     ensures { ChainFits }
 {}
 
-/// A version that is added behind a chain acts on the fold of the chain.
+/// A version that is added after a chain acts on the fold of the chain.
 pub fn chain_pushes()
     ensures { ChainPushes }
 {}
 
-/// Where what was sent comes back, of later operations the rest is left, and of those that were sent none.
+/// If what was sent comes back, of later operations the rest is left, and of those that were sent none.
 pub fn own_versions_cancel_at()
     ensures { OwnVersionsCancelAt }
 {}
 
-/// Where the version that a refused sync added is pulled, nothing is left of what it was made from.
+/// If the version that a refused sync added is pulled, nothing is left of what it was made from.
 pub fn own_version_cancels_in()
     ensures { OwnVersionCancelsIn }
 {}
@@ -98,12 +99,12 @@ pub fn sync_end_agrees()
     ensures { SyncEndAgrees }
 {}
 
-/// A commit puts its operations behind what was pending and what stands there already.
+/// A commit puts its operations after what was pending and what came later.
 pub fn a_commit_follows()
     ensures { CommitFollows }
 {}
 
-/// An undo that does not reach into what was pending leaves it, and a part of what stands behind it.
+/// An undo that does not reach into what was pending leaves it, and a part of what came later.
 pub fn an_undo_stays_behind()
     ensures { UndoStaysBehind }
 {}
@@ -120,7 +121,7 @@ pub fn every_reached_world_is_good()
     ensures { ReachedIsGood }
 {}
 
-/// There the tasks of each replica are the server's chain folded to its base, then what is pending.
+/// In such a world the tasks of each replica are the server's chain folded to its base, then what is pending.
 pub fn every_reached_replica_follows_the_chain()
     ensures { ReachedFollows }
 {}

@@ -7,14 +7,13 @@ mod ask;
 mod cursor;
 mod engine;
 mod error;
+mod exchanged;
 pub mod laws;
-mod meeting;
 mod pulling;
 mod pushing;
 mod report;
-mod starting;
-mod taking;
 
 pub use engine::sync;
 pub use error::{ReplyKind, SyncError};
+pub use exchanged::sync_ops;
 pub use report::SyncReport;

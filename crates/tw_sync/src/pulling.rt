@@ -1,9 +1,7 @@
-// Pulling what stands behind a cursor.
-ghost use Rattle.std.specs.Prelude.{◌≡◌, ◌<◌, ◌≤◌, true, false, IfOk, OnOk, IfErr, List, ℕ};
+// Pulling what is after a cursor in the chain.
+ghost use Rattle.std.specs.Prelude.{◌≡◌, ◌<◌, ◌≤◌, true, false, IfOk, OnOk, IfErr};
 ghost use Rattle.tw_http.specs.Messages.{IsHost};
-ghost use Rattle.tw_replica.specs.State.{State};
-ghost use Rattle.tw_sync.specs.Progress.{IsAsking, IsPulling, HasPulled, PullsOn, IsLate, IsStopped};
-ghost use Rattle.tw_sync.specs.declared.error.SyncError.TheVariants as errors;
+ghost use Rattle.tw_sync.specs.Progress.{PullsAll, PullsOne, StopsPulling, FindsOne, FindsNoneLate, StopsAsking, PullsLate, StopsLate};
 
 use crate::ask::{ChildAnswer, ask_child};
 use crate::cursor::Cursor;
@@ -21,15 +19,15 @@ pub(crate) fn pull<L: Link>(
     cursor: &mut Cursor,
 ) -> Result<(), SyncError>
     requires host { IsHost host.now }
-    ensures pulled { OnOk result ((state : State) (first : L) → IsPulling L.model client host.now state first link.old cursor.old → HasPulled L.model client host.now state first link.new cursor.new) }
+    ensures pulled { OnOk result (PullsAll L.model client host.now link.old cursor.old link.new cursor.new) }
     ensures conflicts { OnOk result (cursor.new.conflicts ≡ cursor.old.conflicts) }
-    ensures stopped { IfErr result (λ e. (state : State) (first : L) → IsPulling L.model client host.now state first link.old cursor.old → IsStopped L.model client host.now state first link.new e) }
+    ensures stopped { IfErr result (StopsPulling L.model client host.now link.old cursor.old link.new) }
 {
     while pull_one(alloc, link, client, host, cursor)? {}
     Ok(())
 }
 
-// Goes on to the version behind the cursor, and answers whether there was one.
+// Goes on to the version after the cursor, and answers whether there was one.
 fn pull_one<L: Link>(
     alloc: Global,
     link: &mut L,
@@ -38,14 +36,14 @@ fn pull_one<L: Link>(
     cursor: &mut Cursor,
 ) -> Result<bool, SyncError>
     requires host { IsHost host.now }
-    ensures goes_on { IfOk result (λ more. (state : State) (first : L) → IsPulling L.model client host.now state first link.old cursor.old → PullsOn more L.model client host.now state first link.new cursor.new) }
-    ensures found { IfOk result (λ more. more ≡ true → (state : State) (first : L) → IsAsking L.model client host.now state first link.old cursor.old → IsPulling L.model client host.now state first link.new cursor.new) }
+    ensures goes_on { IfOk result (PullsOne L.model client host.now link.old cursor.old link.new cursor.new) }
+    ensures found { IfOk result (λ more. more ≡ true → FindsOne L.model client host.now link.old cursor.old link.new cursor.new) }
     ensures farther { IfOk result (λ more. more ≡ true → cursor.old.bytes < cursor.new.bytes) }
     ensures conflicts { OnOk result (cursor.new.conflicts ≡ cursor.old.conflicts) }
 
-    // Where a version came too late, there is one more.
-    ensures late { IfOk result (λ more. more ≡ false → cursor.old.conflicts ≤ 15 → (state : State) (first : L) (last : List ℕ) → IsLate L.model client host.now state first link.old cursor.old last → IsStopped L.model client host.now state first link.new (errors.OutOfSync cursor.new.at last)) }
-    ensures stopped { IfErr result (λ e. (state : State) (first : L) → IsAsking L.model client host.now state first link.old cursor.old → IsStopped L.model client host.now state first link.new e) }
+    // If a version came too late, there is one more.
+    ensures late { IfOk result (λ more. more ≡ false → FindsNoneLate L.model client host.now link.old cursor.old link.new cursor.new) }
+    ensures stopped { IfErr result (StopsAsking L.model client host.now link.old cursor.old link.new) }
 {
     match ask_child(alloc, link, client, host, cursor.at)? {
         ChildAnswer::Found { id, segment } => {
@@ -67,10 +65,10 @@ pub(crate) fn pull_late<L: Link>(
     latest: Uuid,
 ) -> Result<(), SyncError>
     requires host { IsHost host.now }
-    ensures pulled { OnOk result ((state : State) (first : L) → IsLate L.model client host.now state first link.old cursor.old latest → HasPulled L.model client host.now state first link.new cursor.new) }
+    ensures pulled { OnOk result (PullsLate L.model client host.now link.old cursor.old latest link.new cursor.new) }
     ensures conflicts { OnOk result (cursor.new.conflicts ≡ cursor.old.conflicts) }
     ensures few { OnOk result (cursor.new.conflicts ≤ 15) }
-    ensures stopped { IfErr result (λ e. (state : State) (first : L) → IsLate L.model client host.now state first link.old cursor.old latest → IsStopped L.model client host.now state first link.new e) }
+    ensures stopped { IfErr result (StopsLate L.model client host.now link.old cursor.old latest link.new) }
 {
     if cursor.conflicts > 15 {
         return Err(SyncError::Busy { parent: latest });

@@ -2,9 +2,8 @@
 ghost use Rattle.std.specs.Prelude.{◌≡◌, ◌≤◌, [], length, IfOk, IfErr};
 ghost use Rattle.tw_http.specs.Messages.{IsHost};
 ghost use Rattle.tw_segment.specs.Segment.{max_len, segment_text, IsSegment};
-ghost use Rattle.tw_replica.specs.State.{State};
-ghost use Rattle.tw_sync.specs.Progress.{HasPulled, IsStopped};
-ghost use Rattle.tw_sync.specs.Sending.{IsUnsent, Pushes, CountsConflict};
+ghost use Rattle.tw_sync.specs.Progress.{StopsSending};
+ghost use Rattle.tw_sync.specs.Sending.{IsUnsent, SendsLeft, CountsConflict};
 
 use crate::ask::{AddAnswer, ask_add};
 use crate::cursor::Cursor;
@@ -18,13 +17,13 @@ use uuid::Uuid;
 /// What became of what was left.
 #[derive(Clone, Copy, Drop)]
 pub(crate) enum Sent {
-    /// It stands in the chain: so many operations.
+    /// It is in the chain: so many operations.
     Added { operations: u64 },
     /// It came too late: the server's latest version is another.
     Late { latest: Uuid },
 }
 
-/// Sends what is left, to stand behind the cursor. Where it was added the cursor goes on to it.
+/// Sends what is left, as the version after the cursor. If it was added the cursor goes on to it.
 pub(crate) fn push<L: Link>(
     alloc: Global,
     link: &mut L,
@@ -35,9 +34,9 @@ pub(crate) fn push<L: Link>(
     requires host { IsHost host.now }
     requires some { ¬ (cursor.old.left.items ≡ []) }
     requires tries { cursor.old.conflicts ≤ 15 }
-    ensures pushed { IfOk result (λ sent. (state : State) (first : L) → HasPulled L.model client host.now state first link.old cursor.old → Pushes sent L.model client host.now state first link.new cursor.new) }
+    ensures pushed { IfOk result (SendsLeft L.model client host.now link.old cursor.old link.new cursor.new) }
     ensures conflicts { IfOk result (λ sent. CountsConflict sent cursor.old cursor.new) }
-    ensures stopped { IfErr result (λ e. (state : State) (first : L) → HasPulled L.model client host.now state first link.old cursor.old → IsStopped L.model client host.now state first link.new e) }
+    ensures stopped { IfErr result (StopsSending L.model client host.now link.old cursor.old link.new) }
 {
     let segment = text_to_send(alloc, &cursor.left)?;
     match ask_add(alloc, link, client, host, cursor.at, segment)? {

@@ -70,7 +70,7 @@ date_of_tells y m d date e =
     let same = where_true_tells (is_date y m d) _ date e in
     (ap (λ x. x.year) same.1, ap (λ x. x.month) same.1, ap (λ x. x.day) same.1)
 
-time_of_tells : (h m s : ℕ) (time : Time) → time_of h m s ≡ Some time → (h ≡ time.hour) × (m ≡ time.minute) × (s ≡ time.second) × (0 ≡ time.subsec_nanosecond)
+pub time_of_tells : (h m s : ℕ) (time : Time) → time_of h m s ≡ Some time → (h ≡ time.hour) × (m ≡ time.minute) × (s ≡ time.second) × (0 ≡ time.subsec_nanosecond)
 unfolding time_of
 time_of_tells h m s time e =
     let same = where_true_tells (is_time h m s) _ time e in
@@ -83,7 +83,7 @@ kept_some false n at e = absurd (cc)
 int_le_says : (a b : ℤ) → int_le a b ≡ true → a ≤ℤ b
 int_le_says a b h = grind (arith, ints)
 
-second_in_range_tells : (n : ℤ) (at : ℕ) → second_in_range n ≡ Some at → (pos 0 ≤ℤ n) × (unsigned_abs (int_div n (pos 1_000_000_000)) ≡ at)
+pub second_in_range_tells : (n : ℤ) (at : ℕ) → second_in_range n ≡ Some at → (pos 0 ≤ℤ n) × (unsigned_abs (int_div n (pos 1_000_000_000)) ≡ at)
 second_in_range_tells n at e =
     let k = kept_some (int_le (pos 0) n && int_lt n (nanos limit)) (unsigned_abs (int_div n (pos 1_000_000_000))) at e in
     (int_le_says (pos 0) n (front (int_le (pos 0) n) (int_lt n (nanos limit)) k.0), k.1)

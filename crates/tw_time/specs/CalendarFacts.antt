@@ -45,7 +45,9 @@ day_of_test y m d ok = (at_most _ _ (back _ _ (front _ _ ok)), at_most _ _ (back
 
 pub test_of_date : (y : ℤ) (m d : ℕ) → IsCivilDate y m d → is_date y m d ≡ true
 test_of_date y m d is =
-    both _ _ (both _ _ (both _ _ (both _ _ (both _ _ (is_int_at_most _ _ is.0.0) (is_int_at_most _ _ is.0.1)) (is_at_most _ _ is.1.0)) (is_at_most _ _ is.1.1)) (is_at_most _ _ is.2.0)) (is_at_most _ _ is.2.1)
+    let years = both _ _ (is_int_at_most _ _ is.0.0) (is_int_at_most _ _ is.0.1) in
+    let months = both _ _ (both _ _ years (is_at_most _ _ is.1.0)) (is_at_most _ _ is.1.1) in
+    both _ _ (both _ _ months (is_at_most _ _ is.2.0)) (is_at_most _ _ is.2.1)
 
 pub hour_of_test : (h m s : ℕ) → IsTrue (is_time h m s) → h < 24
 hour_of_test h m s ok = grind (arith, nat_tests)

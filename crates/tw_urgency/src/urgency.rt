@@ -4,7 +4,9 @@ ghost use Rattle.std.specs.Option.{option_copied};
 ghost use Rattle.std.specs.FinMap as map;
 ghost use Rattle.tw_world.specs.declared.moment.TheConstants.{MOMENT_LIMIT};
 ghost use Rattle.tw_urgency.specs.Stored.{is_tag, is_annotation};
-ghost use Rattle.tw_urgency.specs.Urgency.{IsSmall, IsWithin, AreWeights, share, term_if, count_term, priority_term, has_come, age_term, due_term_at, due_term, property_terms, count_terms, moment_terms, waiting_terms, is_waiting, task_urgency, urgency};
+ghost use Rattle.tw_urgency.specs.Urgency.{IsSmall, IsWithin, AreWeights, share, term_if, count_term, priority_term, has_come, age_term};
+ghost use Rattle.tw_urgency.specs.Urgency.{due_term_at, due_term, property_terms, count_terms, moment_terms, waiting_terms};
+ghost use Rattle.tw_urgency.specs.Urgency.{is_waiting, task_urgency, urgency};
 
 use crate::coefficients::Coefficients;
 use crate::dependencies::{blocking, is_blocked};

@@ -4,7 +4,7 @@ use Rattle.tw_filter.specs.declared.bad_word.BadWord.{BadWord}
 use Rattle.tw_words.specs.Modifications.{Clock, first_fault, first_of, at_word, word_fault, is_plain, is_add}
 use Rattle.tw_words.specs.Lines.{Parts}
 
--- that of a word, or else of the words behind it
+-- that of a word, or else of the words after it
 pub one_word : (clock : Clock) (sole : Bool) (line : Parts) (n : ℕ) (word : List ℕ) (words : List (List ℕ)) (o : Option BadWord) → drop n line.words ≡ word ∷ words
     → o ≡ at_word line n (word_fault clock (is_add line.command) sole (is_plain line n) word)
     → first_of o (first_fault clock sole line (n + 1) words) ≡ first_fault clock sole line n (drop n line.words)

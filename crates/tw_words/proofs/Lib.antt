@@ -5,3 +5,4 @@ pub mod Utf8
 pub mod Decimals
 pub mod FirstFaults
 pub mod UnnamedWords
+pub mod PlacedWords

@@ -3,7 +3,7 @@ use Rattle.std.specs.Prelude.{ℕ, ◌-◌, ◌==◌, ◌&&◌, ◌||◌, not, B
 use Rattle.std.specs.Char.{is_ascii_alphanumeric}
 use Rattle.std.specs.List.{list_all, starts_with, before_first, after_first}
 use Rattle.tw_text.specs.Natural.{natural}
-use Rattle.tw_words.specs.declared.address.Address.{Address}
+use Rattle.tw_words.specs.declared.settings.address.Address.{Address}
 
 -- a byte of a host's name or address (RFC 952)
 abbrev pub is_host_byte : ℕ → Bool
@@ -40,7 +40,7 @@ abbrev pub address_of : Option (List ℕ × ℕ) → Option Address
 address_of None = None
 address_of (Some x) = Some (record { host = x.0; port = x.1 })
 
--- the address that a url names, where there is one
+-- the address that a url names, if there is one
 abbrev pub address_at : Option (List ℕ) → Option Address
 address_at None = None
 address_at (Some url) = address_of (parts_in url)

@@ -1,5 +1,6 @@
 -- What modification words make of a task: task(1), under "MODIFICATIONS".
-use Rattle.std.specs.Prelude.{ℕ, ◌+◌, ◌==◌, not, Bool, true, false, cond, is_some, List, [], ◌∷◌, ◌++◌, Option, Some, None, Result, Ok, Err, codes, refl, filter}
+use Rattle.std.specs.Prelude.{ℕ, ◌+◌, ◌==◌, not, Bool, true, false, cond, is_some, List, [], ◌∷◌, ◌++◌, Option, Some, None, Result, Ok, Err}
+use Rattle.std.specs.Prelude.{codes, drop, refl, filter}
 use Rattle.std.specs.Coded.{Coded, code_by, coded×, coded_ℕ, coded_list, coded_option, coded_bool}
 use Rattle.std.specs.FinMap as map
 use Rattle.std.specs.Fmt.{decimal}
@@ -17,10 +18,10 @@ use Rattle.tw_filter.specs.declared.bad_word.WordKind.{WordKind}
 use Rattle.tw_filter.specs.declared.bad_word.WordKind.TheVariants as bad
 use Rattle.tw_words.specs.Lines.{Parts}
 use Rattle.tw_words.specs.Modifications.{field_named, item_in, takes_out, is_plain, is_add, tag_of, pair_of, word_fault, tally_of, rest_words, number_at}
-use Rattle.tw_words.specs.declared.field.Field.{Field}
-use Rattle.tw_words.specs.declared.field.Field.TheVariants as field
-use Rattle.tw_words.specs.declared.named_task.Named.{Named}
-use Rattle.tw_words.specs.declared.named_task.Named.TheVariants.{Task, Number}
+use Rattle.tw_words.specs.declared.changes.field.Field.{Field}
+use Rattle.tw_words.specs.declared.changes.field.Field.TheVariants as field
+use Rattle.tw_words.specs.declared.changes.depends_part.Named.{Named}
+use Rattle.tw_words.specs.declared.changes.depends_part.Named.TheVariants.{Task, Number}
 use Rattle.tw_words.specs.declared.word_error.WordError.{WordError}
 use Rattle.tw_words.specs.declared.word_error.WordError.TheVariants.{Bad}
 
@@ -31,11 +32,14 @@ pub record Draft : Type 0 where
   pub given : Option (List ℕ)
   pub by_words : Bool
 
+abbrev pub text_code : Coded (List ℕ)
+text_code = coded_list coded_ℕ
+
 -- it is stored as the tuple of its fields
 abbrev pub draft_code : Coded Draft
 draft_code =
     code_by (TaskValue × (Option (List ℕ) × (Option (List ℕ) × Bool)))
-    (coded× (map.code {R = bytes_cmp} (coded_list coded_ℕ) (coded_list coded_ℕ)) (coded× (coded_option (coded_list coded_ℕ)) (coded× (coded_option (coded_list coded_ℕ)) coded_bool)))
+    (coded× (map.code {R = bytes_cmp} text_code text_code) (coded× (coded_option text_code) (coded× (coded_option text_code) coded_bool)))
     (λ m. (m.task, (m.joined, (m.given, m.by_words)))) (λ p. record { task = p.0; joined = p.1.0; given = p.1.1.0; by_words = p.1.1.1 }) (λ _. refl)
 
 -- ---- dependencies
@@ -48,7 +52,7 @@ abbrev pub if_task : TasksValue → Option (List ℕ) → Option (List ℕ)
 if_task tasks None = None
 if_task tasks (Some u) = cond (is_some (get tasks u)) (Some u) None
 
--- the task that is named, where it is there
+-- the task that is named, if it is there
 abbrev pub task_named : Scene → Named → Option (List ℕ)
 task_named scene (Task u) = if_task scene.tasks (Some u)
 task_named scene (Number n) = if_task scene.tasks (uuid_of n scene.places)
@@ -56,6 +60,19 @@ task_named scene (Number n) = if_task scene.tasks (uuid_of n scene.places)
 abbrev pub task_in : Scene → Option Named → Option (List ℕ)
 task_in scene None = None
 task_in scene (Some named) = task_named scene named
+
+-- the dependency that is taken out: by a uuid also on a task that is gone
+abbrev pub named_out : Scene → Named → Option (List ℕ)
+named_out scene (Task u) = Some u
+named_out scene (Number n) = task_named scene (Number n)
+
+abbrev pub dependency_out : Scene → Option Named → Option (List ℕ)
+dependency_out scene None = None
+dependency_out scene (Some named) = named_out scene named
+
+-- the task that a part of `depends:` is about
+abbrev pub part_task : Scene → List ℕ → Option (List ℕ)
+part_task scene text = cond (takes_out text) (dependency_out scene (item_in text)) (task_in scene (item_in text))
 
 -- a property that is there with an empty value, or not there
 abbrev pub set_to : TaskValue → Bool → List ℕ → TaskValue
@@ -69,7 +86,7 @@ going_on (Some u) on = on u
 abbrev pub with_items : Scene → TaskValue → List (List ℕ) → Result TaskValue WordKind
 with_items scene task [] = Ok task
 with_items scene task (text ∷ texts) =
-    going_on (task_in scene (item_in text)) (λ u. with_items scene (set_to task (not (takes_out text)) (dependency_on u)) texts)
+    going_on (part_task scene text) (λ u. with_items scene (set_to task (not (takes_out text)) (dependency_on u)) texts)
 
 -- a task without these properties
 abbrev pub without : List (List ℕ) → TaskValue → TaskValue
@@ -100,9 +117,13 @@ abbrev pub dated : Scene → Draft → List ℕ → Result ℕ DateError → Res
 dated scene m name (Ok at) = Ok (with_task m (set_at m.task name (Some (decimal at))))
 dated scene m name (Err e) = Err bad.Date
 
+-- the task with the moment that a value says
+abbrev pub with_date : Scene → Draft → (name value : List ℕ) → Result Draft WordKind
+with_date scene m name value = dated scene m name (moment value scene.now scene.tz)
+
 abbrev pub with_value : Scene → Draft → Field → (name value : List ℕ) → Result Draft WordKind
 with_value scene m field.Description name value = Ok (given m value)
-with_value scene m field.Moment name value = dated scene m name (moment value scene.now scene.tz)
+with_value scene m field.Moment name value = with_date scene m name value
 with_value scene m field.Depends name value = draft_of m (with_items scene m.task (parts 44 value))
 with_value scene m _ name value = Ok (with_task m (set_at m.task name (Some value)))
 
@@ -135,7 +156,7 @@ abbrev pub unless_wrong : {X : Type 0} → Option WordKind → Result X WordKind
 unless_wrong None made = made
 unless_wrong (Some kind) made = Err kind
 
--- the task behind one more word, or why it is wrong
+-- the task after one more word, or why it is wrong
 abbrev pub with_word : Scene → (adding sole plain : Bool) → Draft → List ℕ → Result Draft WordKind
 with_word scene adding sole plain m word =
     unless_wrong (word_fault (Some (scene.now, scene.tz)) adding sole plain word) (tag_or_pair scene adding plain m word (tag_of plain word))
@@ -150,6 +171,10 @@ abbrev pub with_words : Scene → (sole : Bool) → Parts → Draft → ℕ → 
 with_words scene sole line m n [] = Ok m
 with_words scene sole line m n (word ∷ words) =
     going_on_behind line n (with_word scene (is_add line.command) sole (is_plain line n) m word) (λ made. with_words scene sole line made (n + 1) words)
+
+-- what the words of a line from a number on make of a task
+abbrev pub with_words_from : Scene → (sole : Bool) → Parts → Draft → ℕ → Result Draft WordError
+with_words_from scene sole line m n = with_words scene sole line m n (drop n line.words)
 
 abbrev pub with_description : TaskValue → Option (List ℕ) → TaskValue
 with_description task None = task

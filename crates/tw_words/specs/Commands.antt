@@ -2,14 +2,17 @@
 use Rattle.std.specs.Prelude.{◌≡◌, ℕ, List, [], ◌∷◌, Option, Some, map, codes}
 use Rattle.tw_time.specs.Tables.{look_up}
 use Rattle.tw_words.specs.declared.command.Command.{Command}
-use Rattle.tw_words.specs.declared.command.Command.TheVariants.{Add, Log, Modify, Append, Prepend, Annotate, Denotate, Done, Delete, Purge, Start, Stop, Duplicate, Undo, Sync, Import, Count, Ids, Uuids, Export, Information, Projects, Tags, Next, All, Completed, Waiting, Blocked, Generate}
+use Rattle.tw_words.specs.declared.command.Command.TheVariants.{Add, Log, Modify, Append, Prepend, Annotate, Denotate, Done, Delete, Purge}
+use Rattle.tw_words.specs.declared.command.Command.TheVariants.{Start, Stop, Duplicate, Undo, Sync, Import, Count, Ids, Uuids, Export}
+use Rattle.tw_words.specs.declared.command.Command.TheVariants.{Information, Projects, Tags, Next, All, Completed, Waiting, Blocked}
+use Rattle.tw_words.specs.declared.command.Command.TheVariants.{Generate}
 use Rattle.tw_words.specs.declared.command.Command.TheVariants as command
 use Rattle.tw_words.specs.declared.command.Filtering.{Filtering}
 use Rattle.tw_words.specs.declared.command.Filtering.TheVariants as filtering
 use Rattle.tw_words.specs.declared.command.Rest.{Rest}
 use Rattle.tw_words.specs.declared.command.Rest.TheVariants as rest
 
--- a command's word, whether it has a filter, and what the words behind it are
+-- a command's word, whether it has a filter, and what the words after it are
 pub record Form : Type 0 where
   pub word : List ℕ
   pub filtering : Filtering
@@ -69,6 +72,6 @@ EachWordNamesItsCommand = (command : Command) → command_named (form_of command
 abbrev pub filtering_of : Command → Filtering
 filtering_of command = (form_of command).filtering
 
--- what the words behind a command are
+-- what the words after a command are
 abbrev pub rest_of : Command → Rest
 rest_of command = (form_of command).rest

@@ -5,7 +5,7 @@ use Rattle.tw_model.specs.Maps.{same_bytes}
 use Rattle.tw_filter.specs.Cuts.{parts}
 use Rattle.tw_words.specs.Settings.{Pair, setting_in}
 
--- the value of a name behind a line, before which it had this one; a line that is no setting is passed over
+-- the value of a name after a line, before which it had this one; a line that is no setting is passed over
 abbrev pub value_with : (name : List ℕ) → Option (List ℕ) → Option (Option Pair) → Option (List ℕ)
 value_with name value None = value
 value_with name value (Some None) = value
@@ -19,7 +19,7 @@ value_behind_lines name value (line ∷ lines) = value_behind_lines name (value_
 abbrev pub location_in : List ℕ → Option (List ℕ)
 location_in settings = value_behind_lines (codes "data.location") None (parts 10 settings)
 
--- below the home folder, where that is known
+-- below the home folder, if that is known
 abbrev pub home_folder : Option (List ℕ) → List ℕ
 home_folder (Some home) = home ++ codes "/.task"
 home_folder None = codes ".task"

@@ -4,6 +4,7 @@ pub mod Settings
 pub mod Weights
 pub mod Commands
 pub mod Lines
+pub mod Places
 pub mod Modifications
 pub mod Faults
 pub mod Clocks

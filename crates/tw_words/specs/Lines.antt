@@ -1,5 +1,5 @@
 -- Command lines and their parts.
-use Rattle.std.specs.Prelude.{ℕ, ◌<◌, All, ◌+◌, cond, List, [], ◌∷◌, ◌++◌, Option, Some, None, nat_eq, nat_lt, length, drop, codes}
+use Rattle.std.specs.Prelude.{ℕ, ◌<◌, ◌≤◌, All, ◌+◌, cond, List, [], ◌∷◌, ◌++◌, Option, Some, None, nat_eq, nat_lt, length, drop, codes}
 use Rattle.std.specs.List.{starts_with}
 use Rattle.tw_model.specs.Maps.{same_bytes}
 use Rattle.tw_filter.specs.Cuts.{parted}
@@ -13,29 +13,33 @@ use Rattle.tw_words.specs.declared.command.Rest.TheVariants as rest
 -- the parts of a line
 pub record Parts : Type 0 where
   pub command : Command
-  pub place : ℕ
+  pub word_number : ℕ
   pub filter_from : ℕ
   pub filter_to : ℕ
   pub rest_from : ℕ
   pub plain_from : ℕ
   pub words : List (List ℕ)
-  pub places : List ℕ
+  pub word_numbers : List ℕ
   pub overrides : List Pair
 
--- what is taken of a line: the command, where there is one, with its place and how many words stand before it; how many words stand before
--- `--`, where there is one; words and their places; overrides
+-- what is taken of a line: the command, if there is one, with the number of its word and how many words are before it; how many words are before
+-- `--`, if there is one; words and their numbers; overrides
 pub record Taken : Type 0 where
   pub command : Option Command
-  pub place : ℕ
+  pub word_number : ℕ
   pub before : ℕ
   pub plain : Option ℕ
   pub words : List (List ℕ)
-  pub places : List ℕ
+  pub word_numbers : List ℕ
   pub overrides : List Pair
 
 -- numbers of words
 abbrev pub AreFew : List ℕ → Type 0
 AreFew ns = All (λ n. n < 18446744073709551615) ns
+
+-- the filter and the rest are among so many words, which have these numbers
+abbrev pub AreWithin : (filter_from filter_to rest_from words : ℕ) → (word_numbers : List ℕ) → Type 0
+AreWithin filter_from filter_to rest_from words word_numbers = (filter_from ≤ filter_to) × (filter_to ≤ words) × (rest_from ≤ words) × AreFew word_numbers
 
 -- the one of two that is cut nearer to the front
 abbrev pub nearer : Option Pair → Option Pair → Option Pair
@@ -43,7 +47,7 @@ nearer None y = y
 nearer (Some x) None = Some x
 nearer (Some x) (Some y) = cond (nat_lt (length x.0) (length y.0)) (Some x) (Some y)
 
--- what stands round the first `:` or `=`
+-- what is around the first `:` or `=`
 abbrev pub round_mark : List ℕ → Option Pair
 round_mark text = nearer (parted 58 text) (parted 61 text)
 
@@ -51,25 +55,57 @@ round_mark text = nearer (parted 58 text) (parted 61 text)
 unfoldable pub override_in : List ℕ → Option Pair
 override_in word = cond (starts_with nat_eq word (codes "rc.")) (round_mark (drop 3 word)) None
 
--- the command that a word names, where there is none before it
+-- the command that a word names, if there is none before it
 abbrev pub first_command : Option Command → List ℕ → Option Command
 first_command None word = command_named word
 first_command (Some c) word = None
 
-abbrev pub kept : Taken → ℕ → List ℕ → Taken
-kept t n word = record { command = t.command; place = t.place; before = t.before; plain = t.plain; words = t.words ++ word ∷ []; places = t.places ++ n ∷ []; overrides = t.overrides }
+abbrev pub taking : Taken → ℕ → List ℕ → Taken
+taking t n word = record {
+  command = t.command;
+  word_number = t.word_number;
+  before = t.before;
+  plain = t.plain;
+  words = t.words ++ word ∷ [];
+  word_numbers = t.word_numbers ++ n ∷ [];
+  overrides = t.overrides;
+}
 
 abbrev pub dashed : Taken → Taken
-dashed t = record { command = t.command; place = t.place; before = t.before; plain = Some (length t.words); words = t.words; places = t.places; overrides = t.overrides }
+dashed t = record {
+  command = t.command;
+  word_number = t.word_number;
+  before = t.before;
+  plain = Some (length t.words);
+  words = t.words;
+  word_numbers = t.word_numbers;
+  overrides = t.overrides;
+}
 
 abbrev pub named : Taken → ℕ → Command → Taken
-named t n c = record { command = Some c; place = n; before = length t.words; plain = t.plain; words = t.words; places = t.places; overrides = t.overrides }
+named t n c = record {
+  command = Some c;
+  word_number = n;
+  before = length t.words;
+  plain = t.plain;
+  words = t.words;
+  word_numbers = t.word_numbers;
+  overrides = t.overrides;
+}
 
 abbrev pub overriding : Taken → Pair → Taken
-overriding t x = record { command = t.command; place = t.place; before = t.before; plain = t.plain; words = t.words; places = t.places; overrides = t.overrides ++ x ∷ [] }
+overriding t x = record {
+  command = t.command;
+  word_number = t.word_number;
+  before = t.before;
+  plain = t.plain;
+  words = t.words;
+  word_numbers = t.word_numbers;
+  overrides = t.overrides ++ x ∷ [];
+}
 
 abbrev pub as_command : Taken → ℕ → List ℕ → Option Command → Taken
-as_command t n word None = kept t n word
+as_command t n word None = taking t n word
 as_command t n word (Some c) = named t n c
 
 abbrev pub as_override : Taken → ℕ → List ℕ → Option Pair → Taken
@@ -78,7 +114,7 @@ as_override t n word (Some x) = overriding t x
 
 abbrev pub as_word : Taken → ℕ → List ℕ → Option ℕ → Taken
 as_word t n word None = cond (same_bytes word (codes "--")) (dashed t) (as_override t n word (override_in word))
-as_word t n word (Some plain) = kept t n word
+as_word t n word (Some plain) = taking t n word
 
 -- takes one more word, which has the number n
 abbrev pub with_word : Taken → ℕ → List ℕ → Taken
@@ -89,7 +125,7 @@ taken_from t n [] = t
 taken_from t n (word ∷ words) = taken_from (with_word t n word) (n + 1) words
 
 abbrev pub nothing : Taken
-nothing = record { command = None; place = 0; before = 0; plain = None; words = []; places = []; overrides = [] }
+nothing = record { command = None; word_number = 0; before = 0; plain = None; words = []; word_numbers = []; overrides = [] }
 
 abbrev pub or_all : ℕ → Option ℕ → ℕ
 or_all all None = all
@@ -101,7 +137,17 @@ filter_end rest.Filter before all = all
 filter_end _ before all = before
 
 abbrev pub line_with : Taken → Command → (to : ℕ) → Parts
-line_with t c to = record { command = c; place = t.place; filter_from = 0; filter_to = to; rest_from = to; plain_from = or_all (length t.words) t.plain; words = t.words; places = t.places; overrides = t.overrides }
+line_with t c to = record {
+  command = c;
+  word_number = t.word_number;
+  filter_from = 0;
+  filter_to = to;
+  rest_from = to;
+  plain_from = or_all (length t.words) t.plain;
+  words = t.words;
+  word_numbers = t.word_numbers;
+  overrides = t.overrides;
+}
 
 abbrev pub line_by : Taken → Option Command → Parts
 line_by t None = line_with t Next (length t.words)

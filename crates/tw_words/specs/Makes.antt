@@ -1,13 +1,13 @@
 -- What a change of a task returned, beside what the definition gives. No public clause cites this module.
-use Rattle.std.specs.Prelude.{◌≡◌, ◌+◌, drop, Bool, ℕ, Result, Ok, Err}
+use Rattle.std.specs.Prelude.{◌≡◌, ◌+◌, Bool, ℕ, Result, Ok, Err}
 use Rattle.tw_filter.specs.declared.bad_word.WordKind.{WordKind}
 use Rattle.tw_filter.specs.Holds.{Scene}
-use Rattle.tw_words.specs.Changed.{Draft, with_words}
+use Rattle.tw_words.specs.Changed.{Draft, with_words_from}
 use Rattle.tw_words.specs.Gives.{Refuses as RefusesWords}
 use Rattle.tw_words.specs.Lines.{Parts}
 use Rattle.tw_words.specs.declared.word_error.WordError.{WordError}
-use Rattle.tw_words.specs.declared.kind_error.KindError.{KindError}
-use Rattle.tw_words.specs.declared.kind_error.KindError.TheVariants.{Bad, Memory}
+use Rattle.tw_filter.specs.declared.bad_word.KindError.{KindError}
+use Rattle.tw_filter.specs.declared.bad_word.KindError.TheVariants.{Bad, Memory}
 
 abbrev pub Refuses : {X : Type 0} → KindError → Result X WordKind → Type 0
 Refuses Memory wanted = Unit {0}
@@ -23,7 +23,7 @@ abbrev pub MakesAll : {X : Type 0} → Result (Unit {0}) WordError → Result X 
 MakesAll (Ok done) wanted made = wanted ≡ Ok made
 MakesAll (Err e) wanted made = RefusesWords e wanted
 
--- a word of a line was taken, so that those behind it are to be taken, or it is the first that is wrong, or memory ran out
+-- a word of a line was taken, and those after it are still to be taken; or it is the first that is wrong, or memory ran out
 abbrev pub Takes : Scene → (sole : Bool) → Parts → ℕ → Result (Unit {0}) WordError → (old new : Draft) → Type 0
-Takes scene sole line n (Ok done) old new = with_words scene sole line old n (drop n line.words) ≡ with_words scene sole line new (n + 1) (drop (n + 1) line.words)
-Takes scene sole line n (Err e) old new = RefusesWords e (with_words scene sole line old n (drop n line.words))
+Takes scene sole line n (Ok done) old new = with_words_from scene sole line old n ≡ with_words_from scene sole line new (n + 1)
+Takes scene sole line n (Err e) old new = RefusesWords e (with_words_from scene sole line old n)

@@ -1,5 +1,6 @@
 -- Modification words, and what is wrong with them: task(1), under "MODIFICATIONS" and "ATTRIBUTES AND METADATA".
-use Rattle.std.specs.Prelude.{ℕ, ◌+◌, ◌==◌, ◌&&◌, ◌||◌, not, nat_eq, nat_le, Bool, true, false, cond, is_some, List, [], ◌∷◌, Option, Some, None, Result, Ok, Err, length, drop, slice_index, codes}
+use Rattle.std.specs.Prelude.{ℕ, ◌+◌, ◌==◌, ◌&&◌, ◌||◌, not, nat_eq, nat_le, Bool, true, false, cond, is_some, List, [], ◌∷◌, Option, Some}
+use Rattle.std.specs.Prelude.{None, Result, Ok, Err, length, drop, slice_index, codes}
 use Rattle.std.specs.List.{list_all, starts_with}
 use Rattle.tw_time.specs.Moments.{TimeZone}
 use Rattle.tw_model.specs.Maps.{same_bytes}
@@ -10,7 +11,7 @@ use Rattle.tw_time.specs.declared.error.DateError.{DateError}
 use Rattle.tw_time.specs.declared.length.Length.{Length}
 use Rattle.tw_filter.specs.Attributes.{is_priority, pair_in}
 use Rattle.tw_filter.specs.Cuts.{parts}
-use Rattle.tw_filter.specs.Names.{uuid_of_36, number_in}
+use Rattle.tw_filter.specs.IdWords.{uuid_of_36, number_in}
 use Rattle.tw_filter.specs.Tags.{tag_in, is_virtual}
 use Rattle.tw_filter.specs.declared.bad_word.BadWord.{BadWord}
 use Rattle.tw_filter.specs.declared.bad_word.WordKind.{WordKind}
@@ -21,11 +22,11 @@ use Rattle.tw_words.specs.declared.command.Command.{Command}
 use Rattle.tw_words.specs.declared.command.Command.TheVariants.{Add}
 use Rattle.tw_words.specs.declared.command.Rest.{Rest}
 use Rattle.tw_words.specs.declared.command.Rest.TheVariants as rest
-use Rattle.tw_words.specs.declared.tally.Tally.{Tally}
-use Rattle.tw_words.specs.declared.field.Field.{Field}
-use Rattle.tw_words.specs.declared.field.Field.TheVariants as field
-use Rattle.tw_words.specs.declared.named_task.Named.{Named}
-use Rattle.tw_words.specs.declared.named_task.Named.TheVariants.{Task, Number}
+use Rattle.tw_words.specs.declared.judging.tally.Tally.{Tally}
+use Rattle.tw_words.specs.declared.changes.field.Field.{Field}
+use Rattle.tw_words.specs.declared.changes.field.Field.TheVariants as field
+use Rattle.tw_words.specs.declared.changes.depends_part.Named.{Named}
+use Rattle.tw_words.specs.declared.changes.depends_part.Named.TheVariants.{Task, Number}
 
 -- ---- words
 
@@ -80,7 +81,7 @@ item_in text = named_in (cond (takes_out text) (drop 1 text) text)
 abbrev pub are_items : List (List ℕ) → Bool
 are_items texts = list_all (λ text. is_some (item_in text)) texts
 
--- whether a word is plain text: behind `--`, and where the rest is a text
+-- whether a word is plain text: after `--`, and where the rest is a text
 abbrev pub is_text_rest : Rest → Bool
 is_text_rest rest.Text = true
 is_text_rest _ = false
@@ -203,7 +204,7 @@ tally_of line = tally_from line no_tally line.rest_from (rest_words line)
 
 -- the number of a word among the words taken
 abbrev pub number_at : Parts → ℕ → ℕ
-number_at line n = slice_index line.places n
+number_at line n = slice_index line.word_numbers n
 
 abbrev pub at_word : Parts → ℕ → Option WordKind → Option BadWord
 at_word line n None = None

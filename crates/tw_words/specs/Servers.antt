@@ -5,8 +5,8 @@ use Rattle.uuid.specs.Text.{parsed}
 use Rattle.tw_words.specs.Address.{parts_in, address_at}
 use Rattle.tw_words.specs.Lines.{parts_of_line}
 use Rattle.tw_words.specs.Settings.{Pair, settings_in, value_of}
-use Rattle.tw_words.specs.declared.address.Address.{Address}
-use Rattle.tw_words.specs.declared.server.ServerSettings.{ServerSettings}
+use Rattle.tw_words.specs.declared.settings.address.Address.{Address}
+use Rattle.tw_words.specs.declared.settings.server.ServerSettings.{ServerSettings}
 use Rattle.tw_words.specs.declared.word_error.WordError.{WordError}
 
 -- the address of the server that settings name
@@ -17,7 +17,7 @@ abbrev pub address_if_set : Result (List Pair) WordError → Option Address
 address_if_set (Ok pairs) = address_set pairs
 address_if_set (Err e) = None
 
--- the address of the server that a text of settings and the overrides of a line name, where each is a setting
+-- the address of the server that a text of settings and the overrides of a line name, if each is a setting
 abbrev pub address_in : (words : List (List ℕ)) → (settings : List ℕ) → Option Address
 address_in words settings = address_if_set (settings_in settings (parts_of_line words).overrides)
 

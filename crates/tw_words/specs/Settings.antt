@@ -1,5 +1,6 @@
 -- Settings: lines of a name and a value (taskrc(5)).
-use Rattle.std.specs.Prelude.{ℕ, ◌+◌, ◌==◌, ◌&&◌, ◌||◌, Bool, true, false, cond, is_some, List, [], ◌∷◌, ◌++◌, Option, Some, None, Result, Ok, Err, nat_eq, nat_le, length, reverse, codes}
+use Rattle.std.specs.Prelude.{ℕ, ◌+◌, ◌==◌, ◌&&◌, ◌||◌, Bool, true, false, cond, is_some, List, [], ◌∷◌, ◌++◌, Option, Some, None, Result}
+use Rattle.std.specs.Prelude.{Ok, Err, nat_eq, nat_le, length, reverse, codes}
 use Rattle.std.specs.List.{list_all, starts_with, before_first}
 use Rattle.std.specs.Str.{is_utf8}
 use Rattle.uuid.specs.Text.{parsed}
@@ -9,8 +10,8 @@ use Rattle.tw_text.specs.Decimal.{thousandths}
 use Rattle.tw_time.specs.Tables.{look_up}
 use Rattle.tw_filter.specs.Cuts.{parted, parts}
 use Rattle.tw_words.specs.Address.{parts_in}
-use Rattle.tw_words.specs.declared.known.Kind.{Kind}
-use Rattle.tw_words.specs.declared.known.Kind.TheVariants as kind
+use Rattle.tw_words.specs.declared.settings.known.Kind.{Kind}
+use Rattle.tw_words.specs.declared.settings.known.Kind.TheVariants as kind
 use Rattle.tw_words.specs.declared.word_error.WordError.{WordError}
 use Rattle.tw_words.specs.declared.word_error.WordError.TheVariants.{Setting}
 
@@ -92,11 +93,11 @@ is_readable_as (Some kind) value = is_value_of kind value
 unfoldable pub is_readable : (name value : List ℕ) → Bool
 is_readable name value = is_readable_as (look_up name known) value
 
--- whether a value may stand behind a name: none may, and one that can be read
+-- whether a value may come after a name: none may, and one that can be read
 unfoldable pub is_allowed : (name value : List ℕ) → Bool
 is_allowed name value = cond (is_include name) false ((length value == 0) || is_readable name value)
 
--- a name and its value, where the value may stand there
+-- a name and its value, where the value may be there
 abbrev pub allowed : (name value : List ℕ) → Option Pair
 allowed name value = cond (is_allowed name value) (Some (name, value)) None
 
@@ -131,7 +132,7 @@ is_set (Some x) = Some (Some x)
 unfoldable pub setting_of : List ℕ → Option (Option Pair)
 setting_of text = cond (list_all (λ b. b == 32) text) (Some None) (is_set (assigned text))
 
--- What a line sets: nothing, where it has but spaces and a comment, or a name. None where it is no setting.
+-- What a line sets: nothing, if it has but spaces and a comment, or a name. None if it is no setting.
 unfoldable pub setting_in : List ℕ → Option (Option Pair)
 setting_in line = cond (is_utf8 line) (setting_of (uncommented line)) None
 
@@ -146,12 +147,12 @@ abbrev pub going_on : {A B : Type 0} → ℕ → Option A → (A → Result B Wo
 going_on n None on = Err (Setting n)
 going_on n (Some x) on = on x
 
--- what lines set behind these settings, the first line having the number n
+-- what lines set after these settings, the first line having the number n
 abbrev pub lines_from : ℕ → List Pair → List (List ℕ) → Result (List Pair) WordError
 lines_from n pairs [] = Ok pairs
 lines_from n pairs (line ∷ lines) = going_on n (setting_in line) (λ set. lines_from (n + 1) (with_setting pairs set) lines)
 
--- what overrides set behind these settings
+-- what overrides set after these settings
 abbrev pub overridden : List Pair → List Pair → Result (List Pair) WordError
 overridden pairs [] = Ok pairs
 overridden pairs (x ∷ xs) = going_on 0 (allowed (trimmed x.0) (trimmed x.1)) (λ set. overridden (pairs ++ set ∷ []) xs)
@@ -160,11 +161,11 @@ abbrev pub then_overridden : Result (List Pair) WordError → List Pair → Resu
 then_overridden (Ok pairs) overrides = overridden pairs overrides
 then_overridden (Err e) overrides = Err e
 
--- the settings that a text and overrides give, the later behind the earlier
+-- the settings that a text and overrides give, the later after the earlier
 abbrev pub settings_in : List ℕ → List Pair → Result (List Pair) WordError
 settings_in text overrides = then_overridden (lines_from 1 [] (parts 10 text)) overrides
 
--- the value of a name behind these settings, before which it had this one
+-- the value of a name after these settings, before which it had this one
 abbrev pub value_behind : List ℕ → Option (List ℕ) → List Pair → Option (List ℕ)
 value_behind name value [] = value
 value_behind name value (x ∷ xs) = value_behind name (cond (same_bytes x.0 name) (Some x.1) value) xs

@@ -9,18 +9,18 @@ use Rattle.tw_filter.specs.declared.bad_word.WordKind.TheVariants as bad
 use Rattle.tw_filter.specs.declared.token.Token.{Token}
 use Rattle.tw_words.specs.Lines.{Parts}
 use Rattle.tw_words.specs.Commands.{rest_of}
-use Rattle.tw_words.specs.Modifications.{item_in, is_plain, is_add, tag_of, pair_of, field_named, at_word, first_of, rest_words, unless}
-use Rattle.tw_words.specs.Changed.{task_in, changed}
+use Rattle.tw_words.specs.Modifications.{is_plain, is_add, tag_of, pair_of, field_named, at_word, first_of, rest_words, unless}
+use Rattle.tw_words.specs.Changed.{part_task, changed}
 use Rattle.tw_words.specs.Faults.{judged}
 use Rattle.tw_words.specs.declared.command.Rest.TheVariants as rest
-use Rattle.tw_words.specs.declared.field.Field.{Field}
-use Rattle.tw_words.specs.declared.field.Field.TheVariants as field
+use Rattle.tw_words.specs.declared.changes.field.Field.{Field}
+use Rattle.tw_words.specs.declared.changes.field.Field.TheVariants as field
 use Rattle.tw_words.specs.declared.word_error.WordError.{WordError}
 use Rattle.tw_words.specs.declared.word_error.WordError.TheVariants.{Bad}
 
--- whether a part of `depends:` names no task
+-- whether a part of `depends:` is to name a task and names none
 abbrev pub names_none : Scene → List ℕ → Bool
-names_none scene text = is_none (task_in scene (item_in text))
+names_none scene text = is_none (part_task scene text)
 
 -- whether one of the parts does
 abbrev pub lacks_task : Scene → List (List ℕ) → Bool
@@ -65,7 +65,15 @@ abbrev pub IsRefusedAt : {X : Type 0} → Option BadWord → Result X WordError 
 IsRefusedAt {X = X} None made = (x : X) × (made ≡ Ok x)
 IsRefusedAt (Some b) made = made ≡ Err (Bad b)
 
+-- the words after the command's word are modifications
+abbrev pub IsModifying : Parts → Type 0
+IsModifying line = rest_of line.command ≡ rest.Modifications
+
+-- a line was judged, and has this filter
+abbrev pub IsJudged : Scene → Parts → List Token → Type 0
+IsJudged scene line filter = judged line scene.now scene.tz ≡ Ok filter
+
 -- words of a line that was judged are refused at the first that names no task, whatever the task is that they change, and else change it
 abbrev pub ChangesWhereNamed : Type 0
-ChangesWhereNamed = (scene : Scene) (line : Parts) (task : TaskValue) (filter : List Token) → rest_of line.command ≡ rest.Modifications → judged line scene.now scene.tz ≡ Ok filter
+ChangesWhereNamed = (scene : Scene) (line : Parts) (task : TaskValue) (filter : List Token) → IsModifying line → IsJudged scene line filter
     → IsRefusedAt (first_unnamed scene line) (changed scene line task)

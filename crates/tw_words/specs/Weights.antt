@@ -1,7 +1,8 @@
 -- The weights that settings give: taskrc(5), under "URGENCY".
-use Rattle.std.specs.Prelude.{ℕ, ℤ, cond, pos, neg_ℤ, List, Option, Some, None, codes}
+use Rattle.std.specs.Prelude.{ℕ, ℤ, cond, List, Option, Some, None, codes}
 use Rattle.tw_text.specs.Natural.{natural}
 use Rattle.tw_text.specs.Decimal.{thousandths}
+use Rattle.tw_urgency.specs.Urgency.{defaults}
 use Rattle.tw_urgency.specs.declared.coefficients.Coefficients.{Coefficients}
 use Rattle.tw_words.specs.Settings.{Pair, from_1_to, value_of}
 
@@ -29,22 +30,26 @@ number_read_or most default (Some text) = number_or most default (natural text)
 abbrev pub number_of : List ℕ → ℕ → ℕ → List Pair → ℕ
 number_of name most default pairs = number_read_or most default (value_of name pairs)
 
--- the weights
-abbrev pub weights : List Pair → Coefficients
-weights pairs = record {
-  tag_next = coefficient (codes "urgency.user.tag.next.coefficient") (pos 15_000) pairs;
-  due = coefficient (codes "urgency.due.coefficient") (pos 12_000) pairs;
-  blocking = coefficient (codes "urgency.blocking.coefficient") (pos 8_000) pairs;
-  high = coefficient (codes "urgency.uda.priority.H.coefficient") (pos 6_000) pairs;
-  medium = coefficient (codes "urgency.uda.priority.M.coefficient") (pos 3_900) pairs;
-  low = coefficient (codes "urgency.uda.priority.L.coefficient") (pos 1_800) pairs;
-  scheduled = coefficient (codes "urgency.scheduled.coefficient") (pos 5_000) pairs;
-  active = coefficient (codes "urgency.active.coefficient") (pos 4_000) pairs;
-  age = coefficient (codes "urgency.age.coefficient") (pos 2_000) pairs;
-  annotations = coefficient (codes "urgency.annotations.coefficient") (pos 1_000) pairs;
-  tags = coefficient (codes "urgency.tags.coefficient") (pos 1_000) pairs;
-  project = coefficient (codes "urgency.project.coefficient") (pos 1_000) pairs;
-  blocked = coefficient (codes "urgency.blocked.coefficient") (neg_ℤ (pos 5_000)) pairs;
-  waiting = coefficient (codes "urgency.waiting.coefficient") (neg_ℤ (pos 3_000)) pairs;
-  age_max = number_of (codes "urgency.age.max") 100_000 365 pairs;
+-- the weights, each the usual one if no other is set
+abbrev pub weights_over : (usual : Coefficients) → List Pair → Coefficients
+weights_over usual pairs = record {
+  tag_next = coefficient (codes "urgency.user.tag.next.coefficient") usual.tag_next pairs;
+  due = coefficient (codes "urgency.due.coefficient") usual.due pairs;
+  blocking = coefficient (codes "urgency.blocking.coefficient") usual.blocking pairs;
+  high = coefficient (codes "urgency.uda.priority.H.coefficient") usual.high pairs;
+  medium = coefficient (codes "urgency.uda.priority.M.coefficient") usual.medium pairs;
+  low = coefficient (codes "urgency.uda.priority.L.coefficient") usual.low pairs;
+  scheduled = coefficient (codes "urgency.scheduled.coefficient") usual.scheduled pairs;
+  active = coefficient (codes "urgency.active.coefficient") usual.active pairs;
+  age = coefficient (codes "urgency.age.coefficient") usual.age pairs;
+  annotations = coefficient (codes "urgency.annotations.coefficient") usual.annotations pairs;
+  tags = coefficient (codes "urgency.tags.coefficient") usual.tags pairs;
+  project = coefficient (codes "urgency.project.coefficient") usual.project pairs;
+  blocked = coefficient (codes "urgency.blocked.coefficient") usual.blocked pairs;
+  waiting = coefficient (codes "urgency.waiting.coefficient") usual.waiting pairs;
+  age_max = number_of (codes "urgency.age.max") 100_000 usual.age_max pairs;
 }
+
+-- the weights, by the defaults of taskrc(5)
+abbrev pub weights : List Pair → Coefficients
+weights pairs = weights_over defaults pairs

@@ -13,7 +13,7 @@ pub enum Command {
     Log,
     /// Changes properties.
     Modify,
-    /// Puts a text behind the description.
+    /// Puts a text after the description.
     Append,
     /// Puts a text before the description.
     Prepend,
@@ -72,7 +72,7 @@ pub enum Command {
 /// Whether a command has a filter: task(1), under "FILTER".
 #[derive(Clone, Copy, Drop)]
 pub enum Filtering {
-    /// No word may stand before the command.
+    /// No word may come before the command.
     Nothing,
     /// Words may. Without one the command is about all tasks.
     Free,
@@ -80,7 +80,7 @@ pub enum Filtering {
     Needed,
 }
 
-/// What the words behind a command are.
+/// What the words after a command are.
 #[derive(Clone, Copy, Drop)]
 pub enum Rest {
     /// More of the filter.
@@ -89,65 +89,13 @@ pub enum Rest {
     Modifications,
     /// A text.
     Text,
-    /// No word may stand there.
+    /// No word may be there.
     Nothing,
     /// At most one `-`, which is standard input.
     Dash,
     /// Two numbers.
     Numbers,
 }
-
-// What stands round a command's word.
-#[derive(Clone, Copy)]
-struct Form {
-    filtering: Filtering,
-    rest: Rest,
-}
-
-const ADDS: Form = Form {
-    filtering: Filtering::Nothing,
-    rest: Rest::Modifications,
-};
-
-const CHANGES: Form = Form {
-    filtering: Filtering::Needed,
-    rest: Rest::Modifications,
-};
-
-const TAKES_TEXT: Form = Form {
-    filtering: Filtering::Needed,
-    rest: Rest::Text,
-};
-
-const ACTS: Form = Form {
-    filtering: Filtering::Needed,
-    rest: Rest::Nothing,
-};
-
-const STANDS_ALONE: Form = Form {
-    filtering: Filtering::Nothing,
-    rest: Rest::Nothing,
-};
-
-const READS: Form = Form {
-    filtering: Filtering::Nothing,
-    rest: Rest::Dash,
-};
-
-const MAKES: Form = Form {
-    filtering: Filtering::Nothing,
-    rest: Rest::Numbers,
-};
-
-const SHOWS: Form = Form {
-    filtering: Filtering::Free,
-    rest: Rest::Filter,
-};
-
-const DESCRIBES: Form = Form {
-    filtering: Filtering::Needed,
-    rest: Rest::Filter,
-};
 
 // The words of commands.
 const COMMANDS: [(&str, Command); 30] = [
@@ -192,18 +140,21 @@ pub(crate) fn command_named(word: &str) -> Option<Command>
 }
 
 impl Command {
-    fn form(self) -> Form
-        ensures { result ≡ record { filtering = filtering_of self; rest = rest_of self } }
+    // Whether it has a filter, and what the words after it are.
+    fn form(self) -> (Filtering, Rest)
+        ensures { result ≡ (filtering_of self, rest_of self) }
     {
         match self {
-            Command::Add | Command::Log => ADDS,
-            Command::Modify | Command::Duplicate => CHANGES,
-            Command::Append | Command::Prepend | Command::Annotate | Command::Denotate =>
-                TAKES_TEXT,
-            Command::Done | Command::Delete | Command::Purge | Command::Start | Command::Stop =>
-                ACTS,
-            Command::Undo | Command::Sync => STANDS_ALONE,
-            Command::Import => READS,
+            Command::Add | Command::Log => (Filtering::Nothing, Rest::Modifications),
+            Command::Modify | Command::Duplicate => (Filtering::Needed, Rest::Modifications),
+            Command::Append | Command::Prepend | Command::Annotate | Command::Denotate => {
+                (Filtering::Needed, Rest::Text)
+            }
+            Command::Done | Command::Delete | Command::Purge | Command::Start | Command::Stop => {
+                (Filtering::Needed, Rest::Nothing)
+            }
+            Command::Undo | Command::Sync => (Filtering::Nothing, Rest::Nothing),
+            Command::Import => (Filtering::Nothing, Rest::Dash),
             Command::Count
             | Command::Ids
             | Command::Uuids
@@ -215,9 +166,9 @@ impl Command {
             | Command::All
             | Command::Completed
             | Command::Waiting
-            | Command::Blocked => SHOWS,
-            Command::Information => DESCRIBES,
-            Command::Generate => MAKES,
+            | Command::Blocked => (Filtering::Free, Rest::Filter),
+            Command::Information => (Filtering::Needed, Rest::Filter),
+            Command::Generate => (Filtering::Nothing, Rest::Numbers),
         }
     }
 
@@ -225,13 +176,13 @@ impl Command {
     pub fn filtering(self) -> Filtering
         ensures { result ≡ filtering_of self }
     {
-        self.form().filtering
+        self.form().0
     }
 
-    /// What the words behind it are.
+    /// What the words after it are.
     pub fn rest(self) -> Rest
         ensures { result ≡ rest_of self }
     {
-        self.form().rest
+        self.form().1
     }
 }

@@ -1,19 +1,26 @@
 // The first word of a line that is wrong.
 ghost use Rattle.std.specs.Prelude.{◌≡◌, ◌<◌, map, string_bytes, option_copied};
-ghost use Rattle.tw_words.specs.Modifications.{first_of};
+ghost use Rattle.tw_words.specs.Modifications.{first_of, text_fault};
 ghost use Rattle.tw_words.specs.Clocks.{clock_of};
 ghost use Rattle.tw_words.specs.Commands.{filtering_of, rest_of};
-ghost use Rattle.tw_words.specs.Faults.{filter_fault, lacks_change, lacks_by, lacks_filter, at_command, lack_fault, at_rest, if_there, no_dash, no_amount, no_seed, extra_at, dash_fault, numbers_fault, rest_fault, fault_of, line_in, placed, placed_filter, filter_by, judged};
+ghost use Rattle.tw_words.specs.Faults.{filter_fault, lacks_change, lacks_by, lacks_filter, at_command, lack_fault, at_rest, if_there};
+ghost use Rattle.tw_words.specs.Faults.{no_dash, no_amount, no_seed, extra_at, dash_fault, numbers_fault, text_rest_fault};
+ghost use Rattle.tw_words.specs.Faults.{rest_fault, fault_of, line_in};
+ghost use Rattle.tw_words.specs.Faults.{numbered, filter_of_words, filter_by, judged};
 ghost use Rattle.tw_filter.specs.Gives.{Gives as GivesFilter};
 ghost use Rattle.tw_filter.specs.Grammar.{filter_in};
 ghost use Rattle.tw_words.specs.Gives.{Gives};
 
+pub(crate) mod fault;
+pub(crate) mod tally;
+pub(crate) mod unnamed;
+
+use crate::changes::modification::number_at;
 use crate::clock::Clock;
 use crate::command::{Command, Filtering, Rest};
-use crate::fault::{at_word, first_fault, unless};
+use crate::judging::fault::{at_word, first_fault, text_fault, unless};
+use crate::judging::tally::{Tally, tally_of};
 use crate::line::{Line, cut_words};
-use crate::modification::number_at;
-use crate::tally::{Tally, tally_of};
 use crate::word_error::WordError;
 use std::alloc::Global;
 use tw_filter::{BadWord, Filter, FilterError, WordKind, read_filter};
@@ -52,7 +59,7 @@ fn lacks_change(command: Command, few: bool, tally: Tally) -> bool
     }
 }
 
-// Whether a word is missing behind the command's word.
+// Whether a word is missing after the command's word.
 fn lacks_word(line: &Line) -> bool
     ensures { result ≡ lacks_by (rest_of line.now.command) line.now }
 {
@@ -81,7 +88,7 @@ fn at_command(line: &Line, kind: WordKind) -> Option<BadWord>
     ensures { result ≡ at_command line.now kind }
 {
     Some(BadWord {
-        word: line.place,
+        word: line.word_number,
         kind,
     })
 }
@@ -136,7 +143,7 @@ fn no_seed(word: Option<&str>) -> Option<WordKind>
     }
 }
 
-// A word that stands where none may.
+// A word that is where none may.
 fn extra_at(line: &Line, k: u64) -> Option<BadWord>
     requires { k < 3 }
     ensures { result ≡ extra_at line.now k }
@@ -164,12 +171,30 @@ fn numbers_fault(line: &Line) -> Option<BadWord>
     first_of(at_rest(line, 0, no_amount(line.rest_word(0))), behind)
 }
 
-// The first word behind the command's word that is wrong.
+fn no_text(sole: bool, word: Option<&str>) -> Option<WordKind>
+    ensures { result ≡ if_there (text_fault sole) (option_copied word.entry) }
+{
+    match word {
+        Some(word) => text_fault(sole, word),
+        None => None,
+    }
+}
+
+// What comes after `append` and its kin is a text that is not empty.
+fn text_rest_fault(line: &Line) -> Option<BadWord>
+    ensures { result ≡ text_rest_fault line.now }
+{
+    let sole = line.rest_word(1).is_none();
+    at_rest(line, 0, no_text(sole, line.rest_word(0)))
+}
+
+// The first word after the command's word that is wrong.
 fn rest_fault(clock: Option<Clock<'_>>, line: &Line) -> Option<BadWord>
     ensures { result ≡ rest_fault (clock_of clock.entry) line.now }
 {
     match line.command.rest() {
         Rest::Modifications => first_fault(clock, tally_of(line).texts == 1, line),
+        Rest::Text => text_rest_fault(line),
         Rest::Nothing => extra_at(line, 0),
         Rest::Dash => dash_fault(line),
         Rest::Numbers => numbers_fault(line),
@@ -199,8 +224,8 @@ pub fn read_line(alloc: Global, words: &Vec<String>) -> Result<Line, WordError>
 }
 
 // A bad word of the filter, by its number among the words taken.
-fn placed(line: &Line, bad: BadWord) -> BadWord
-    ensures { result ≡ placed line.now bad }
+fn numbered(line: &Line, bad: BadWord) -> BadWord
+    ensures { result ≡ numbered line.now bad }
 {
     let word = match bad.kind {
         WordKind::End => number_at(line, line.filter_to.saturating_sub(1)) + 1,
@@ -214,7 +239,7 @@ fn placed(line: &Line, bad: BadWord) -> BadWord
 
 // The filter of the words before the command's word, or of all.
 fn filter_in(alloc: Global, line: &Line, now: Moment, zone: &Zone) -> Result<Filter, FilterError>
-    ensures { GivesFilter (λ filter. filter) result (placed_filter line.now (filter_in line.now.words line.now.filter_from line.now.filter_to line.now.plain_from now.seconds zone.now)) }
+    ensures { GivesFilter (λ filter. filter) result (filter_of_words line.now now.seconds zone.now) }
 {
     match read_filter(
         alloc,
@@ -226,7 +251,7 @@ fn filter_in(alloc: Global, line: &Line, now: Moment, zone: &Zone) -> Result<Fil
         zone,
     ) {
         Ok(filter) => Ok(filter),
-        Err(FilterError::Bad(bad)) => Err(FilterError::Bad(placed(line, bad))),
+        Err(FilterError::Bad(bad)) => Err(FilterError::Bad(numbered(line, bad))),
         Err(FilterError::Memory) => Err(FilterError::Memory),
     }
 }

@@ -6,7 +6,15 @@ ghost use Rattle.tw_words.specs.Gives.{Gives};
 ghost use Rattle.tw_words.specs.Makes.{MakesAll};
 ghost use Rattle.tw_words.specs.Settings.{with_setting, lines_from, overridden, settings_in, value_of};
 
-use crate::setting::{allowed, cut_line, setting_in, trimmed};
+pub(crate) mod address;
+pub(crate) mod folder;
+pub(crate) mod known;
+pub(crate) mod pair;
+pub(crate) mod server;
+pub(crate) mod switches;
+pub(crate) mod weights;
+
+use crate::settings::pair::{allowed, cut_line, setting_in, trimmed};
 use crate::word_error::WordError;
 use std::alloc::Global;
 use std::marker::Model;
@@ -90,7 +98,7 @@ fn read_overrides(
 }
 
 /// The settings that lines and overrides give, or the first that is no setting: a line by its number from 1, and an override, which is
-/// judged behind all lines, by 0. A name that is not known has no effect. `include` is no setting.
+/// judged after all lines, by 0. A name that is not known has no effect. `include` is no setting.
 pub fn read_settings(
     alloc: Global,
     bytes: &[u8],

@@ -1,6 +1,6 @@
 -- How a run of calls on one object goes on, whatever the object.
 use Rattle.std.proofs.Common.{◌≡◌, inl, inr, ⊎_elim, ℕ, ◌≤◌, arith, sym, subst, ◌∙◌}
-use Rattle.tw_world.specs.Crash.{CrashModel, Tells, Settled, Steps, Reads, LeavesOnly}
+use Rattle.tw_world.specs.Crash.{CrashModel, Tells, IsStable, Steps, Reads, LeavesOnly}
 
 -- the laws that the rules below need
 abbrev pub CountsNow : {O C : Type 0} → CrashModel O C → Type 0
@@ -48,7 +48,7 @@ module _ {O C : Type 0} (m : CrashModel O C) where
   }
 
   -- what is read of a settled object is all that a read leaves, too
-  pub still_settled : (old new : O) → Tells m old → Settled m old → Reads m old new → Settled m new
+  pub still_settled : (old new : O) → Tells m old → IsStable m old → Reads m old new → IsStable m new
   still_settled old new tells settled call = λ c left.
       let from = call.steps.images tells c left in
       from.2 ∙ settled from.0 from.1 ∙ sym (call.seen tells)

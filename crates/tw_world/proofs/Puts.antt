@@ -92,7 +92,7 @@ found_more name puts i p o lt is = ap (λ (l : List Put). last_put name l o) (dr
 pub named_more : (puts : List Put) (i : ℕ) (p : Put) → i < length puts → p ≡ get_or puts i p → keys (after empty (take (i + 1) puts)) ≡ add_name (string_bytes p.0) (keys (after empty (take i puts)))
 named_more puts i p lt is = ap (λ (l : List Put). keys (after empty l)) (take_more puts i p lt ∙ ap (λ (q : Put). take i puts ++ q ∷ []) (sym is)) ∙ ap keys (after-push (take i puts) empty p) ∙ keys-insert (after empty (take i puts)) (string_bytes p.0) p.1.items
 
--- the comparison with the name at a place
+-- the comparison with the name at an index
 pub compared_at : (names : List (String Global)) (i : ℕ) (s : String Global) (k : List ℕ) (o : Ordering) → i < length names → s ≡ get_or names i s → o ≡ bytes_cmp k (string_bytes s) → bytes_cmp k (slice_index_or (map string_bytes names) i []) ≡ o
 compared_at names i s k o lt is cmp = ap (bytes_cmp k) (get_or-map string_bytes names i s [] lt ∙ ap string_bytes (sym is)) ∙ sym cmp
 

@@ -3,7 +3,7 @@ use Rattle.std.specs.Prelude.{ℕ, ◌+◌, ◌-◌, ◌^◌, min, Bool, ◌==�
 use Rattle.std.specs.List.{list_any}
 use Rattle.tw_world.specs.declared.calls.Calls.{Calls}
 
--- a count that stands still at the end of its type
+-- one more, up to the end of its type
 abbrev pub next_count : ℕ → ℕ
 next_count n = min (n + 1) (2 ^ 64 - 1)
 

@@ -36,15 +36,21 @@ memory_folder_model = record {
 }
 
 pub folder_counts_now : (folder : MemoryFolder) (t : ℕ) (c : Files) → t ≤ length folder.puts.items → c ≡ held_files folder → left_by folder.puts.items t c
-folder_counts_now folder t c le same = (length folder.puts.items, le, omega arith, same ∙ ap (after empty) (sym (take_all (length folder.puts.items) folder.puts.items (omega arith))))
+folder_counts_now folder t c le same =
+    let puts = folder.puts.items in
+    (length puts, le, omega arith, same ∙ ap (after empty) (sym (take_all (length puts) puts (omega arith))))
 
 pub folder_only_now : (folder : MemoryFolder) (c : Files) → left_by folder.puts.items (length folder.puts.items) c → c ≡ held_files folder
 folder_only_now folder c (k, le, more, is) = is ∙ ap (after empty) (take_all k folder.puts.items le)
 
+-- the bytes of a file that was put under this name, or else those that were found before
+abbrev pub newer : List ℕ → Put → Option (List ℕ) → Option (List ℕ)
+newer name p found = cond (same_bytes name (string_bytes p.0)) (Some p.1.items) found
+
 -- the bytes that were put last under a name
 abbrev pub last_put : List ℕ → List Put → Option (List ℕ) → Option (List ℕ)
 last_put name [] so_far = so_far
-last_put name (p ∷ puts) so_far = last_put name puts (cond (same_bytes name (string_bytes p.0)) (Some p.1.items) so_far)
+last_put name (p ∷ puts) so_far = last_put name puts (newer name p so_far)
 
 -- one file more was put
 pub record IsPut (name bytes : List ℕ) (old new : List Put) : Type 0 where
@@ -60,6 +66,10 @@ folder_calls f = f.calls.made
 -- the numbers of the calls that are to fail
 abbrev pub folder_fails : MemoryFolder → List ℕ
 folder_fails f = f.calls.fails.items
+
+-- a new folder, with these files, and whose calls with these numbers are to fail
+abbrev pub IsNewFolder : List Put → (fails : List ℕ) → MemoryFolder → Type 0
+IsNewFolder content fails f = (held_files f ≡ after empty content) × (folder_calls f ≡ 0) × (folder_fails f ≡ fails) × (memory_folder_model.faults f ≡ 0)
 
 -- is the next call one that is to fail?
 abbrev pub folder_due : MemoryFolder → Bool

@@ -1,5 +1,5 @@
 -- A peer in memory.
-use Rattle.std.specs.Prelude.{◌≡◌, ℕ, Bool, List, true, drop}
+use Rattle.std.specs.Prelude.{◌≡◌, ℕ, Bool, List, [], true, drop}
 use Rattle.tw_world.specs.Peer.{PeerModel}
 use Rattle.tw_world.specs.Calls.{is_to_fail, counted, failed}
 use Rattle.tw_world.specs.declared.memory_peer.MemoryPeer.{MemoryPeer}
@@ -22,6 +22,10 @@ peer_calls p = p.calls.made
 -- the numbers of the calls that are to fail
 abbrev pub peer_fails : MemoryPeer → List ℕ
 peer_fails p = p.calls.fails.items
+
+-- a new peer, that gives these bytes and got none, and whose calls with these numbers are to fail
+abbrev pub IsNewPeer : (content fails : List ℕ) → MemoryPeer → Type 0
+IsNewPeer content fails p = (peer_rest p ≡ content) × (peer_bytes p ≡ []) × (peer_calls p ≡ 0) × (peer_fails p ≡ fails) × (memory_peer_model.faults p ≡ 0)
 
 -- is the next call one that is to fail?
 abbrev pub peer_due : MemoryPeer → Bool

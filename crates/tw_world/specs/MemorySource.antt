@@ -19,6 +19,10 @@ source_calls s = s.calls.made
 abbrev pub source_fails : MemorySource → List ℕ
 source_fails s = s.calls.fails.items
 
+-- a new source, that gives these bytes, and whose calls with these numbers are to fail
+abbrev pub IsNewSource : (content fails : List ℕ) → MemorySource → Type 0
+IsNewSource content fails s = (source_rest s ≡ content) × (source_calls s ≡ 0) × (source_fails s ≡ fails) × (memory_source_model.faults s ≡ 0)
+
 -- is the next call one that is to fail?
 abbrev pub source_due : MemorySource → Bool
 source_due s = is_to_fail (source_fails s) (source_calls s)

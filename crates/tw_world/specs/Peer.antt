@@ -1,4 +1,4 @@
--- What the other end of a line still gives, and what it got, where it tells it.
+-- What the other end of a line still gives, and what it got, if it tells it.
 use Rattle.std.specs.Prelude.{◌≡◌, ℕ, Bool, IsTrue, List}
 use Rattle.tw_world.specs.Source.{SourceModel}
 use Rattle.tw_world.specs.Sink.{SinkModel}

@@ -1,4 +1,4 @@
--- What a source still has to give, where it tells it.
+-- What a source still has to give, if it tells it.
 use Rattle.std.specs.Prelude.{◌≡◌, ◌≤◌, ℕ, Bool, IsTrue, List, [], length, take, drop}
 
 pub record SourceModel (S : Type 0) : Type 1 where
@@ -17,7 +17,7 @@ pub record SourceKept {S : Type 0} (m : SourceModel S) (old new : S) : Type 0 wh
   pub faults : m.faults old ≤ m.faults new
   pub tells : m.tells new ≡ m.tells old
 
--- the first so many of the bytes were read into the front of a buffer: none only where there were none
+-- the first so many of the bytes were read into the front of a buffer: none only if there were none
 pub record IsFront (before after buffer : List ℕ) (count : ℕ) : Type 0 where
   pub bytes : take count buffer ≡ take count before
   pub rest : after ≡ drop count before

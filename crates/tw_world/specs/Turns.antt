@@ -15,4 +15,5 @@ pub data InTurns {A B X Y : Type 0} (m : CrashModel A X) (n : CrashModel B Y) (P
   -- the first moves, and then the rest
   first : (a mid : A) (b : B) (a' : A) (b' : B) → LeavesOnly m a mid (λ x. (y : Y) → n.leaves b y → P x y) → InTurns m n P mid b a' b' → InTurns m n P a b a' b'
   -- the second moves, and then the rest
-  second : (a : A) (b mid : B) (a' : A) (b' : B) → LeavesOnly n b mid (λ y. (x : X) → m.leaves a x → P x y) → InTurns m n P a mid a' b' → InTurns m n P a b a' b'
+  second : (a : A) (b mid : B) (a' : A) (b' : B) → LeavesOnly n b mid (λ y. (x : X) → m.leaves a x → P x y)
+      → InTurns m n P a mid a' b' → InTurns m n P a b a' b'

@@ -37,8 +37,8 @@ impl Drop for Entry {
     }
 }
 
-// Adds a change to the log, or nothing where there is no room.
-pub(crate) fn put(log: &mut Vec<Entry>, call: u64, change: Change) -> Result<(), DiskError>
+// Adds a change to the log, or nothing if there is no room.
+pub fn put(log: &mut Vec<Entry>, call: u64, change: Change) -> Result<(), DiskError>
     ensures added { OnOk result (log.new.items ≡ log.old.items ++ (record { call = call; change = change }) ∷ []) }
     ensures same { IfErr result (λ e. (e ≡ DiskError.Failed) × (log.new.items ≡ log.old.items)) }
 {
@@ -49,7 +49,7 @@ pub(crate) fn put(log: &mut Vec<Entry>, call: u64, change: Change) -> Result<(),
 }
 
 // The image after one change more, and what is read then.
-pub(crate) fn next_image(
+pub fn next_image(
     alloc: Global,
     change: &Change,
     seen: &mut Vec<u8>,
@@ -86,7 +86,7 @@ pub(crate) fn next_image(
 }
 
 // Makes room for so many bytes.
-pub(crate) fn make_room(bytes: &mut Vec<u8>, len: usize) -> Result<(), DiskError>
+pub fn make_room(bytes: &mut Vec<u8>, len: usize) -> Result<(), DiskError>
     ensures room { OnOk result (len ≤ vec_capacity bytes.new) }
     ensures same { bytes.new.items ≡ bytes.old.items }
     ensures failed { IfErr result (λ e. e ≡ DiskError.Failed) }
@@ -102,7 +102,7 @@ pub(crate) fn make_room(bytes: &mut Vec<u8>, len: usize) -> Result<(), DiskError
 }
 
 // Cuts the bytes, or adds zeros for which there is room.
-pub(crate) fn resize(bytes: &mut Vec<u8>, len: usize)
+pub fn resize(bytes: &mut Vec<u8>, len: usize)
     requires { len ≤ vec_capacity bytes.old }
     ensures { bytes.new.items ≡ resized len bytes.old.items }
 {
@@ -110,7 +110,7 @@ pub(crate) fn resize(bytes: &mut Vec<u8>, len: usize)
 }
 
 // Writes over a part.
-pub(crate) fn overwrite(bytes: &mut Vec<u8>, at: usize, part: &[u8])
+pub fn overwrite(bytes: &mut Vec<u8>, at: usize, part: &[u8])
     requires { at + length part.now ≤ length bytes.old.items }
     ensures { bytes.new.items ≡ overwritten at part.now bytes.old.items }
 {

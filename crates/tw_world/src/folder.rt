@@ -1,10 +1,10 @@
 // A folder.
-ghost use Rattle.std.specs.Prelude.{◌≡◌, ◌≤◌, List, ℕ, map, true, option_map, IfOk, IfErr, OnOk, OnErr, IsErrOf};
+ghost use Rattle.std.specs.Prelude.{◌≡◌, ◌≤◌, List, ℕ, map, true, IfOk, IfErr, OnOk, OnErr, IsErrOf};
 ghost use Rattle.std.specs.String.{string_bytes};
-ghost use Rattle.std.specs.FinMap.{get, insert, keys};
+ghost use Rattle.std.specs.FinMap.{keys};
 ghost use Rattle.tw_world.specs.Disk.{Rose};
-ghost use Rattle.tw_world.specs.Crash.{Tells, Settled, Steps, Reads};
-ghost use Rattle.tw_world.specs.Folder.{FolderModel, Files, Replaced, is_file_name};
+ghost use Rattle.tw_world.specs.Crash.{Tells, IsStable, Steps, Reads};
+ghost use Rattle.tw_world.specs.Folder.{FolderModel, Files, Replaced, HasFile, HasPut, HasPutOrNot, is_file_name};
 
 use std::alloc::Global;
 
@@ -31,19 +31,19 @@ pub trait Folder {
         ensures reads { Reads model self.old self.new }
         ensures failed { IsErrOf result FolderError.Failed → Rose (model.faults self.old) (model.faults self.new) };
 
-    /// The bytes of a file, or `None` where there is none of that name.
+    /// The bytes of a file, or `None` if there is none of that name.
     fn read(&mut self, alloc: Global, name: &str) -> Result<Option<Vec<u8>>, FolderError>
         requires { is_file_name name.now ≡ true }
-        ensures bytes { IfOk result (λ file. Tells model self.old → option_map (λ bytes. bytes.items) file ≡ get (model.seen self.old) name.now) }
+        ensures bytes { IfOk result (HasFile model self.old name.now) }
         ensures reads { Reads model self.old self.new }
         ensures failed { IsErrOf result FolderError.Failed → Rose (model.faults self.old) (model.faults self.new) };
 
     /// Gives a file these bytes, whether it was there or not.
     fn replace(&mut self, name: &str, bytes: &[u8]) -> Result<(), FolderError>
         requires { is_file_name name.now ≡ true }
-        ensures replaced { OnOk result (Tells model self.old → model.seen self.new ≡ insert (model.seen self.old) name.now bytes.now) }
-        ensures settled { OnOk result (Tells model self.old → Settled model self.new) }
-        ensures all_or_nothing { Tells model self.old → Replaced name.now bytes.now (model.seen self.old) (model.seen self.new) }
+        ensures replaced { OnOk result (HasPut model self.old self.new name.now bytes.now) }
+        ensures settled { OnOk result (Tells model self.old → IsStable model self.new) }
+        ensures all_or_nothing { HasPutOrNot model self.old self.new name.now bytes.now }
         ensures steps { Steps model (Replaced name.now bytes.now) self.old self.new }
         ensures failed { IfErr result (λ e. (e ≡ FolderError.Failed) × Rose (model.faults self.old) (model.faults self.new)) };
 

@@ -3,7 +3,7 @@ ghost use Rattle.std.specs.Prelude.{◌≡◌, ◌+◌, ◌/◌, ◌%◌, ◌^�
 ghost use Rattle.std.specs.Int.{from_be_bytes, w128};
 ghost use Rattle.tw_world.specs.Ids.{id_bytes};
 
-/// What the identifiers of a run are drawn from: a place on a circle of 2^128 places, and an odd step.
+/// What the identifiers of a run are drawn from: a point on a circle of 2^128 points, and an odd step.
 #[derive(Drop)]
 pub struct IdWords {
     pub start: u128,

@@ -1,6 +1,6 @@
 //! What the program asks of the outside: disks, folders, streams, moments and drawn identifiers.
 //! Each trait says what its object holds, what a crash may leave of it and how often it has failed; objects in memory meet it.
-//! It stands on the kit's `arrayvec`, which holds short texts.
+//! It uses the kit's `arrayvec`, which holds short texts.
 #![tactic(auto)]
 
 mod calls;

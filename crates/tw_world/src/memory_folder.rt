@@ -1,13 +1,12 @@
 // A folder in memory. It keeps each file that was put into it, so that it tells what a crash could leave at any moment.
-ghost use Rattle.std.specs.List.{insert as insert_at};
-ghost use Rattle.std.specs.Prelude.{length, cond, Some, ◌≡◌, ◌≤◌, ◌∷◌, ◌++◌, [], true, map, option_map, List, ℕ, IfOk, IfErr, OnOk, OnErr, IsErrOf};
+ghost use Rattle.std.specs.Prelude.{length, ◌≡◌, ◌≤◌, ◌∷◌, ◌++◌, [], true, map, option_map, List, ℕ, IfOk, IfErr, OnOk, OnErr, IsErrOf};
 ghost use Rattle.std.specs.String.{string_bytes};
-ghost use Rattle.std.specs.FinMap.{get, insert, keys, empty};
+ghost use Rattle.std.specs.FinMap.{keys, empty};
 ghost use Rattle.tw_world.specs.Disk.{Rose};
-ghost use Rattle.tw_world.specs.Crash.{Tells, Settled, Steps, Reads};
-ghost use Rattle.tw_world.specs.Folder.{bytes_cmp, same_bytes, add_name, Replaced, is_file_name};
+ghost use Rattle.tw_world.specs.Crash.{Tells, IsStable, Steps, Reads};
+ghost use Rattle.tw_world.specs.Folder.{bytes_cmp, add_name, GoesTo, Replaced, HasFile, HasPut, HasPutOrNot, is_file_name};
 ghost use Rattle.tw_world.specs.Calls.{next_count};
-ghost use Rattle.tw_world.specs.MemoryFolder.{after, last_put, IsPut};
+ghost use Rattle.tw_world.specs.MemoryFolder.{after, newer, last_put, IsPut};
 
 use crate::calls::Calls;
 use crate::{Folder, FolderError, Memory};
@@ -34,15 +33,15 @@ impl Drop for MemoryFolder {
 }
 
 impl MemoryFolder {
-    ghost use Rattle.tw_world.specs.MemoryFolder.{memory_folder_model, held_files, folder_calls, folder_fails, after};
+    ghost use Rattle.tw_world.specs.MemoryFolder.{IsNewFolder};
 
-    /// A folder with these files, by their names; where a name stands twice the later one counts. It needs no memory of its own.
+    /// A folder with these files, by their names; if a name is there twice the later one counts. It needs no memory of its own.
     pub fn new(
         alloc: Global,
         content: Vec<(String, Vec<u8>)>,
         fails: Vec<u64>,
     ) -> Result<MemoryFolder, Memory>
-        ensures { IfOk result (λ folder. (held_files folder ≡ after empty content.items) × (folder_calls folder ≡ 0) × (folder_fails folder ≡ fails.items) × (memory_folder_model.faults folder ≡ 0)) }
+        ensures { IfOk result (IsNewFolder content.items fails.items) }
     {
         Ok(MemoryFolder {
             alloc,
@@ -59,7 +58,7 @@ fn newer(
     name: &str,
     found: Option<Vec<u8>>,
 ) -> Result<Option<Vec<u8>>, Memory>
-    ensures { IfOk result (λ file. option_map (λ bytes. bytes.items) file ≡ cond (same_bytes name.now (string_bytes put.now.0)) (Some put.now.1.items) (option_map (λ bytes. bytes.items) found)) }
+    ensures { IfOk result (λ file. option_map (λ bytes. bytes.items) file ≡ newer name.now put.now (option_map (λ bytes. bytes.items) found)) }
 {
     if name == put.0.as_str() {
         Ok(Some(put.1.to_vec(alloc)?))
@@ -83,10 +82,10 @@ fn last_put(
     Ok(found)
 }
 
-// The place of a name among names that rise: where it is, or where it would go.
-fn place_of(names: &Vec<String>, name: &str) -> Result<usize, usize>
+// The index of a name among names that rise: where it is, or where it would go.
+fn index_of(names: &Vec<String>, name: &str) -> Result<usize, usize>
     ensures there { OnOk result (add_name name.now (map string_bytes names.now.items) ≡ map string_bytes names.now.items) }
-    ensures absent { IfErr result (λ at. (at ≤ length names.now.items) × (add_name name.now (map string_bytes names.now.items) ≡ insert_at (map string_bytes names.now.items) at name.now)) }
+    ensures absent { IfErr result (λ at. (at ≤ length names.now.items) × GoesTo name.now (map string_bytes names.now.items) at) }
 {
     for at in 0..names.len() {
         match order_of(name, &names[at]) {
@@ -98,11 +97,11 @@ fn place_of(names: &Vec<String>, name: &str) -> Result<usize, usize>
     Err(names.len())
 }
 
-// Puts a name among names that rise, where it is not there.
+// Puts a name among names that rise, if it is not there.
 fn add_name(alloc: Global, names: &mut Vec<String>, name: &str) -> Result<(), Memory>
     ensures { OnOk result (map string_bytes names.new.items ≡ add_name name.now (map string_bytes names.old.items)) }
 {
-    if let Err(at) = place_of(names, name) {
+    if let Err(at) = index_of(names, name) {
         let name = String::from_str(alloc, name)?;
         names.insert(at, name)?;
     }
@@ -126,7 +125,7 @@ fn names_of(alloc: Global, puts: &Vec<(String, Vec<u8>)>) -> Result<Vec<String>,
     Ok(names)
 }
 
-// Puts a file, or nothing where there is no room.
+// Puts a file, or nothing if there is no room.
 fn put_file(
     alloc: Global,
     puts: &mut Vec<(String, Vec<u8>)>,
@@ -143,7 +142,8 @@ fn put_file(
 }
 
 impl Folder for MemoryFolder {
-    ghost use Rattle.tw_world.specs.MemoryFolder.{memory_folder_model, folder_counts_now, folder_only_now, folder_due, folder_calls, folder_fails, FolderRefused};
+    ghost use Rattle.tw_world.specs.MemoryFolder.{memory_folder_model, folder_counts_now, folder_only_now};
+    ghost use Rattle.tw_world.specs.MemoryFolder.{folder_due, folder_calls, folder_fails, FolderRefused};
     ghost use Rattle.std.specs.Prelude.{refl};
 
     ghost model = { memory_folder_model };
@@ -177,7 +177,7 @@ impl Folder for MemoryFolder {
     }
 
     fn read(&mut self, alloc: Global, name: &str) -> Result<Option<Vec<u8>>, FolderError>
-        ensures bytes { IfOk result (λ file. Tells memory_folder_model self.old → option_map (λ bytes. bytes.items) file ≡ get (memory_folder_model.seen self.old) name.now) }
+        ensures bytes { IfOk result (HasFile memory_folder_model self.old name.now) }
         ensures reads { Reads memory_folder_model self.old self.new }
         ensures failed { IsErrOf result FolderError.Failed → Rose (memory_folder_model.faults self.old) (memory_folder_model.faults self.new) }
         ensures named { folder_due self.old ≡ true → (result ≡ Err FolderError.Failed) × FolderRefused self.old self.new }
@@ -198,9 +198,9 @@ impl Folder for MemoryFolder {
 
     /// Want of memory counts as a fault.
     fn replace(&mut self, name: &str, bytes: &[u8]) -> Result<(), FolderError>
-        ensures replaced { OnOk result (Tells memory_folder_model self.old → memory_folder_model.seen self.new ≡ insert (memory_folder_model.seen self.old) name.now bytes.now) }
-        ensures settled { OnOk result (Tells memory_folder_model self.old → Settled memory_folder_model self.new) }
-        ensures all_or_nothing { Tells memory_folder_model self.old → Replaced name.now bytes.now (memory_folder_model.seen self.old) (memory_folder_model.seen self.new) }
+        ensures replaced { OnOk result (HasPut memory_folder_model self.old self.new name.now bytes.now) }
+        ensures settled { OnOk result (Tells memory_folder_model self.old → IsStable memory_folder_model self.new) }
+        ensures all_or_nothing { HasPutOrNot memory_folder_model self.old self.new name.now bytes.now }
         ensures steps { Steps memory_folder_model (Replaced name.now bytes.now) self.old self.new }
         ensures failed { IfErr result (λ e. (e ≡ FolderError.Failed) × Rose (memory_folder_model.faults self.old) (memory_folder_model.faults self.new)) }
 

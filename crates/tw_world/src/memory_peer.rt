@@ -33,11 +33,11 @@ impl Drop for MemoryPeer {
 }
 
 impl MemoryPeer {
-    ghost use Rattle.tw_world.specs.MemoryPeer.{memory_peer_model, peer_rest, peer_bytes, peer_calls, peer_fails};
+    ghost use Rattle.tw_world.specs.MemoryPeer.{peer_bytes, IsNewPeer};
 
     /// A peer that gives these bytes and got none.
     pub fn new(alloc: Global, content: Vec<u8>, fails: Vec<u64>) -> Result<MemoryPeer, Memory>
-        ensures { IfOk result (λ peer. (peer_rest peer ≡ content.items) × (peer_bytes peer ≡ []) × (peer_calls peer ≡ 0) × (peer_fails peer ≡ fails.items) × (memory_peer_model.faults peer ≡ 0)) }
+        ensures { IfOk result (IsNewPeer content.items fails.items) }
     {
         Ok(MemoryPeer {
             content,
@@ -93,7 +93,7 @@ impl Peer for MemoryPeer {
         ensures kept { SinkKept (sink_of memory_peer_model) self.old self.new }
         ensures failed { OnErr result (Rose (memory_peer_model.faults self.old) (memory_peer_model.faults self.new)) }
 
-        // A call that is named fails. Another may, where there is no memory.
+        // A call that is named fails. Another may, if there is no memory.
         ensures named { peer_due self.old ≡ true → (result ≡ Err StreamError.Failed) × PeerRefused self.old self.new }
         ensures calls { peer_calls self.new ≡ next_count (peer_calls self.old) }
         ensures fails { peer_fails self.new ≡ peer_fails self.old }

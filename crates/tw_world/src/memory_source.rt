@@ -18,11 +18,11 @@ pub struct MemorySource {
 }
 
 impl MemorySource {
-    ghost use Rattle.tw_world.specs.MemorySource.{memory_source_model, source_rest, source_calls, source_fails};
+    ghost use Rattle.tw_world.specs.MemorySource.{IsNewSource};
 
     /// A source that gives these bytes. It needs no memory of its own.
     pub fn new(_alloc: Global, content: Vec<u8>, fails: Vec<u64>) -> Result<MemorySource, Memory>
-        ensures { IfOk result (λ source. (source_rest source ≡ content.items) × (source_calls source ≡ 0) × (source_fails source ≡ fails.items) × (memory_source_model.faults source ≡ 0)) }
+        ensures { IfOk result (IsNewSource content.items fails.items) }
     {
         Ok(MemorySource {
             content,

@@ -18,7 +18,7 @@ impl Moment {
     ghost use Rattle.std.specs.Prelude.{◌≡◌};
     ghost use Rattle.tw_world.specs.Moment.{moment_of};
 
-    /// The moment of these numbers, where both are in range.
+    /// The moment of these numbers, if both are in range.
     pub fn new(seconds: u64, nanos: u32) -> Option<Moment>
         ensures { result ≡ moment_of seconds nanos }
     {

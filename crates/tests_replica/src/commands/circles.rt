@@ -37,7 +37,7 @@ fn cycle_at(number: u128) -> Option<Refusal> {
     Some(Refusal::Cycle { uuid })
 }
 
-// Whether a line is refused for this dependency, or writes a record where none is named.
+// Whether a line is refused for this dependency, or writes a record if none is named.
 fn is_judged(
     alloc: Global,
     line: &str,

@@ -11,7 +11,8 @@ const ROWS: [(&str, &str, &str); 14] = [
     (
         "export",
         "",
-        "[\n{\"description\":\"Call Ann\",\"entry\":\"20231114T221320Z\",\"modified\":\"20231114T221320Z\",\"status\":\"pending\",\"tags\":[\"phone\"],\"urgency\":0.800,\"uuid\":\"00000000-0000-4000-8000-000000000001\"}\n]\n",
+        "[\n{\"description\":\"Call Ann\",\"entry\":\"20231114T221320Z\",\"modified\":\"20231114T221320Z\",\"status\":\"pending\",\
+        \"tags\":[\"phone\"],\"urgency\":0.800,\"uuid\":\"00000000-0000-4000-8000-000000000001\"}\n]\n",
     ),
     (
         "import",
@@ -24,7 +25,8 @@ const ROWS: [(&str, &str, &str); 14] = [
     ("import", "[]", "Imported 0 tasks.\n"),
     (
         "import",
-        "[{\"description\":\"a\",\"project\":\"P\",\"uuid\":\"00000000-0000-4000-8000-000000000001\"},{\"description\":\"b\",\"uuid\":\"00000000-0000-4000-8000-000000000001\"}]",
+        "[{\"description\":\"a\",\"project\":\"P\",\"uuid\":\"00000000-0000-4000-8000-000000000001\"},{\"description\":\"b\",\
+        \"uuid\":\"00000000-0000-4000-8000-000000000001\"}]",
         "Imported 2 tasks.\n",
     ),
     ("project:P count", "", "0\n"),

@@ -15,7 +15,7 @@ ID Project Pri Due        Description
 5 tasks
 ";
 
-// Seconds behind that moment, lines, what each prints, and the template's mask then.
+// Seconds after that moment, lines, what each prints, and the template's mask then.
 const ROWS: [(u64, &str, &str, &str); 10] = [
     (
         0,

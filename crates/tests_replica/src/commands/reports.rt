@@ -48,7 +48,8 @@ const ROWS: [(&str, &str, bool); 27] = [
     ("status:completed projects", "", false),
     (
         "1 information",
-        "id: 1\nuuid: 00000000-0000-4000-8000-000000000002\nurgency: 1.800\ndescription: Call Ann\nentry: 1700000000\nmodified: 1700000000\nproject: Home\nstatus: pending\ntag_phone: \n",
+        "id: 1\nuuid: 00000000-0000-4000-8000-000000000002\nurgency: 1.800\ndescription: Call Ann\nentry: 1700000000\nmodified: 1700000000\n\
+        project: Home\nstatus: pending\ntag_phone: \n",
         false,
     ),
     ("9 information", "NoMatch", false),
@@ -78,12 +79,14 @@ const ROWS: [(&str, &str, bool); 27] = [
     ("blocked", "NoMatch", false),
     (
         "completed",
-        "UUID                                 Completed  Description\n00000000-0000-4000-8000-000000000001 2023-11-14 Buy milk\n00000000-0000-4000-8000-000000000002 2023-11-14 Call Ann\n\n2 tasks\n",
+        "UUID                                 Completed  Description\n00000000-0000-4000-8000-000000000001 2023-11-14 Buy milk\n\
+        00000000-0000-4000-8000-000000000002 2023-11-14 Call Ann\n\n2 tasks\n",
         true,
     ),
     (
         "all",
-        "ID Status    UUID                                 Description\n   completed 00000000-0000-4000-8000-000000000001 Buy milk\n   completed 00000000-0000-4000-8000-000000000002 Call Ann\n 1 waiting   00000000-0000-4000-8000-000000000003 x\n\n3 tasks\n",
+        "ID Status    UUID                                 Description\n   completed 00000000-0000-4000-8000-000000000001 Buy milk\n   \
+        completed 00000000-0000-4000-8000-000000000002 Call Ann\n 1 waiting   00000000-0000-4000-8000-000000000003 x\n\n3 tasks\n",
         false,
     ),
 ];

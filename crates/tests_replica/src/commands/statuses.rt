@@ -1,5 +1,6 @@
 // Each command over a task of each status.
 use super::*;
+use crate::tasks::task_of;
 
 // Tasks that are pending, waiting, completed, deleted, recurring, and of another status.
 const TASKS: [&str; 6] = [
@@ -26,16 +27,6 @@ const ROWS: [(&str, [bool; 6]); 12] = [
     ("stop", [false, true, false, false, false, false]),
     ("duplicate", [true; 6]),
 ];
-
-fn task_of(alloc: Global, text: &str) -> Result<TaskMap, Memory> {
-    let mut task = TaskMap::new(alloc);
-    for pair in text.split('|') {
-        if let Some((property, value)) = pair.split_once('=') {
-            task.set(alloc, property, Some(value))?;
-        }
-    }
-    Ok(task)
-}
 
 fn changes_to(alloc: Global, text: &str) -> Result<Vec<Change>, Memory> {
     let task = Some(task_of(alloc, text)?);

@@ -1,9 +1,9 @@
-use super::{CODE, TWO, leads_to};
+use super::{CODE, TWO, judged, leads_to};
+use std::alloc::Global;
 use std::test::Fail;
+use timew_cmd::Command;
 
-const COMMANDS: [(&str, &str, &str); 22] = [
-    ("", CODE, CODE),
-    ("summary :day", TWO, TWO),
+const COMMANDS: [(&str, &str, &str); 20] = [
     (
         "track 2026-01-05T09:00:00 - 2026-01-05T09:00:05 code",
         "",
@@ -86,6 +86,21 @@ const COMMANDS: [(&str, &str, &str); 22] = [
 fn each_command_leads_to_its_intervals(rt: HostRuntime) -> Result<(), Fail> {
     for (words, before, after) in COMMANDS {
         assert!(rt; leads_to(rt.alloc(), words, before, after)?, "{words}");
+    }
+    Ok(())
+}
+
+fn changes_nothing(alloc: Global, words: &str) -> Result<bool, Fail> {
+    match judged(alloc, words)? {
+        Ok(command) => Ok(matches!(&command, Command::Show(_))),
+        Err(_) => Ok(false),
+    }
+}
+
+#[test]
+fn what_only_shows_changes_nothing(rt: HostRuntime) -> Result<(), Fail> {
+    for words in ["", "summary :day", "export"] {
+        assert!(rt; changes_nothing(rt.alloc(), words)?, "{words}");
     }
     Ok(())
 }

@@ -1,7 +1,7 @@
 use super::{CODE, NOW, TWO, read};
 use std::alloc::Global;
 use std::test::Fail;
-use timew_cmd::{Range, export_text, stored_text, summary_text, tracking_text};
+use timew_cmd::{Range, export_text, summary_text, tracking_text};
 use tw_time::Zone;
 
 const SUMMARIES: [(&str, u64, u64, &str); 3] = [
@@ -15,7 +15,9 @@ const SUMMARIES: [(&str, u64, u64, &str); 3] = [
         TWO,
         NOW - 6_000,
         NOW - 60,
-        "ID Start               End                 Time    Tags\n 2 2026-01-05 08:20:00 2026-01-05 08:30:00 0:10:00 a\n 1 2026-01-05 09:00:00 2026-01-05 09:59:00 0:59:00 b\n\nTotal 1:09:00\n",
+        "ID Start               End                 Time    Tags\n \
+         2 2026-01-05 08:20:00 2026-01-05 08:30:00 0:10:00 a\n \
+         1 2026-01-05 09:00:00 2026-01-05 09:59:00 0:59:00 b\n\nTotal 1:09:00\n",
     ),
     (TWO, NOW, NOW, "ID Start End Time Tags\n\nTotal 0:00:00\n"),
 ];
@@ -38,7 +40,8 @@ const EXPORTS: [(&str, &str); 2] = [
     ("", "[\n]\n"),
     (
         TWO,
-        "[\n{\"annotation\":\"note\",\"end\":\"20260105T083000Z\",\"id\":2,\"start\":\"20260105T080000Z\",\"tags\":[\"a\"]},\n{\"id\":1,\"start\":\"20260105T090000Z\",\"tags\":[\"b\"]}\n]\n",
+        "[\n{\"annotation\":\"note\",\"end\":\"20260105T083000Z\",\"id\":2,\"start\":\"20260105T080000Z\",\"tags\":[\"a\"]},\n\
+         {\"id\":1,\"start\":\"20260105T090000Z\",\"tags\":[\"b\"]}\n]\n",
     ),
 ];
 
@@ -81,18 +84,6 @@ fn is_tracked(alloc: Global, lines: &str, want: &str) -> Result<bool, Fail> {
 fn what_is_tracked_is_told(rt: HostRuntime) -> Result<(), Fail> {
     for (lines, want) in TRACKED {
         assert!(rt; is_tracked(rt.alloc(), lines, want)?, "{want}");
-    }
-    Ok(())
-}
-
-fn is_stored(alloc: Global, count: u64, want: &str) -> Result<bool, Fail> {
-    Ok(stored_text(alloc, count)?.as_slice() == want.as_bytes())
-}
-
-#[test]
-fn how_many_there_are_is_told(rt: HostRuntime) -> Result<(), Fail> {
-    for (count, want) in [(1, "Stored 1 interval.\n"), (12, "Stored 12 intervals.\n")] {
-        assert!(rt; is_stored(rt.alloc(), count, want)?, "{want}");
     }
     Ok(())
 }

@@ -50,7 +50,7 @@ impl Kept {
         })
     }
 
-    // Loads a store and lets the intervals of lines stand in it.
+    // Loads a store and puts the intervals of lines into it.
     fn changed(&mut self, lines: &str) -> Result<Result<(), StoreError>, Fail> {
         let alloc = self.alloc;
         let rows = read_month(alloc, lines.as_bytes()).or(Err("a bad line"))?;
@@ -61,7 +61,7 @@ impl Kept {
         Ok(store.change(alloc, &mut self.folder, &mut self.disk, edit))
     }
 
-    // Whether the intervals of lines come to stand in the store.
+    // Whether the intervals of lines get into the store.
     fn change(&mut self, lines: &str) -> Result<bool, Fail> {
         Ok(self.changed(lines)?.is_ok())
     }
@@ -90,7 +90,7 @@ impl Kept {
         }
     }
 
-    // Whether these lines stand in January one after another.
+    // Whether January has these lines one after another.
     fn change_in_turn(&mut self, turns: &[&str]) -> Result<bool, Fail> {
         for lines in turns {
             if !self.change(lines)? || !self.holds("2026-01.data", lines) {
@@ -162,7 +162,7 @@ const FIRST: &str = "inc 20260105T090000Z - 20260105T090005Z # code\n";
 
 const SECOND: &str = "inc 20260105T090000Z\n";
 
-// A change to what stands there already is none to take back.
+// A change to what is there already is none to take back.
 #[test]
 fn changes_are_taken_back_one_after_another(rt: HostRuntime) -> Result<(), Fail> {
     let mut kept = keeping(rt.alloc(), &[], &[])?;

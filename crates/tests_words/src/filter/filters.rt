@@ -101,7 +101,8 @@ pub const FILTERS: &str = "|(|End 1
 |2-2 or ! milk|259
 |scheduled.any: and project:|8
 |( milk and 1 )|3
-|( 00000000-0000-4000-8000-000000000001 3,7 00000000-0000-4000-8000-000000000001 recur.any: ) xor ( 00000000-0000-4000-8000-000000000004 or ( 00000000-0000-4000-8000-000000000004 1-3 or 3 4|End 16
+|( 00000000-0000-4000-8000-000000000001 3,7 00000000-0000-4000-8000-000000000001 recur.any: ) xor ( 00000000-0000-4000-8000-000000000004 or \
+( 00000000-0000-4000-8000-000000000004 1-3 or 3 4|End 16
 |! ( ! due:today and project: )|123456
 |! ( +PENDING ( -TAGGED priority:H ) )|123456789
 |! ! ! depends:3 and ( +PENDING or due:today )|1258
@@ -121,7 +122,8 @@ pub const FILTERS: &str = "|(|End 1
 |! ( ! ( 6 project:a ) or +BLOCKING or ( project:a or 7 ) )|
 |( 7 00000000-0000-4000-8000-000000000008 3 or status:pending or ! ( -TAGGED xor 6-9 and 3 ) )|1246789
 |depends:3 xor ! ( due.before:tomorrow or -shop or ( 2-2 xor -PENDING +BLOCKED ) )|6
-|( description.word:milk or due.before:tomorrow ) ( end.none: and ! 1 00000000-0000-4000-8000-000000000001 00000000-0000-4000-8000-000000000004 or priority:H or -shop|End 16
+|( description.word:milk or due.before:tomorrow ) ( end.none: and ! 1 00000000-0000-4000-8000-000000000001 \
+00000000-0000-4000-8000-000000000004 or priority:H or -shop|End 16
 |( depends:3 or -TAGGED ) 8 and ( ( milk or 2-2 ) -TAGGED or -shop|End 16
 |( -PENDING or 1 )|234579
 |depends:3 xor ( ( recur.any: xor +shop ) xor ( due.before:tomorrow +BLOCKING ) )|258
@@ -144,7 +146,8 @@ pub const FILTERS: &str = "|(|End 1
 |due:today or +WAITING|1256
 |+BLOCKING or 3|16
 |due.before:tomorrow or 6 3 7|12569
-|( 3,7 xor ( 2-2 and 00000000-0000-4000-8000-000000000004 1-3 00000000-0000-4000-8000-000000000008 ) ) and ( 00000000-0000-4000-8000-000000000001 00000000-0000-4000-8000-000000000004 00000000-0000-4000-8000-000000000001|End 16
+|( 3,7 xor ( 2-2 and 00000000-0000-4000-8000-000000000004 1-3 00000000-0000-4000-8000-000000000008 ) ) and ( \
+00000000-0000-4000-8000-000000000001 00000000-0000-4000-8000-000000000004 00000000-0000-4000-8000-000000000001|End 16
 |( description.word:milk and 4 or 1 or +PENDING 3,7 2 ) ( priority:H milk )|1
 |+WAITING ( 6 xor +PENDING )|
 |( -shop xor 00000000-0000-4000-8000-000000000004 ) and 2 and ( ( 8 xor depends:3 ) or (|End 16

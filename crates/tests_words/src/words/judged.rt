@@ -15,6 +15,12 @@ done|x > 0 NoFilter
 1|modify > 1 Missing
 append|x > 0 NoFilter
 1|annotate > 1 Missing
+1|annotate| > 2 Value
+1|denotate| > 2 Value
+1|append| > 2 Value
+1|prepend| > 2 Value
+1|append|| > right
+1|denotate|--| > 3 Value
 1|duplicate > right
 add|due:never > 0 Missing
 add|x|recur:weekly > 0 Missing
@@ -101,7 +107,7 @@ fn other_verdict(alloc: Global) -> Result<Option<&'static str>, Fail> {
 #[test]
 fn the_first_bad_word_is_named(rt: HostRuntime) -> Result<(), Fail> {
     assert_eq!(rt; other_verdict(rt.alloc())?, None);
-    assert_eq!(rt; ROWS.split('\n').count(), 68);
+    assert_eq!(rt; ROWS.split('\n').count(), 74);
     Ok(())
 }
 
@@ -124,11 +130,14 @@ fn a_date_is_no_fault_without_a_moment(rt: HostRuntime) -> Result<(), Fail> {
     Ok(())
 }
 
-// The parts of a line behind its command: that word's place, where the filter ends and where `--` stood, its words with their
+// The parts of a line after its command: that word's place, where the filter ends and where `--` stood, its words with their
 // places, and its overrides.
 fn parts_of(alloc: Global, line: &Line) -> Result<String, Memory> {
-    let mut text = format!(in alloc; "{} {} {}", line.place, line.filter_to, line.plain_from)?;
-    for (word, place) in line.words.iter().zip(&line.places) {
+    let mut text = format!(in alloc;
+        "{} {} {}",
+        line.word_number, line.filter_to, line.plain_from
+    )?;
+    for (word, place) in line.words.iter().zip(&line.word_numbers) {
         text.push_str(format!(in alloc; " {}@{place}", word.as_str())?.as_str())?;
     }
     for (name, value) in &line.overrides {

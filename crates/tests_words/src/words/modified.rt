@@ -34,6 +34,7 @@ add|x|recur:weekly|due:3d > description=x|due=1772877600|project=Home|recur=week
 1|modify|depends:1,2|depends: > description=old|project=Home|tag_b=|
 1|modify|depends:9 > 2 Id
 1|modify|x|depends:-9 > 3 Id
+1|modify|depends:-00000000-0000-4000-8000-00000000000c > description=old|project=Home|tag_b=|
 add|x|depends:2,9|depends:8 > 2 Id
 add|x|depends:00000000-0000-4000-8000-00000000000b > 2 Id
 1|modify|depends:2|due:never > 3 Date";
@@ -54,7 +55,7 @@ fn task(alloc: Global) -> Result<TaskMap, Memory> {
     Ok(task)
 }
 
-// The properties of a task, each with a bar behind it.
+// The properties of a task, each with a bar after it.
 fn shown(alloc: Global, task: &TaskMap) -> Result<String, Memory> {
     let mut text = String::new(alloc);
     for n in 0..task.len() {
@@ -114,7 +115,7 @@ fn other_task(alloc: Global) -> Result<Option<&'static str>, Fail> {
     Ok(None)
 }
 
-// Whether the days of a zone behind UTC are its own.
+// Whether the days of a zone after UTC are its own.
 fn is_made_behind_utc(alloc: Global) -> Result<bool, Fail> {
     let zone = Zone::read("EST5EDT,M3.2.0,M11.1.0").or(Err("no zone"))?;
     let (made, _) = made_by(alloc, "1|modify|due:tomorrow", &zone)?;

@@ -112,39 +112,39 @@ fn read(alloc: Global, bytes: &[u8], line: &str) -> Result<Result<Settings, Word
     Ok(read_settings(alloc, bytes, &line.overrides))
 }
 
-// The number of the line that is no setting, where one is.
-fn told(alloc: Global, bytes: &[u8], line: &str) -> Result<String, Memory> {
+// The number of the line that is no setting, if one is.
+fn line_named(alloc: Global, bytes: &[u8], line: &str) -> Result<String, Memory> {
     verdict(alloc, read(alloc, bytes, line)?)
 }
 
-fn is_told(alloc: Global, row: &str) -> Result<bool, Fail> {
+fn names_line(alloc: Global, row: &str) -> Result<bool, Fail> {
     let (text, rest) = halves(row)?;
     let (line, want) = halves(rest)?;
     let bytes = lines_of(alloc, text)?;
-    Ok(told(alloc, &bytes, line)?.as_str() == want)
+    Ok(line_named(alloc, &bytes, line)?.as_str() == want)
 }
 
-// The first row of which another line is told.
+// The first row of which another line is named.
 fn other_line(alloc: Global) -> Result<Option<&'static str>, Fail> {
     for row in ROWS.split('\n') {
-        if !is_told(alloc, row)? {
+        if !names_line(alloc, row)? {
             return Ok(Some(row));
         }
     }
     Ok(None)
 }
 
-fn is_told_of(alloc: Global, bytes: &[u8], want: &str) -> Result<bool, Memory> {
-    Ok(told(alloc, bytes, "count")?.as_str() == want)
+fn names_line_of(alloc: Global, bytes: &[u8], want: &str) -> Result<bool, Memory> {
+    Ok(line_named(alloc, bytes, "count")?.as_str() == want)
 }
 
 #[test]
-fn the_first_line_that_is_no_setting_is_told(rt: HostRuntime) -> Result<(), Fail> {
+fn the_first_line_that_is_no_setting_is_named(rt: HostRuntime) -> Result<(), Fail> {
     let alloc = rt.alloc();
     assert_eq!(rt; other_line(alloc)?, None);
     assert_eq!(rt; ROWS.split('\n').count(), 47);
-    let no_text = is_told_of(alloc, b"a=1\nb=\xff", "2")?;
-    let two_ends = is_told_of(alloc, b"gc=on\r\n", "1")?;
+    let no_text = names_line_of(alloc, b"a=1\nb=\xff", "2")?;
+    let two_ends = names_line_of(alloc, b"gc=on\r\n", "1")?;
     assert!(rt; no_text && two_ends);
     Ok(())
 }

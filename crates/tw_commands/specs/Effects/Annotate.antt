@@ -11,7 +11,7 @@ use Rattle.tw_commands.specs.declared.effect.Effect.TheVariants.{Becomes}
 abbrev pub annotation_at : ℕ → List ℕ
 annotation_at second = codes "annotation_" ++ decimal second
 
--- the first of so many seconds, from this one on, that has no annotation, or the one behind them
+-- the first of so many seconds, from this one on, that has no annotation, or the one after them
 abbrev pub free_second : ℕ → TaskValue → ℕ → ℕ
 free_second zero task second = second
 free_second (suc more) task second = cond (is_some (get task (annotation_at second))) (free_second more task (second + 1)) second

@@ -1,12 +1,11 @@
--- `information`, `projects` and `tags`: what tasks have.
+-- `information`: all that is known of tasks.
 use Rattle.std.specs.Prelude.{ℕ, List, [], ◌∷◌, Result, Ok, Err}
 use Rattle.tw_replica.specs.State.{State}
-use Rattle.tw_report.specs.Texts.{information_text, projects_text, tags_text}
-use Rattle.tw_report.specs.declared.report.Report.TheVariants as report
+use Rattle.tw_report.specs.Texts.{information_text}
 use Rattle.tw_commands.specs.Request.{selected_in}
 use Rattle.tw_commands.specs.Plan.{Plan}
 use Rattle.tw_commands.specs.Looks.{looking}
-use Rattle.tw_commands.specs.Reports.{rows_of, sight_in, reporting}
+use Rattle.tw_commands.specs.Reports.{sight_in}
 use Rattle.tw_commands.specs.declared.request.Request.{Request}
 use Rattle.tw_commands.specs.declared.refusal.Refusal.{Refusal}
 use Rattle.tw_commands.specs.declared.refusal.Refusal.TheVariants.{NoMatch}
@@ -19,14 +18,3 @@ information_on (u ∷ us) request state = Ok (looking (information_text (u ∷ u
 -- what `information` is to do
 abbrev pub informing : Request → State → Result Plan Refusal
 informing request state = information_on (selected_in request state) request state
-
--- those of the selected tasks that are pending
-abbrev pub pending_in : Request → State → List (List ℕ)
-pending_in request state = rows_of report.List state.tasks request.at.seconds (selected_in request state)
-
--- what `projects` and `tags` are to do
-abbrev pub projecting : Request → State → Plan
-projecting request state = looking (projects_text (pending_in request state) state.tasks)
-
-abbrev pub tagging : Request → State → Plan
-tagging request state = looking (tags_text (pending_in request state) state.tasks)

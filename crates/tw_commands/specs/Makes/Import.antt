@@ -42,13 +42,13 @@ is_taken tasks before u = is_some (get tasks u) || is_changed before u
 abbrev pub stopped : List ℕ → IdWords → Imports
 stopped u ids = record { changes = Err (IdTaken u); ids = ids }
 
--- an element behind changes, with its uuid or one that is drawn for it, and then what follows
+-- an element after changes, with its uuid or one that is drawn for it, and then what follows
 abbrev pub import_as : Option (List ℕ) → TaskValue → IdWords → TasksValue → (before : List Change) → (IdWords → List Change → Imports) → Imports
 import_as (Some u) task ids tasks before next = next ids (before ++ change_to u task ∷ [])
 import_as None task ids tasks before next =
     cond (is_taken tasks before (drawn ids)) (stopped (drawn ids) (after_draw ids)) (next (after_draw ids) (before ++ change_to (drawn ids) task ∷ []))
 
--- the changes of elements, behind those of the elements before them
+-- the changes of elements, after those of the elements before them
 abbrev pub imports : IdWords → TasksValue → (before : List Change) → List Imported → Imports
 imports ids tasks before [] = record { changes = Ok before; ids = ids }
 imports ids tasks before (e ∷ es) = import_as e.uuid e.map ids tasks before (λ left more. imports left tasks more es)

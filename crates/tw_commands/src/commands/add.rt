@@ -1,4 +1,4 @@
-// `add` and `log`: a task of a drawn uuid.
+// `add` and `log`: a task of a drawn uuid, which both make in one way.
 ghost use Rattle.std.specs.Prelude.{◌≡◌, IfOk};
 ghost use Rattle.std.specs.FinMap as map;
 ghost use Rattle.tw_replica.specs.Replica.{held_state};

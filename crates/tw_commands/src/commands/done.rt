@@ -1,4 +1,4 @@
-// `done` and `delete`: a task is completed or deleted.
+// `done` and `delete`: a task ends, as completed or as deleted.
 ghost use Rattle.std.specs.Prelude.{◌≡◌, IfOk};
 ghost use Rattle.tw_urgency.specs.declared.status.Status.TheVariants.{Pending};
 ghost use Rattle.tw_commands.specs.Effects.Done as spec;

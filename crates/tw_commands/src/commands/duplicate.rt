@@ -73,7 +73,7 @@ fn put_copy(tasks: &Tasks, made: &mut Tasks, uuid: Uuid, copy: TaskMap) -> Resul
     Ok(())
 }
 
-// Copies the task of a uuid, where it has one. Answers the uuid that was drawn where that is taken.
+// Copies the task of a uuid, if it has one. Answers the uuid that was drawn if that is taken.
 fn copy_one(
     alloc: Global,
     line: &Line,

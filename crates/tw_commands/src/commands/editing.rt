@@ -9,12 +9,12 @@ ghost use Rattle.tw_commands.specs.Effects.{change_at, changes_by};
 ghost use Rattle.tw_commands.specs.Commands as spec;
 
 use crate::commands::annotate::annotate;
+use crate::commands::append::{append, prepend};
 use crate::commands::denotate::denotate;
 use crate::commands::done::{delete, done};
 use crate::commands::modify::modify;
 use crate::commands::purge::purge;
 use crate::commands::start::{start, stop};
-use crate::commands::texts::{append, prepend};
 use crate::effect::{Effect, acting, push_change};
 use crate::marks::marks_of;
 use crate::plan::{Deed, Plan};
@@ -56,7 +56,7 @@ fn effect_of(
     }
 }
 
-// Puts the change of the task of a uuid behind others, where the command acts on it.
+// Puts the change of the task of a uuid after others, where the command acts on it.
 fn change_one(
     alloc: Global,
     changes: &mut Vec<Change>,

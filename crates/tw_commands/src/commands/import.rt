@@ -20,7 +20,7 @@ use tw_replica::Replica;
 use tw_world::{IdWords, Memory, Text};
 use uuid::Uuid;
 
-// Puts the change of the task of a uuid behind others, and the uuid beside theirs.
+// Puts the change of the task of a uuid after others, and the uuid beside theirs.
 fn push_change(
     changes: &mut Vec<Change>,
     uuids: &mut BTreeSet<Uuid>,
@@ -47,7 +47,7 @@ fn is_taken(tasks: &Tasks, uuids: &BTreeSet<Uuid>, uuid: Uuid) -> bool
     tasks.get(uuid).is_some() || uuids.contains(&uuid)
 }
 
-// Puts the change of an element behind others. Answers the uuid that was drawn where that is taken.
+// Puts the change of an element after others. Answers the uuid that was drawn if that is taken.
 fn import_one(
     tasks: &Tasks,
     ids: &mut IdWords,

@@ -81,7 +81,7 @@ fn copied_places(alloc: Global, places: &Vec<Option<Uuid>>) -> Result<Vec<Option
     Ok(places.as_slice().to_vec(alloc)?)
 }
 
-// The instances that a report makes, where that is on.
+// The instances that a report makes, if that is on.
 fn instances_in(
     alloc: Global,
     request: &Request<'_>,

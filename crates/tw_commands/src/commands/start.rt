@@ -1,4 +1,4 @@
-// `start` and `stop`: a task that is pending or waiting is begun, or left.
+// `start` and `stop`: what the one puts into a task that is pending or waiting, the other takes out.
 ghost use Rattle.std.specs.Prelude.{◌≡◌, IfOk};
 ghost use Rattle.std.specs.Option.{option_copied};
 ghost use Rattle.std.specs.FinMap.{get};

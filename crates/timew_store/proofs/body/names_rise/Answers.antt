@@ -1,5 +1,5 @@
 use Rattle.std.proofs.Common.{sym, ◌∙◌, ◌-◌, drop, arith, length-drop}
-use Rattle.timew_store.proofs.Loop.{short_rise}
+use Rattle.timew_store.proofs.FilesOfBody.{short_rise}
 use Rattle.timew_store.proofs.body.names_rise.Goals as goal
 
 pub returns : goal.returns

@@ -1,5 +1,5 @@
 use Rattle.timew_store.proofs.OneLine.{all_back}
-use Rattle.timew_store.proofs.LineBack.{month_back}
+use Rattle.timew_store.proofs.LineReadBack.{month_back}
 use Rattle.timew_store.proofs.laws.lines_are_read_back.Goals as goal
 
 pub returns : goal.returns

@@ -1,9 +1,9 @@
 use Rattle.std.proofs.Common.{◌≡◌, ◌∙◌, sym, ap, List, ℕ, None}
 use Rattle.timew_store.specs.Body.{step_of}
 use Rattle.timew_store.specs.Held.{magic}
-use Rattle.tw_journal.proofs.Places.{still_open}
-use Rattle.tw_journal.specs.Form.{place_in}
-use Rattle.timew_store.proofs.Loads.{passed_on, body_refused, offset_refused}
+use Rattle.tw_journal.proofs.Offsets.{still_open}
+use Rattle.tw_journal.specs.Form.{offset_in}
+use Rattle.timew_store.proofs.LoadRefusals.{passed_on, body_refused, offset_refused}
 use Rattle.timew_store.proofs.load.read_step.Goals as goal
 
 pub returns-in_err-body-clause-refused : goal.returns-in_err-body-clause-refused
@@ -23,5 +23,5 @@ pub returns-clause-refused : goal.returns-clause-refused
 returns-clause-refused g c = λ tells bodies on.
     let none : step_of c.deref.result.now ≡ None = rw c.in-Err-Malformed.field-0-is at c.in-Err-Malformed.ensures.value in (
       ap step_of (sym (c.in_ok-body.ensures.body magic bodies on) ∙ sym c.deref.ensures.value) ∙ none,
-      c.in_ok-offset-in-Err-Malformed.ensures.place magic bodies (still_open g.D.Disk.model magic c.args.journal.now c.args.disk.now c.body.new.disk bodies c.body.ensures.untouched on) ∙ ap (λ (s : List ℕ). place_in magic s bodies c.args.n) (c.body.ensures.untouched.seen tells),
+      c.in_ok-offset-in-Err-Malformed.ensures.offset magic bodies (still_open g.D.Disk.model magic c.args.journal.now c.args.disk.now c.body.new.disk bodies c.body.ensures.untouched on) ∙ ap (λ (s : List ℕ). offset_in magic s bodies c.args.n) (c.body.ensures.untouched.seen tells),
     )

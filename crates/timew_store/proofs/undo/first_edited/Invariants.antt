@@ -1,8 +1,8 @@
 use Rattle.std.proofs.Common.{◌≡◌, drop}
 use Rattle.timew_store.specs.Gathered.{files_of}
-use Rattle.timew_store.specs.Kept.{first_edited_in}
+use Rattle.timew_store.specs.NamedFiles.{first_edited_in}
 use Rattle.timew_store.specs.Writing.{changes_of}
 use Rattle.timew_store.proofs.undo.first_edited.Given as goal
 
 abbrev pub invariant-loop-file : goal.invariant-loop-file
-invariant-loop-file l = first_edited_in (files_of l.kept.items) (changes_of (drop l.file-index l.change.items)) ≡ first_edited_in (files_of l.kept.items) (changes_of l.change.items)
+invariant-loop-file l = first_edited_in (files_of l.files.items) (changes_of (drop l.file-index l.change.items)) ≡ first_edited_in (files_of l.files.items) (changes_of l.change.items)

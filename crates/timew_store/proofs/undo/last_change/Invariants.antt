@@ -1,4 +1,4 @@
-use Rattle.timew_store.proofs.Walks.{IsWalking}
+use Rattle.timew_store.proofs.LastChange.{IsWalking}
 use Rattle.timew_store.proofs.undo.last_change.Given as goal
 
 abbrev pub invariant-loop-n : goal.invariant-loop-n

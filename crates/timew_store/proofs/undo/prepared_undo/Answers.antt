@@ -3,10 +3,10 @@ use Rattle.timew_store.specs.Body.{AreMonths}
 use Rattle.timew_store.specs.Gathered.{NamedBytes, files_of}
 use Rattle.timew_store.specs.Held.{replaced}
 use Rattle.timew_store.specs.Known.{AreKnown}
-use Rattle.timew_store.specs.Kept.{first_edited_in}
+use Rattle.timew_store.specs.NamedFiles.{first_edited_in}
 use Rattle.timew_store.specs.Writing.{changes_of}
 use Rattle.timew_store.proofs.FilesRead.{judged_files}
-use Rattle.timew_store.proofs.Loads.{passed_on}
+use Rattle.timew_store.proofs.LoadRefusals.{passed_on}
 use Rattle.timew_store.proofs.MonthsAfter.{months_after, named_after}
 use Rattle.timew_store.proofs.Undoes.{edited_kept, exchanged_months, back_refused}
 use Rattle.timew_store.proofs.undo.prepared_undo.Goals as goal

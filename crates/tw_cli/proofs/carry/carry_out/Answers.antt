@@ -1,7 +1,7 @@
 use Rattle.std.proofs.Common.{◌≡◌, inl, inr, refl, sym, subst, ⊎_elim}
 use Rattle.tw_replica.specs.Prepared.{PreparedRefused}
 use Rattle.tw_replica.specs.Replica.{held_state}
-use Rattle.tw_commands.specs.Ready.{IsReady, NotReady}
+use Rattle.tw_commands.specs.Ready.{IsDecided, DoesNothing}
 use Rattle.tw_commands.specs.declared.request.Request.{Request}
 use Rattle.tw_cli.specs.Input.{with_input}
 use Rattle.tw_cli.specs.Run.{CarriedOut, Refuses, PassesLimit, Drew}
@@ -45,12 +45,12 @@ returns-in-Err-take_input-clause-ids g c =
 pub returns-in-Ok-Err-clause-refused : goal.returns-in-Ok-Err-clause-refused
 returns-in-Ok-Err-clause-refused g c =
     taken_with g.D.Disk.model g.S.Source.model c.args.request c.args.disk.now c.args.input.now c.take_input.new.input c.command_of-command.result c.command_of-command.ensures c.with_input-request.result c.in-Ok-take_input.taken c.in-Ok-take_input.ensures.took c.with_input-request.ensures (λ (r : Request). Refuses g.D.Disk.model r c.args.ids.now c.args.disk.now c.open.new.disk c.in-Ok-Err.refusal)
-    (refuses g.D.Disk.model c.with_input-request.result c.args.ids.now c.args.disk.now c.open.new.disk c.in-Ok.replica c.in-Ok.ensures.opened c.in-Ok-Err.refusal (err_is (NotReady c.with_input-request.result c.args.ids.now c.in-Ok.replica) c.in-Ok-Err.field-0 c.in-Ok-Err.refusal c.in-Ok-Err.field-0-is c.in-Ok-Err.ensures.refused))
+    (refuses g.D.Disk.model c.with_input-request.result c.args.ids.now c.args.disk.now c.open.new.disk c.in-Ok.replica c.in-Ok.ensures.opened c.in-Ok-Err.refusal (err_is (DoesNothing c.with_input-request.result c.args.ids.now c.in-Ok.replica) c.in-Ok-Err.field-0 c.in-Ok-Err.refusal c.in-Ok-Err.field-0-is c.in-Ok-Err.ensures.refused))
 
 pub returns-in-Ok-Err-clause-complete : goal.returns-in-Ok-Err-clause-complete
 returns-in-Ok-Err-clause-complete g c =
     λ can. absurd (refuses_never g.D.Disk.model c.with_input-request.result c.args.ids.now c.args.disk.now c.open.new.disk c.in-Ok.replica c.in-Ok.ensures.opened c.in-Ok-Err.refusal
-    (err_is (NotReady c.with_input-request.result c.args.ids.now c.in-Ok.replica) c.in-Ok-Err.field-0 c.in-Ok-Err.refusal c.in-Ok-Err.field-0-is c.in-Ok-Err.ensures.refused) (can_with g.D.Disk.model g.S.Source.model c.args.request c.args.disk.now c.args.input.now c.take_input.new.input c.command_of-command.result c.command_of-command.ensures c.with_input-request.result c.in-Ok-take_input.taken c.in-Ok-take_input.ensures.took c.with_input-request.ensures c.args.ids.now c.open.new.disk can))
+    (err_is (DoesNothing c.with_input-request.result c.args.ids.now c.in-Ok.replica) c.in-Ok-Err.field-0 c.in-Ok-Err.refusal c.in-Ok-Err.field-0-is c.in-Ok-Err.ensures.refused) (can_with g.D.Disk.model g.S.Source.model c.args.request c.args.disk.now c.args.input.now c.take_input.new.input c.command_of-command.result c.command_of-command.ensures c.with_input-request.result c.in-Ok-take_input.taken c.in-Ok-take_input.ensures.took c.with_input-request.ensures c.args.ids.now c.open.new.disk can))
 
 pub returns-in-Ok-Err-clause-any_moment : goal.returns-in-Ok-Err-clause-any_moment
 returns-in-Ok-Err-clause-any_moment g c =
@@ -80,13 +80,13 @@ pub returns-in-Ok-write-clause-shows : goal.returns-in-Ok-write-clause-shows
 returns-in-Ok-write-clause-shows g c =
     taken_with g.D.Disk.model g.S.Source.model c.args.request c.args.disk.now c.args.input.now c.take_input.new.input c.command_of-command.result c.command_of-command.ensures c.with_input-request.result c.in-Ok-take_input.taken c.in-Ok-take_input.ensures.took c.with_input-request.ensures (λ (r : Request). (run : CarriedOut g.D.Disk.model r c.args.ids.now c.args.disk.now c.write.new.disk) × (c.in-Ok-Ok.ready.text.items ≡ run.carried.text))
     (shows_text g.D.Disk.model c.with_input-request.result c.args.ids.now c.args.disk.now c.open.new.disk c.in-Ok.replica c.in-Ok.ensures.opened c.write.new.disk c.in-Ok-Ok.ready
-    (ok_is (IsReady c.with_input-request.result c.args.ids.now c.in-Ok.replica) c.in-Ok-Ok.field-0 c.in-Ok-Ok.ready c.in-Ok-Ok.field-0-is c.in-Ok-Ok.ensures.ready) c.in-Ok-write.replica c.in-Ok-write.ensures.state c.in-Ok-write.ensures.journal)
+    (ok_is (IsDecided c.with_input-request.result c.args.ids.now c.in-Ok.replica) c.in-Ok-Ok.field-0 c.in-Ok-Ok.ready c.in-Ok-Ok.field-0-is c.in-Ok-Ok.ensures.ready) c.in-Ok-write.replica c.in-Ok-write.ensures.state c.in-Ok-write.ensures.journal)
 
 pub returns-in-Ok-write-clause-any_moment : goal.returns-in-Ok-write-clause-any_moment
 returns-in-Ok-write-clause-any_moment g c =
     inr (taken_with g.D.Disk.model g.S.Source.model c.args.request c.args.disk.now c.args.input.now c.take_input.new.input c.command_of-command.result c.command_of-command.ensures c.with_input-request.result c.in-Ok-take_input.taken c.in-Ok-take_input.ensures.took c.with_input-request.ensures (λ (r : Request). LeavesBy g.D.Disk.model (next_of r c.args.ids.now) c.args.disk.now c.write.new.disk causes.Done)
     (leaves_written g.D.Disk.model c.with_input-request.result c.args.ids.now c.args.disk.now c.open.new.disk c.in-Ok.replica c.in-Ok.ensures.opened c.write.new.disk c.in-Ok-Ok.ready
-    (ok_is (IsReady c.with_input-request.result c.args.ids.now c.in-Ok.replica) c.in-Ok-Ok.field-0 c.in-Ok-Ok.ready c.in-Ok-Ok.field-0-is c.in-Ok-Ok.ensures.ready) c.open.ensures.any_moment c.write.ensures.any_moment))
+    (ok_is (IsDecided c.with_input-request.result c.args.ids.now c.in-Ok.replica) c.in-Ok-Ok.field-0 c.in-Ok-Ok.ready c.in-Ok-Ok.field-0-is c.in-Ok-Ok.ensures.ready) c.open.ensures.any_moment c.write.ensures.any_moment))
 
 pub returns-in-Ok-write-clause-ids : goal.returns-in-Ok-write-clause-ids
 returns-in-Ok-write-clause-ids g c =
@@ -98,7 +98,7 @@ pub returns-in-Err-Disk-clause-any_moment : goal.returns-in-Err-Disk-clause-any_
 returns-in-Err-Disk-clause-any_moment g c =
     inr (taken_with g.D.Disk.model g.S.Source.model c.args.request c.args.disk.now c.args.input.now c.take_input.new.input c.command_of-command.result c.command_of-command.ensures c.with_input-request.result c.in-Ok-take_input.taken c.in-Ok-take_input.ensures.took c.with_input-request.ensures (λ (r : Request). LeavesBy g.D.Disk.model (next_of r c.args.ids.now) c.args.disk.now c.write.new.disk causes.DiskFault)
     (leaves_written g.D.Disk.model c.with_input-request.result c.args.ids.now c.args.disk.now c.open.new.disk c.in-Ok.replica c.in-Ok.ensures.opened c.write.new.disk c.in-Ok-Ok.ready
-    (ok_is (IsReady c.with_input-request.result c.args.ids.now c.in-Ok.replica) c.in-Ok-Ok.field-0 c.in-Ok-Ok.ready c.in-Ok-Ok.field-0-is c.in-Ok-Ok.ensures.ready) c.open.ensures.any_moment c.write.ensures.any_moment))
+    (ok_is (IsDecided c.with_input-request.result c.args.ids.now c.in-Ok.replica) c.in-Ok-Ok.field-0 c.in-Ok-Ok.ready c.in-Ok-Ok.field-0-is c.in-Ok-Ok.ensures.ready) c.open.ensures.any_moment c.write.ensures.any_moment))
 
 pub returns-in-Err-Disk-clause-ids : goal.returns-in-Err-Disk-clause-ids
 returns-in-Err-Disk-clause-ids g c =
@@ -110,12 +110,12 @@ pub returns-in-Err-TooLong-clause-refused : goal.returns-in-Err-TooLong-clause-r
 returns-in-Err-TooLong-clause-refused g c =
     taken_with g.D.Disk.model g.S.Source.model c.args.request c.args.disk.now c.args.input.now c.take_input.new.input c.command_of-command.result c.command_of-command.ensures c.with_input-request.result c.in-Ok-take_input.taken c.in-Ok-take_input.ensures.took c.with_input-request.ensures (λ (r : Request). PassesLimit g.D.Disk.model r c.args.ids.now c.args.disk.now c.write.new.disk c.in-Err-TooLong.bytes)
     (passes_limit g.D.Disk.model c.with_input-request.result c.args.ids.now c.args.disk.now c.open.new.disk c.in-Ok.replica c.in-Ok.ensures.opened c.write.new.disk c.in-Ok-Ok.ready
-    (ok_is (IsReady c.with_input-request.result c.args.ids.now c.in-Ok.replica) c.in-Ok-Ok.field-0 c.in-Ok-Ok.ready c.in-Ok-Ok.field-0-is c.in-Ok-Ok.ensures.ready) c.in-Err-TooLong.bytes (subst (PreparedRefused g.D.Disk.model c.in-Ok-Ok.ready.prepared c.open.new.disk c.write.new.disk) c.in-Err-TooLong.field-0-is c.in-Err-TooLong.ensures.refused))
+    (ok_is (IsDecided c.with_input-request.result c.args.ids.now c.in-Ok.replica) c.in-Ok-Ok.field-0 c.in-Ok-Ok.ready c.in-Ok-Ok.field-0-is c.in-Ok-Ok.ensures.ready) c.in-Err-TooLong.bytes (subst (PreparedRefused g.D.Disk.model c.in-Ok-Ok.ready.prepared c.open.new.disk c.write.new.disk) c.in-Err-TooLong.field-0-is c.in-Err-TooLong.ensures.refused))
 
 pub returns-in-Err-TooLong-clause-complete : goal.returns-in-Err-TooLong-clause-complete
 returns-in-Err-TooLong-clause-complete g c =
     λ can. absurd (fits_always g.D.Disk.model c.with_input-request.result c.args.ids.now c.args.disk.now c.open.new.disk c.in-Ok.replica c.in-Ok.ensures.opened c.write.new.disk c.in-Ok-Ok.ready
-    (ok_is (IsReady c.with_input-request.result c.args.ids.now c.in-Ok.replica) c.in-Ok-Ok.field-0 c.in-Ok-Ok.ready c.in-Ok-Ok.field-0-is c.in-Ok-Ok.ensures.ready) c.in-Err-TooLong.bytes (subst (PreparedRefused g.D.Disk.model c.in-Ok-Ok.ready.prepared c.open.new.disk c.write.new.disk) c.in-Err-TooLong.field-0-is c.in-Err-TooLong.ensures.refused) (can_with g.D.Disk.model g.S.Source.model c.args.request c.args.disk.now c.args.input.now c.take_input.new.input c.command_of-command.result c.command_of-command.ensures c.with_input-request.result c.in-Ok-take_input.taken c.in-Ok-take_input.ensures.took c.with_input-request.ensures c.args.ids.now c.write.new.disk can))
+    (ok_is (IsDecided c.with_input-request.result c.args.ids.now c.in-Ok.replica) c.in-Ok-Ok.field-0 c.in-Ok-Ok.ready c.in-Ok-Ok.field-0-is c.in-Ok-Ok.ensures.ready) c.in-Err-TooLong.bytes (subst (PreparedRefused g.D.Disk.model c.in-Ok-Ok.ready.prepared c.open.new.disk c.write.new.disk) c.in-Err-TooLong.field-0-is c.in-Err-TooLong.ensures.refused) (can_with g.D.Disk.model g.S.Source.model c.args.request c.args.disk.now c.args.input.now c.take_input.new.input c.command_of-command.result c.command_of-command.ensures c.with_input-request.result c.in-Ok-take_input.taken c.in-Ok-take_input.ensures.took c.with_input-request.ensures c.args.ids.now c.write.new.disk can))
 
 pub returns-in-Err-TooLong-clause-any_moment : goal.returns-in-Err-TooLong-clause-any_moment
 returns-in-Err-TooLong-clause-any_moment g c =

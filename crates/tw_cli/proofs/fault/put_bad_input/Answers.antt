@@ -1,5 +1,5 @@
 use Rattle.std.proofs.Common.{◌∙◌, ◌++◌, subst, codes, List, ℕ}
-use Rattle.tw_cli.specs.Fault.{GotLine}
+use Rattle.tw_ending.specs.Lines.{GotLine}
 use Rattle.tw_cli.proofs.fault.put_bad_input.Goals as goal
 
 pub returns : goal.returns

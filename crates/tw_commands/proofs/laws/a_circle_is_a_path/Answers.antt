@@ -1,4 +1,4 @@
-use Rattle.tw_commands.proofs.Circling.{leads_by_paths}
+use Rattle.tw_commands.proofs.DependencyPaths.{leads_by_paths}
 use Rattle.tw_commands.proofs.laws.a_circle_is_a_path.Goals as goal
 
 pub returns : goal.returns

@@ -1,4 +1,4 @@
-use Rattle.tw_commands.proofs.Taken.{words_taken}
+use Rattle.tw_commands.proofs.TakenWords.{words_taken}
 use Rattle.tw_commands.proofs.laws.words_are_taken.Goals as goal
 
 pub returns : goal.returns

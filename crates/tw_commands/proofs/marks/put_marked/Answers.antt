@@ -3,7 +3,7 @@ use Rattle.std.specs.Option.{option_copied}
 use Rattle.tw_model.specs.Maps.{set_at}
 use Rattle.tw_model.specs.Ops.{TaskValue}
 use Rattle.tw_commands.specs.Marks.{put_marked}
-use Rattle.tw_commands.proofs.Marking.{put_again}
+use Rattle.tw_commands.proofs.MarkedTasks.{put_again}
 use Rattle.tw_commands.proofs.marks.put_marked.Goals as goal
 
 pub returns : goal.returns

@@ -1,5 +1,5 @@
 use Rattle.std.proofs.Common.{◌∙◌, string_bytes, codes}
-use Rattle.tw_commands.proofs.Joining.{join_by-map}
+use Rattle.tw_commands.proofs.JoinedWords.{join_by-map}
 use Rattle.tw_commands.proofs.spaced.spaced.Goals as goal
 
 pub returns : goal.returns

@@ -1,7 +1,7 @@
 use Rattle.std.proofs.Common.{◌++◌, ◌∷◌, [], codes, ap, ◌∙◌}
 use Rattle.json.specs.Token.{begin_object, key, string, end_object}
 use Rattle.tw_time.specs.Basic.{basic}
-use Rattle.tw_export.proofs.Loops.{then_one}
+use Rattle.tw_export.proofs.PropertyLoops.{then_one}
 use Rattle.tw_export.proofs.annotations.put_annotation.Goals as goal
 
 pub returns-clause-written : goal.returns-clause-written

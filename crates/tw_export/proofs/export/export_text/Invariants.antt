@@ -5,7 +5,7 @@ use Rattle.tw_model.specs.Maps.{bytes_cmp, same_bytes}
 use Rattle.tw_export.specs.Export.{lines}
 use Rattle.tw_filter.specs.Chosen.{chosen}
 use Rattle.tw_export.specs.Export.{entry_text}
-use Rattle.tw_export.proofs.Lines.{to_follow}
+use Rattle.tw_export.proofs.TaskLines.{to_follow}
 use Rattle.tw_export.proofs.export.export_text.Given as goal
 
 abbrev pub invariant-loop-uuid : goal.invariant-loop-uuid

@@ -5,7 +5,7 @@ use Rattle.tw_model.proofs.Sorted.{on_ok, entries_end}
 use Rattle.tw_export.specs.Export.{own_tokens, own_below, own_from, property_tokens, in_order}
 use Rattle.tw_export.specs.Owns.{owns_in}
 use Rattle.tw_export.specs.declared.members.Subject.{Subject}
-use Rattle.tw_export.proofs.Loops.{entry_here}
+use Rattle.tw_export.proofs.PropertyLoops.{entry_here}
 use Rattle.tw_export.proofs.members.put_members.Goals as goal
 
 pub loop-n-preserved : goal.loop-n-preserved

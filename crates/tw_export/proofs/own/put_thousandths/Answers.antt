@@ -6,8 +6,8 @@ use Rattle.jiff_core.proofs.SignedLemmas.{one_part}
 use Rattle.jiff.proofs.SpanFacts.{signed_arith}
 use Rattle.json.specs.Print.{IsNumber}
 use Rattle.tw_text.proofs.AsciiFacts.{is_ok_text, decimal3-ascii}
-use Rattle.tw_export.proofs.Texts.{of_ok}
-use Rattle.tw_export.proofs.Numbers.{decimal3_number}
+use Rattle.tw_export.proofs.OkTexts.{of_ok}
+use Rattle.tw_export.proofs.Thousandths.{decimal3_number}
 use Rattle.tw_export.proofs.own.put_thousandths.Goals as goal
 
 pub unwrap-requires : goal.unwrap-requires

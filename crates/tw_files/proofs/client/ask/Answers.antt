@@ -7,6 +7,6 @@ returns g c = record {
   sent = c.write_whole.new.writer;
   ended = c.read_reply.new.stream;
   dialled = c.in_ok-connection.ensures;
-  told = c.if-not-write_whole.ensures.whole refl;
+  got = c.if-not-write_whole.ensures.whole refl;
   replied = record { read = c.in_ok-read_reply.ensures.bytes; whole = c.in_ok-read_reply.ensures.whole };
 }

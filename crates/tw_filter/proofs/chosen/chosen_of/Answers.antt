@@ -1,7 +1,7 @@
 use Rattle.std.proofs.Common.{◌≡◌, ◌<◌, length, get_or, ap, subst, ◌∙◌}
 use Rattle.std.specs.BTreeSet as set
 use Rattle.tw_model.specs.Maps.{bytes_cmp}
-use Rattle.tw_filter.proofs.Choosing.{one_more_row}
+use Rattle.tw_filter.proofs.ChosenUuids.{one_more_row}
 use Rattle.tw_filter.proofs.chosen.chosen_of.Goals as goal
 
 pub loop-uuid-preserved : goal.loop-uuid-preserved

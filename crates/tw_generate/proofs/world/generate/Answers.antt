@@ -1,5 +1,5 @@
 -- The worlds are those that the steps led to.
-use Rattle.std.proofs.Common.{◌∙◌, ap, subst, ℕ, Bool, List, length, Result, Ok, Err, IfOk}
+use Rattle.std.proofs.Common.{◌∙◌, ap, subst, ℕ, Bool, List, length}
 use Rattle.tw_model.specs.LocalOps.{plain}
 use Rattle.tw_model.specs.declared.changes.Change.{Change}
 use Rattle.tw_segment.specs.Segment.{segment_text}
@@ -7,11 +7,8 @@ use Rattle.tw_generate.specs.Changes.{made}
 use Rattle.tw_generate.specs.Summary.{summary}
 use Rattle.tw_generate.specs.Generated.{World, FirstChanges, SecondChanges}
 use Rattle.tw_generate.specs.Machines.{world_of}
+use Rattle.tw_sync.proofs.Results.{if_ok}
 use Rattle.tw_generate.proofs.world.generate.Goals as goal
-
-if_ok_map : {A E : Type 0} {P Q : A → Type 0} (r : Result A E) → ((a : A) → P a → Q a) → IfOk r P → IfOk r Q
-if_ok_map (Ok a) f p = f a p
-if_ok_map (Err e) f p = tt
 
 pub returns : goal.returns
 returns c =
@@ -20,7 +17,7 @@ returns c =
     let shared : World = world_of c.sync_second.new.self in
     let first : World = world_of c.in_ok-first_moved.first_moved in
     let both : World = world_of c.in_ok-both_moved.both_moved in
-    if_ok_map c.summary.result (λ text told. record {
+    if_ok c.summary.result c.summary.ensures (λ text told. record {
       at = record {
         made = c.at_second-made_at.result;
         first_moved = c.at_second-first_at.result;
@@ -48,4 +45,4 @@ returns c =
       ends = (c.in_ok-sync_second-3.field-0, c.in_ok-sync_second-3.ensures.synced);
       tells = told ∙ ap (λ (b : ℕ). summary c.args.count b c.in_ok-report.report c.in_ok-equal.equal) c.in_ok-bytes.ensures
           ∙ ap (λ (e : Bool). summary c.args.count (length (segment_text (plain filled.first.pending))) c.in_ok-report.report e) c.in_ok-equal.ensures;
-    }) c.summary.ensures
+    })

@@ -3,7 +3,7 @@ use Rattle.std.specs.Prelude.{codes, decimal}
 use Rattle.tw_http.specs.Messages.{request_head, line, crlf, add_path, uuid_text, segment_type}
 use Rattle.tw_http.specs.declared.message.Request.TheVariants.{Add}
 use Rattle.tw_http.specs.Requests.{IsRequestAnswer}
-use Rattle.tw_http.proofs.Back.{add_back}
+use Rattle.tw_http.proofs.RequestBack.{add_back}
 use Rattle.tw_http.proofs.Appends.{then, from_none}
 use Rattle.tw_http.proofs.request_writer.write_add.Goals as goal
 

@@ -4,7 +4,7 @@ use Rattle.std.proofs.lemmas.List.{append-nil}
 use Rattle.tw_http.specs.Messages.{request_head, line, crlf, child_path, uuid_text}
 use Rattle.tw_http.specs.declared.message.Request.TheVariants.{Child}
 use Rattle.tw_http.specs.Requests.{IsRequestAnswer}
-use Rattle.tw_http.proofs.Back.{child_back}
+use Rattle.tw_http.proofs.RequestBack.{child_back}
 use Rattle.tw_http.proofs.Appends.{then, from_none}
 use Rattle.tw_http.proofs.request_writer.write_child.Goals as goal
 

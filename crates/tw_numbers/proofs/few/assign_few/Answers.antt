@@ -1,10 +1,10 @@
 use Rattle.std.proofs.Common.{◌∙◌, ap, sym, subst}
-use Rattle.tw_numbers.specs.Assign.{with_ranks}
+use Rattle.tw_numbers.specs.Numbering.{with_ranks}
 use Rattle.tw_numbers.specs.Assigned.{IsOnce, vacated_all}
 use Rattle.tw_numbers.proofs.Basics.{on_ok_map}
-use Rattle.tw_numbers.proofs.Looking.{looked}
-use Rattle.tw_numbers.proofs.Scanning.{once_vacated}
-use Rattle.tw_numbers.proofs.Vacating.{look_on}
+use Rattle.tw_numbers.proofs.AssignedByLooks.{looked}
+use Rattle.tw_numbers.proofs.FoundByScan.{once_vacated}
+use Rattle.tw_numbers.proofs.VacatedPlaces.{look_on}
 use Rattle.tw_numbers.proofs.few.assign_few.Goals as goal
 
 pub loop-uuid-preserved : goal.loop-uuid-preserved

@@ -1,4 +1,4 @@
-use Rattle.tw_numbers.proofs.Scanning.{first_apart}
+use Rattle.tw_numbers.proofs.FoundByScan.{first_apart}
 use Rattle.tw_numbers.proofs.few.is_same.Goals as goal
 
 pub returns-then-as_bytes : goal.returns-then-as_bytes

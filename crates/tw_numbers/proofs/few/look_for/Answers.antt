@@ -1,7 +1,7 @@
 use Rattle.std.proofs.Common.{◌∙◌, ap, sym, cond}
 use Rattle.std.specs.BTreeSet.{insert_key}
-use Rattle.tw_numbers.specs.Assign.{is_open, rank, rank_cmp}
-use Rattle.tw_numbers.proofs.Scanning.{scanned_unplaced, both_true, second_false}
+use Rattle.tw_numbers.specs.Numbering.{is_open, rank, rank_cmp}
+use Rattle.tw_numbers.proofs.FoundByScan.{scanned_unplaced, both_true, second_false}
 use Rattle.tw_numbers.proofs.few.look_for.Goals as goal
 
 pub returns-in_ok-insert-clause-ranks : goal.returns-in_ok-insert-clause-ranks

@@ -1,5 +1,5 @@
 use Rattle.std.proofs.Common.{arith}
-use Rattle.tw_numbers.proofs.Scanning.{not_yet, found_there, found_nowhere}
+use Rattle.tw_numbers.proofs.FoundByScan.{not_yet, found_there, found_nowhere}
 use Rattle.tw_numbers.proofs.few.place_of.Goals as goal
 
 pub returns-then-is_of-clause-found : goal.returns-then-is_of-clause-found

@@ -1,5 +1,5 @@
 use Rattle.std.proofs.Common.{◌≡◌, ◌-◌, ◌≤◌, length, take, false}
-use Rattle.tw_numbers.specs.Assign.{is_placed}
+use Rattle.tw_numbers.specs.Numbering.{is_placed}
 use Rattle.tw_numbers.proofs.few.place_of.Given as goal
 
 abbrev pub invariant-loop-at : goal.invariant-loop-at

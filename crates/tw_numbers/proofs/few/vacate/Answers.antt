@@ -1,6 +1,6 @@
 use Rattle.std.proofs.Common.{◌<◌, length, sym, arith}
-use Rattle.tw_numbers.proofs.Places.{uuid_at_below, without_none}
-use Rattle.tw_numbers.proofs.Scanning.{found_vacant}
+use Rattle.tw_numbers.proofs.IndexedPlaces.{uuid_at_below, without_none}
+use Rattle.tw_numbers.proofs.FoundByScan.{found_vacant}
 use Rattle.tw_numbers.proofs.few.vacate.Goals as goal
 
 pub index_mut-requires : goal.index_mut-requires

@@ -1,9 +1,9 @@
 use Rattle.std.proofs.Common.{◌∙◌, ap, sym}
-use Rattle.tw_numbers.specs.Assign.{with_ranks}
+use Rattle.tw_numbers.specs.Numbering.{with_ranks}
 use Rattle.tw_numbers.specs.Assigned.{vacated_all}
 use Rattle.tw_numbers.proofs.Basics.{on_ok_map}
-use Rattle.tw_numbers.proofs.Looking.{looked, looked_once}
-use Rattle.tw_numbers.proofs.Vacating.{look_on}
+use Rattle.tw_numbers.proofs.AssignedByLooks.{looked, looked_once}
+use Rattle.tw_numbers.proofs.VacatedPlaces.{look_on}
 use Rattle.tw_numbers.proofs.indexed.assign_in.Goals as goal
 
 pub loop-uuid-preserved : goal.loop-uuid-preserved

@@ -1,5 +1,5 @@
 use Rattle.std.proofs.Common.{◌≡◌, []}
-use Rattle.tw_numbers.specs.Assign.{with_ranks}
+use Rattle.tw_numbers.specs.Numbering.{with_ranks}
 use Rattle.tw_numbers.specs.Assigned.{IsIndex, vacated_all}
 use Rattle.tw_numbers.proofs.indexed.assign_in.Given as goal
 

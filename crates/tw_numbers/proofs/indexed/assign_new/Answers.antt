@@ -1,5 +1,5 @@
 use Rattle.std.proofs.Common.{◌∙◌, ap}
-use Rattle.tw_numbers.specs.Assign.{is_open}
+use Rattle.tw_numbers.specs.Numbering.{is_open}
 use Rattle.tw_numbers.proofs.Basics.{on_ok_map}
 use Rattle.tw_numbers.proofs.NewTasks.{new_open, new_closed}
 use Rattle.tw_numbers.proofs.indexed.assign_new.Goals as goal

@@ -1,6 +1,6 @@
 use Rattle.std.proofs.Common.{arith, subst, sym}
 use Rattle.tw_numbers.specs.Assigned.{IsIndex}
-use Rattle.tw_numbers.proofs.Places.{index_more}
+use Rattle.tw_numbers.proofs.IndexedPlaces.{index_more}
 use Rattle.tw_numbers.proofs.indexed.index_of.Goals as goal
 
 pub loop-at-preserved : goal.loop-at-preserved

@@ -1,7 +1,7 @@
 use Rattle.std.proofs.Common.{◌++◌, ◌∷◌, [], subst, sym, List, ℕ}
 use Rattle.std.specs.Prelude.{Option}
 use Rattle.tw_numbers.specs.Assigned.{IsIndex}
-use Rattle.tw_numbers.proofs.Places.{index_some, index_vacant}
+use Rattle.tw_numbers.proofs.IndexedPlaces.{index_some, index_vacant}
 use Rattle.tw_numbers.proofs.indexed.index_place.Goals as goal
 
 pub returns-in_ok-insert-in-Some : goal.returns-in_ok-insert-in-Some

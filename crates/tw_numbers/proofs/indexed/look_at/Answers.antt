@@ -1,7 +1,7 @@
 use Rattle.std.proofs.Common.{◌∙◌, ap, sym, cond}
 use Rattle.std.specs.BTreeSet.{insert_key}
-use Rattle.tw_numbers.specs.Assign.{is_open, rank, rank_cmp}
-use Rattle.tw_numbers.proofs.Vacating.{found_unplaced, is_free, is_held}
+use Rattle.tw_numbers.specs.Numbering.{is_open, rank, rank_cmp}
+use Rattle.tw_numbers.proofs.VacatedPlaces.{found_unplaced, is_free, is_held}
 use Rattle.tw_numbers.proofs.indexed.look_at.Goals as goal
 
 pub returns-in_ok-insert-clause-ranks : goal.returns-in_ok-insert-clause-ranks

@@ -3,7 +3,7 @@ use Rattle.std.specs.Ordering.{eq_by_cmp}
 use Rattle.std.specs.BTreeMap as tree
 use Rattle.tw_model.specs.Maps.{bytes_cmp}
 use Rattle.tw_numbers.specs.Assigned.{IsIndex}
-use Rattle.tw_numbers.proofs.Places.{index_push}
+use Rattle.tw_numbers.proofs.IndexedPlaces.{index_push}
 use Rattle.tw_numbers.proofs.indexed.push_place.Goals as goal
 
 pub returns-clause-index : goal.returns-clause-index

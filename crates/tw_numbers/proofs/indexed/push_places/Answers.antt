@@ -1,7 +1,7 @@
 use Rattle.std.proofs.Common.{◌∙◌, ◌++◌, ap, subst, sym, map, List}
-use Rattle.tw_numbers.specs.Assign.{Rank, place_of}
+use Rattle.tw_numbers.specs.Numbering.{Rank, place_of}
 use Rattle.tw_numbers.specs.Assigned.{IsOnce}
-use Rattle.tw_numbers.proofs.Places.{once_front}
+use Rattle.tw_numbers.proofs.IndexedPlaces.{once_front}
 use Rattle.tw_numbers.proofs.indexed.push_places.Goals as goal
 
 pub push_place-requires-clause-free : goal.push_place-requires-clause-free

@@ -1,5 +1,5 @@
 use Rattle.std.proofs.Common.{◌≡◌, ◌++◌, map}
-use Rattle.tw_numbers.specs.Assign.{place_of}
+use Rattle.tw_numbers.specs.Numbering.{place_of}
 use Rattle.tw_numbers.specs.Assigned.{IsIndex}
 use Rattle.tw_numbers.proofs.indexed.push_places.Given as goal
 

@@ -1,5 +1,5 @@
 use Rattle.std.proofs.Common.{◌∙◌, sym, ◌<◌, length, arith}
-use Rattle.tw_numbers.proofs.Places.{uuid_at_below, known_is_there, unknown_is_nowhere, index_without, index_unchanged}
+use Rattle.tw_numbers.proofs.IndexedPlaces.{uuid_at_below, known_is_there, unknown_is_nowhere, index_without, index_unchanged}
 use Rattle.tw_numbers.proofs.indexed.vacate.Goals as goal
 
 pub index_mut-requires : goal.index_mut-requires

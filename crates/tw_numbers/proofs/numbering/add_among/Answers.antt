@@ -1,8 +1,8 @@
 use Rattle.std.proofs.Common.{◌∙◌, sym}
 use Rattle.std.specs.BTreeSet as tree
 use Rattle.tw_model.specs.Maps.{bytes_cmp}
-use Rattle.tw_numbers.proofs.Assigning.{has_more}
-use Rattle.tw_numbers.proofs.Looking.{other_place}
+use Rattle.tw_numbers.proofs.SetInserts.{has_more}
+use Rattle.tw_numbers.proofs.AssignedByLooks.{other_place}
 use Rattle.tw_numbers.proofs.numbering.add_among.Goals as goal
 
 pub returns-in_ok-insert : goal.returns-in_ok-insert

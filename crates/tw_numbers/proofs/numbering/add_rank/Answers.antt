@@ -1,6 +1,6 @@
 use Rattle.std.proofs.Common.{◌∙◌, ap, sym, cond}
 use Rattle.std.specs.BTreeSet.{insert_key}
-use Rattle.tw_numbers.specs.Assign.{rank, rank_cmp}
+use Rattle.tw_numbers.specs.Numbering.{rank, rank_cmp}
 use Rattle.tw_numbers.proofs.numbering.add_rank.Goals as goal
 
 pub returns-in_ok-insert : goal.returns-in_ok-insert

@@ -1,6 +1,6 @@
 use Rattle.std.proofs.Common.{◌∙◌, []}
-use Rattle.tw_numbers.proofs.Looking.{left_assigns}
-use Rattle.tw_numbers.proofs.Alike.{left_alike, ranks_alike}
+use Rattle.tw_numbers.proofs.AssignedByLooks.{left_assigns}
+use Rattle.tw_numbers.proofs.AlikeOnPart.{left_alike, ranks_alike}
 use Rattle.tw_numbers.proofs.numbering.assigned.Goals as goal
 
 pub returns : goal.returns

@@ -1,7 +1,7 @@
 use Rattle.std.proofs.Common.{◌≡◌, ◌∙◌, [], List, ℕ, map, ap, subst, sym}
 use Rattle.std.specs.FinMap.{entries}
 use Rattle.tw_model.specs.Ops.{TaskValue}
-use Rattle.tw_numbers.specs.Assign.{with_ranks}
+use Rattle.tw_numbers.specs.Numbering.{with_ranks}
 use Rattle.tw_numbers.proofs.FirstPlaces.{AreFound, entries_found, uuid_in}
 use Rattle.tw_numbers.proofs.numbering.first_places.Goals as goal
 

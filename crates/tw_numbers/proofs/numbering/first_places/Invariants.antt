@@ -1,6 +1,6 @@
 use Rattle.std.proofs.Common.{◌≡◌, [], map}
 use Rattle.std.specs.FinMap.{keys}
-use Rattle.tw_numbers.specs.Assign.{with_ranks}
+use Rattle.tw_numbers.specs.Numbering.{with_ranks}
 use Rattle.tw_numbers.proofs.FirstPlaces.{AreFound, uuid_in}
 use Rattle.tw_numbers.proofs.numbering.first_places.Given as goal
 

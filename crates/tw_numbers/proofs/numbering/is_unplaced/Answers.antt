@@ -1,5 +1,5 @@
 use Rattle.std.proofs.Common.{◌∙◌, ap, sym, not, ◌&&◌}
-use Rattle.tw_numbers.specs.Assign.{is_open, is_placed}
+use Rattle.tw_numbers.specs.Numbering.{is_open, is_placed}
 use Rattle.tw_numbers.proofs.numbering.is_unplaced.Goals as goal
 
 pub returns-then-is_open : goal.returns-then-is_open

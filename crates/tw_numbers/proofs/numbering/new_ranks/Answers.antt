@@ -1,6 +1,6 @@
-use Rattle.std.proofs.Common.{[]}
-use Rattle.tw_numbers.specs.Assign.{with_ranks}
-use Rattle.tw_numbers.proofs.Looking.{ranks_step, first_among, rest_among}
+use Rattle.std.proofs.Common.{rules, []}
+use Rattle.tw_numbers.specs.Numbering.{with_ranks}
+use Rattle.tw_numbers.proofs.AssignedByLooks.{ranks_step, first_among, rest_among}
 use Rattle.tw_numbers.proofs.numbering.new_ranks.Goals as goal
 
 pub loop-uuid-preserved : goal.loop-uuid-preserved
@@ -14,3 +14,6 @@ loop-uuid-preserved c =
           (c.in_ok-add_rank.ensures places (h u (first_among before rest all u c.in-Some.ensures.steps among))) (c.loop-uuid.invariant.0 places h),
       rest_among before rest all u c.in-Some.ensures.steps among,
     )
+
+pub returns : goal.returns
+returns c = λ places told. search (rules, c.loop-uuid.invariant.0 places told)

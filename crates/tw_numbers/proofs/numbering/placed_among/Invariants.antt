@@ -1,7 +1,7 @@
 use Rattle.std.proofs.Common.{◌≡◌, ℕ, List, true, take}
 use Rattle.std.specs.BTreeSet as tree
 use Rattle.tw_model.specs.Maps.{bytes_cmp}
-use Rattle.tw_numbers.specs.Assign.{is_placed}
+use Rattle.tw_numbers.specs.Numbering.{is_placed}
 use Rattle.tw_numbers.specs.Assigned.{is_among}
 use Rattle.tw_numbers.proofs.numbering.placed_among.Given as goal
 

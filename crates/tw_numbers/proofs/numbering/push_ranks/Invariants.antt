@@ -1,5 +1,5 @@
 use Rattle.std.proofs.Common.{◌≡◌, ◌++◌, map}
-use Rattle.tw_numbers.specs.Assign.{place_of}
+use Rattle.tw_numbers.specs.Numbering.{place_of}
 use Rattle.tw_numbers.proofs.numbering.push_ranks.Given as goal
 
 abbrev pub invariant-loop-rank : goal.invariant-loop-rank

@@ -4,7 +4,7 @@ use Rattle.std.specs.Prelude.{nat_eq}
 use Rattle.tw_model.specs.Ops.{TaskValue}
 use Rattle.tw_model.specs.Maps.{same_bytes}
 use Rattle.tw_numbers.specs.Placed.{open_uuids}
-use Rattle.tw_numbers.proofs.Ordered.{passed_over, differs, matches, is_inside, all_told}
+use Rattle.tw_numbers.proofs.OrderedUuids.{passed_over, differs, matches, is_inside, all_told}
 use Rattle.tw_numbers.proofs.soundness.are_those_open.Goals as goal
 
 pub returns-then-not-is_at : goal.returns-then-not-is_at

@@ -1,6 +1,6 @@
 use Rattle.std.proofs.Common.{◌∙◌, List, ℕ, subst}
 use Rattle.std.specs.List.Sorted.{IsPermutation}
-use Rattle.tw_numbers.proofs.Ordered.{sorted_tells}
+use Rattle.tw_numbers.proofs.OrderedUuids.{sorted_tells}
 use Rattle.tw_numbers.proofs.soundness.is_assigned.Goals as goal
 
 pub returns : goal.returns

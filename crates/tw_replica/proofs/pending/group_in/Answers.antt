@@ -1,5 +1,5 @@
 use Rattle.std.proofs.Common.{◌∙◌, sym}
-use Rattle.tw_replica.proofs.Keeping.{short_holds}
+use Rattle.tw_replica.proofs.PendingBodies.{short_holds}
 use Rattle.tw_replica.proofs.pending.group_in.Goals as goal
 
 pub returns-in_default : goal.returns-in_default

@@ -1,5 +1,5 @@
 use Rattle.std.proofs.Common.{◌∙◌, arith}
-use Rattle.tw_replica.proofs.Keeping.{read_behind, none_behind, fewer_before, some_before}
+use Rattle.tw_replica.proofs.PendingBodies.{read_behind, none_behind, fewer_before, some_before}
 use Rattle.tw_replica.proofs.pending.read_behind.Goals as goal
 
 pub overflow_sub-first : goal.overflow_sub-first

@@ -1,5 +1,5 @@
 use Rattle.std.proofs.Common.{◌≡◌, ◌≤◌, length, take}
-use Rattle.tw_replica.specs.Kept.{groups_in}
+use Rattle.tw_replica.specs.Groups.{groups_in}
 use Rattle.tw_replica.proofs.pending.read_behind.Given as goal
 
 abbrev pub invariant-loop-first : goal.invariant-loop-first

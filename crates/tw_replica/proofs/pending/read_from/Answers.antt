@@ -1,7 +1,7 @@
 use Rattle.std.proofs.Common.{◌+◌, ◌++◌, ◌∙◌, List, ap, drop, arith}
 use Rattle.tw_model.specs.declared.Op.{Op}
-use Rattle.tw_replica.specs.Kept.{group_in, groups_in}
-use Rattle.tw_replica.proofs.Keeping.{one_more, none_left}
+use Rattle.tw_replica.specs.Groups.{group_in, groups_in}
+use Rattle.tw_replica.proofs.PendingBodies.{one_more, none_left}
 use Rattle.tw_replica.proofs.pending.read_from.Goals as goal
 
 pub loop-at-preserved : goal.loop-at-preserved

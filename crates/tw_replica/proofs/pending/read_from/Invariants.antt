@@ -1,5 +1,5 @@
 use Rattle.std.proofs.Common.{◌≡◌, ◌-◌, ◌++◌, length, drop}
-use Rattle.tw_replica.specs.Kept.{groups_in}
+use Rattle.tw_replica.specs.Groups.{groups_in}
 use Rattle.tw_replica.proofs.pending.read_from.Given as goal
 
 abbrev pub invariant-loop-at : goal.invariant-loop-at

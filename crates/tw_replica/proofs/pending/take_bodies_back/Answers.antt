@@ -1,6 +1,6 @@
 use Rattle.std.proofs.Common.{◌∙◌, ap, arith}
-use Rattle.tw_replica.specs.Kept.{group_in}
-use Rattle.tw_replica.proofs.Keeping.{back_more, touched_more}
+use Rattle.tw_replica.specs.Groups.{group_in}
+use Rattle.tw_replica.proofs.PendingBodies.{back_more, touched_more}
 use Rattle.tw_replica.proofs.pending.take_bodies_back.Goals as goal
 
 pub loop-at-preserved : goal.loop-at-preserved

@@ -1,6 +1,6 @@
 use Rattle.std.proofs.Common.{◌≡◌, ◌≤◌, ◌||◌, ℕ, List, length, take}
 use Rattle.tw_model.specs.LocalOps.{take_back_all}
-use Rattle.tw_replica.specs.Kept.{groups_in}
+use Rattle.tw_replica.specs.Groups.{groups_in}
 use Rattle.tw_numbers.specs.Assigned.{is_among}
 use Rattle.tw_replica.specs.Touched.{is_touched}
 use Rattle.tw_replica.proofs.pending.take_bodies_back.Given as goal

@@ -1,7 +1,7 @@
 use Rattle.std.proofs.Common.{◌≡◌, ◌∙◌, ◌<◌, ◌+◌, ◌++◌, ap, sym, subst, length, get_or, option_map, Some, drop}
 use Rattle.std.proofs.lemmas.List.{length_push}
 use Rattle.serde_json.specs.View.{view, items_view}
-use Rattle.tw_segment.specs.Segment.{ops_of, bad_place, op_of}
+use Rattle.tw_segment.specs.Segment.{ops_of, bad_index, op_of}
 use Rattle.tw_segment.proofs.Loops.{rest_is, read_more, place_more}
 use Rattle.tw_segment.proofs.reading.ops_of.Goals as goal
 
@@ -17,6 +17,6 @@ loop-value-preserved c =
     let op : Some c.in-Some.op ≡ op_of (view v) = sym c.in-Some.is ∙ c.in_ok-op.ensures in
     record {
       read = c.loop-value.invariant.read ∙ ap (λ its. option_map (λ more. front ++ more) (ops_of its)) rest ∙ read_more (view v) (items_view (drop (at + 1) vs)) front c.push.new.self.items c.in-Some.op op c.in_ok-push.ensures.items;
-      place = c.loop-value.invariant.place ∙ ap (λ its. option_map (λ p. at + p) (bad_place its)) rest ∙ place_more (view v) (items_view (drop (at + 1) vs)) at c.in-Some.op op;
+      place = c.loop-value.invariant.place ∙ ap (λ its. option_map (λ p. at + p) (bad_index its)) rest ∙ place_more (view v) (items_view (drop (at + 1) vs)) at c.in-Some.op op;
       count = ap length c.in_ok-push.ensures.items ∙ length_push front c.in-Some.op ∙ ap (λ n. n + 1) c.loop-value.invariant.count;
     }

@@ -1,4 +1,4 @@
-use Rattle.tw_segment.proofs.Back.{update_back}
+use Rattle.tw_segment.proofs.OpsBack.{update_back}
 use Rattle.tw_segment.proofs.writing.update_value.Goals as goal
 
 pub returns-in-Ok-json-8-clause-back : goal.returns-in-Ok-json-8-clause-back

@@ -3,7 +3,7 @@ use Rattle.std.specs.Vec.{vec_len}
 use Rattle.serde_json.specs.Data.{depth}
 use Rattle.serde_json.specs.Written.{has_float, compact_text}
 use Rattle.tw_segment.specs.Segment.{segment_data, segment_text}
-use Rattle.tw_segment.proofs.Back.{segment_back, segment-no_float, segment-depth}
+use Rattle.tw_segment.proofs.OpsBack.{segment_back, segment-no_float, segment-depth}
 use Rattle.tw_segment.proofs.writing.write_segment.Goals as goal
 
 pub returns-clause-text : goal.returns-clause-text

@@ -1,5 +1,5 @@
 use Rattle.tw_http.specs.declared.message.Request.TheVariants.{Add}
-use Rattle.tw_sync.proofs.Badly.{added_nil, not_to_add}
+use Rattle.tw_sync.proofs.BadReplies.{added_nil, not_to_add}
 use Rattle.tw_sync.proofs.ask.add_answer.Goals as goal
 
 pub unreachable-requires-in-Child : goal.unreachable-requires-in-Child

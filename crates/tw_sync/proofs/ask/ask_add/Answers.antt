@@ -4,8 +4,9 @@ use Rattle.tw_http.specs.declared.message.Asked.TheVariants as asked
 use Rattle.tw_http.specs.Messages.{max_body}
 use Rattle.tw_http.specs.Responses.{IsResponseAnswer}
 use Rattle.tw_sync.specs.Answers.{NoReply, AddRefused, IsAddAnswer, add_response, IsBadlyAnswered}
-use Rattle.tw_sync.proofs.Answered.{add_answered, chain_served, add_refused, add_may_own}
-use Rattle.tw_sync.proofs.Unheard.{if_ok, if_err, badly_refused, badly_heard}
+use Rattle.tw_sync.proofs.HonestAnswers.{add_answered, chain_served, add_refused, add_may_own}
+use Rattle.tw_sync.proofs.HeardBadReply.{badly_refused, badly_heard}
+use Rattle.tw_sync.proofs.Results.{if_ok, if_err}
 use Rattle.tw_sync.proofs.ask.ask_add.Goals as goal
 
 pub returns-in_err-reply-clause-refused_honest : goal.returns-in_err-reply-clause-refused_honest

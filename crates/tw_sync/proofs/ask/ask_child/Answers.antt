@@ -3,8 +3,9 @@ use Rattle.tw_http.specs.declared.message.Request.TheVariants.{Child}
 use Rattle.tw_http.specs.declared.message.Asked.TheVariants as asked
 use Rattle.tw_http.specs.Responses.{IsResponseAnswer}
 use Rattle.tw_sync.specs.Answers.{child_response, IsBadlyAnswered}
-use Rattle.tw_sync.proofs.Answered.{child_answered, chain_served, child_no_reply}
-use Rattle.tw_sync.proofs.Unheard.{if_ok, if_err, badly_refused, badly_heard}
+use Rattle.tw_sync.proofs.HonestAnswers.{child_answered, chain_served, child_no_reply}
+use Rattle.tw_sync.proofs.HeardBadReply.{badly_refused, badly_heard}
+use Rattle.tw_sync.proofs.Results.{if_ok, if_err}
 use Rattle.tw_sync.proofs.ask.ask_child.Goals as goal
 
 pub returns-clause-answer : goal.returns-clause-answer

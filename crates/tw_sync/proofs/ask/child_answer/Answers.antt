@@ -1,4 +1,4 @@
-use Rattle.tw_sync.proofs.Badly.{differs, is_same, other_parent, child_nil, not_to_child}
+use Rattle.tw_sync.proofs.BadReplies.{differs, is_same, other_parent, child_nil, not_to_child}
 use Rattle.tw_sync.proofs.ask.child_answer.Goals as goal
 
 pub unreachable-requires-in-Added : goal.unreachable-requires-in-Added

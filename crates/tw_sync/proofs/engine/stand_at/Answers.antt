@@ -5,8 +5,8 @@ use Rattle.tw_protocol.specs.Chain.{same_id}
 use Rattle.tw_replica.specs.Core.{state_of}
 use Rattle.tw_replica.specs.Replica.{OpensToEither}
 use Rattle.tw_replica.specs.State.{State, synced}
-use Rattle.tw_replica.proofs.Standing.{nothing_written}
-use Rattle.tw_sync.specs.Keeping.{moved_state}
+use Rattle.tw_replica.proofs.RecordAdded.{nothing_written}
+use Rattle.tw_sync.specs.Moved.{moved_state}
 use Rattle.tw_sync.proofs.engine.stand_at.Goals as goal
 
 pub returns-then-eq-clause-any_moment : goal.returns-then-eq-clause-any_moment

@@ -1,5 +1,4 @@
-use Rattle.tw_sync.proofs.Results.{if_ok_map, if_err_map}
-use Rattle.tw_sync.proofs.Hearing.{kept_same}
+use Rattle.tw_sync.proofs.Results.{if_ok, if_err}
 use Rattle.tw_sync.proofs.Served.{grows_same}
 use Rattle.tw_sync.proofs.engine.sync.Goals as goal
 
@@ -23,39 +22,39 @@ returns-then-is_closed-clause-grows g c = λ honest. grows_same (g.L.Link.model.
 -- ---- it is done
 
 pub returns-clause-ended : goal.returns-clause-ended
-returns-clause-ended g c = if_ok_map c.meet_and_move.result _ _ c.meet_and_move.ensures.done (λ report end. end.ended)
+returns-clause-ended g c = if_ok c.meet_and_move.result c.meet_and_move.ensures.done (λ report end. end.ended)
 
 pub returns-clause-cancels : goal.returns-clause-cancels
-returns-clause-cancels g c = if_ok_map c.meet_and_move.result _ _ c.meet_and_move.ensures.done (λ report end. end.cancels)
+returns-clause-cancels g c = if_ok c.meet_and_move.result c.meet_and_move.ensures.done (λ report end. end.cancels)
 
 pub returns-clause-records : goal.returns-clause-records
-returns-clause-records g c = λ bodies on. if_ok_map c.meet_and_move.result _ _ c.meet_and_move.ensures.done (λ report end. end.records bodies on)
+returns-clause-records g c = λ bodies on. if_ok c.meet_and_move.result c.meet_and_move.ensures.done (λ report end. end.records bodies on)
 
 pub returns-clause-heard : goal.returns-clause-heard
-returns-clause-heard g c = if_ok_map c.meet_and_move.result _ _ c.meet_and_move.ensures.done (λ report end. end.heard)
+returns-clause-heard g c = if_ok c.meet_and_move.result c.meet_and_move.ensures.done (λ report end. end.heard)
 
 pub returns-clause-exchanges : goal.returns-clause-exchanges
-returns-clause-exchanges g c = if_ok_map c.meet_and_move.result _ _ c.meet_and_move.ensures.done (λ report end. end.exchanges)
+returns-clause-exchanges g c = if_ok c.meet_and_move.result c.meet_and_move.ensures.done (λ report end. end.exchanges)
 
 -- ---- it is refused
 
 pub returns-clause-added : goal.returns-clause-added
-returns-clause-added g c = if_err_map c.meet_and_move.result _ _ c.meet_and_move.ensures.refused (λ e end. end.added)
+returns-clause-added g c = if_err c.meet_and_move.result c.meet_and_move.ensures.refused (λ e end. end.added)
 
 pub returns-clause-added_only : goal.returns-clause-added_only
-returns-clause-added_only g c = if_err_map c.meet_and_move.result _ _ c.meet_and_move.ensures.refused (λ e end. end.added_only)
+returns-clause-added_only g c = if_err c.meet_and_move.result c.meet_and_move.ensures.refused (λ e end. end.added_only)
 
 pub returns-clause-refused : goal.returns-clause-refused
-returns-clause-refused g c = if_err_map c.meet_and_move.result _ _ c.meet_and_move.ensures.refused (λ e end. end.refused)
+returns-clause-refused g c = if_err c.meet_and_move.result c.meet_and_move.ensures.refused (λ e end. end.refused)
 
 pub returns-clause-honest : goal.returns-clause-honest
-returns-clause-honest g c = if_err_map c.meet_and_move.result _ _ c.meet_and_move.ensures.refused (λ e end. end.honest)
+returns-clause-honest g c = if_err c.meet_and_move.result c.meet_and_move.ensures.refused (λ e end. end.honest)
 
 pub returns-clause-complete : goal.returns-clause-complete
-returns-clause-complete g c = if_err_map c.meet_and_move.result _ _ c.meet_and_move.ensures.refused (λ e end. end.complete)
+returns-clause-complete g c = if_err c.meet_and_move.result c.meet_and_move.ensures.refused (λ e end. end.complete)
 
 pub returns-clause-refused_heard : goal.returns-clause-refused_heard
-returns-clause-refused_heard g c = if_err_map c.meet_and_move.result _ _ c.meet_and_move.ensures.refused (λ e end. end.heard)
+returns-clause-refused_heard g c = if_err c.meet_and_move.result c.meet_and_move.ensures.refused (λ e end. end.heard)
 
 pub returns-clause-measured : goal.returns-clause-measured
-returns-clause-measured g c = if_err_map c.meet_and_move.result _ _ c.meet_and_move.ensures.refused (λ e end. end.measured)
+returns-clause-measured g c = if_err c.meet_and_move.result c.meet_and_move.ensures.refused (λ e end. end.measured)

@@ -1,4 +1,4 @@
-use Rattle.tw_sync.proofs.Steps.{commit_agrees}
+use Rattle.tw_sync.proofs.LocalSteps.{commit_agrees}
 use Rattle.tw_sync.proofs.laws.commit_agrees.Goals as goal
 
 pub returns : goal.returns

@@ -1,4 +1,4 @@
-use Rattle.tw_sync.proofs.Steps.{undo_agrees}
+use Rattle.tw_sync.proofs.LocalSteps.{undo_agrees}
 use Rattle.tw_sync.proofs.laws.undo_agrees.Goals as goal
 
 pub returns : goal.returns

@@ -1,4 +1,4 @@
-use Rattle.tw_sync.proofs.Following.{added_for_following}
+use Rattle.tw_sync.proofs.LaterOps.{added_for_following}
 use Rattle.tw_sync.proofs.laws.what_was_added_stays_added.Goals as goal
 
 pub returns : goal.returns

@@ -1,7 +1,7 @@
 use Rattle.std.proofs.Common.{◌≡◌, true, false, rules}
-use Rattle.tw_sync.proofs.Results.{passed_on, on_ok_map, if_err_map}
+use Rattle.tw_sync.proofs.Results.{passed_on, on_ok, if_err}
 use Rattle.tw_sync.proofs.Conflicts.{late_pulls}
-use Rattle.tw_sync.proofs.Others.{busy}
+use Rattle.tw_sync.proofs.OtherVersions.{busy}
 use Rattle.tw_sync.proofs.pulling.pull_late.Goals as goal
 
 pub returns-then-cursor-gt15-clause-stopped : goal.returns-then-cursor-gt15-clause-stopped
@@ -21,13 +21,13 @@ returns-then-not-branch-clause-stopped g c = λ state first s.
 pub returns-clause-pulled : goal.returns-clause-pulled
 returns-clause-pulled g c =
     let more : c.in_ok-pull_one.field-0 ≡ true = search rules in
-    on_ok_map c.pull.result c.pull.ensures.pulled
+    on_ok c.pull.result c.pull.ensures.pulled
     (λ pulled state first s.
     pulled state first (c.in_ok-pull_one.ensures.found more state first (late_pulls g.L.Link.model c.args.client c.args.host.now state first c.args.link.now c.args.cursor.now c.args.latest s c.if-cursor-gt15.false)))
 
 pub returns-clause-stopped : goal.returns-clause-stopped
 returns-clause-stopped g c =
     let more : c.in_ok-pull_one.field-0 ≡ true = search rules in
-    if_err_map c.pull.result _ _ c.pull.ensures.stopped
+    if_err c.pull.result c.pull.ensures.stopped
     (λ e stopped state first s.
     stopped state first (c.in_ok-pull_one.ensures.found more state first (late_pulls g.L.Link.model c.args.client c.args.host.now state first c.args.link.now c.args.cursor.now c.args.latest s c.if-cursor-gt15.false)))

@@ -2,59 +2,45 @@ use Rattle.std.proofs.Common.{◌≡◌, arith, rules, subst}
 use Rattle.tw_sync.proofs.Results.{passed_on}
 use Rattle.tw_sync.specs.Cursor.{TakesVersion, IsNotTaken}
 use Rattle.tw_sync.specs.Progress.{ends_late}
-use Rattle.tw_sync.specs.Answers.{child_heard}
 use Rattle.tw_sync.proofs.Reading.{segment_some}
-use Rattle.tw_sync.proofs.Turns.{IsAsked, IsTold, pulling_on, pulled_up}
-use Rattle.tw_sync.proofs.Stops.{pulling_unasked, pulling_gone, pulling_untaken}
+use Rattle.tw_sync.proofs.OneExchangeMore.{child_is_asked, child_says_truly, pulling_on, pulled_up}
+use Rattle.tw_sync.proofs.PullRefused.{pulling_unasked, pulling_gone, pulling_untaken}
 use Rattle.tw_sync.proofs.Conflicts.{late_alone}
 use Rattle.tw_sync.proofs.pulling.pull_one.Goals as goal
 
 pub returns-in_err-id-clause-stopped : goal.returns-in_err-id-clause-stopped
 returns-in_err-id-clause-stopped g c =
-    let m = g.L.Link.model in
     let k = c.in_err-id.ensures in
     passed_on c.from_residual.result _ _ c.from_residual.ensures.1
-    (λ state first s. pulling_unasked m c.args.client c.args.host.now state first c.args.link.now c.ask_child.new.link c.args.cursor.now (λ hs. Unit {0}) c.in_err-id.field-0.0 s (record { kept = k.kept; count = k.count; refused = k.refused; heard = k.refused_heard }) k.grows k.own k.refused_honest)
+    (λ state first s. pulling_unasked g.L.Link.model c.args.client c.args.host.now state first c.args.link.now c.ask_child.new.link c.args.cursor.now (λ hs. Unit {0}) c.in_err-id.field-0.0 s (record { kept = k.kept; count = k.count; refused = k.refused; heard = k.refused_heard }) k.grows k.own k.refused_honest)
 
 pub returns-in_err-take_version-in-Found-clause-stopped : goal.returns-in_err-take_version-in-Found-clause-stopped
 returns-in_err-take_version-in-Found-clause-stopped g c =
-    let m = g.L.Link.model in
     let k = c.in_ok-id.ensures in
     let bytes : c.as_slice.result.now ≡ c.in-Found.segment = search rules in
-    let a = c.args.link.now in
-    let b = c.ask_child.new.link in
-    let p = c.args.cursor.now in
     passed_on c.from_residual-in_err-take_version-in-Found.result _ _ c.from_residual-in_err-take_version-in-Found.ensures.1
-    (λ state first s. pulling_untaken m c.args.client c.args.host.now state first a b p (λ hs. Unit {0}) c.in-Found.id c.in-Found.segment c.in_err-take_version-in-Found.field-0.0 s
-    (subst (λ r. IsAsked m c.args.client c.args.host.now a b (child_heard c.args.client p.at r)) c.in-Found.is (record { kept = k.kept; count = k.count; heard = k.heard; welcome = k.welcome }))
-    (λ honest. subst (IsTold m c.args.client a b p.at) c.in-Found.is (record { on = k.grows honest; mine = k.own honest; says = k.answer honest }))
-    (subst (λ xs. IsNotTaken p c.in-Found.id xs c.in_err-take_version-in-Found.field-0.0) bytes c.in_err-take_version-in-Found.ensures.refused))
+    (λ state first s. pulling_untaken g.L.Link.model c.args.client c.args.host.now state first c.args.link.now c.ask_child.new.link c.args.cursor.now (λ hs. Unit {0}) c.in-Found.id c.in-Found.segment c.in_err-take_version-in-Found.field-0.0 s
+    (child_is_asked g.L.Link.model c.args.client c.args.host.now c.args.link.now c.ask_child.new.link k.kept k.count c.args.cursor.now.at _ _ c.in-Found.is k.heard k.welcome)
+    (λ honest. child_says_truly g.L.Link.model c.args.client c.args.link.now c.ask_child.new.link c.args.cursor.now.at _ _ c.in-Found.is (k.grows honest) (k.own honest) (k.answer honest))
+    (subst (λ xs. IsNotTaken c.args.cursor.now c.in-Found.id xs c.in_err-take_version-in-Found.field-0.0) bytes c.in_err-take_version-in-Found.ensures.refused))
 
 pub returns-in_ok-take_version-in-Found-clause-goes_on : goal.returns-in_ok-take_version-in-Found-clause-goes_on
 returns-in_ok-take_version-in-Found-clause-goes_on g c = λ state first s.
-    let m = g.L.Link.model in
     let k = c.in_ok-id.ensures in
     let bytes : c.as_slice.result.now ≡ c.in-Found.segment = search rules in
-    let a = c.args.link.now in
-    let b = c.ask_child.new.link in
-    let p = c.args.cursor.now in
-    pulling_on m c.args.client c.args.host.now state first a b p c.take_version.new.self (λ hs. ends_late hs ≡ 0) c.in-Found.id c.in-Found.segment s
-    (subst (λ r. IsAsked m c.args.client c.args.host.now a b (child_heard c.args.client p.at r)) c.in-Found.is (record { kept = k.kept; count = k.count; heard = k.heard; welcome = k.welcome }))
-    (λ honest. subst (IsTold m c.args.client a b p.at) c.in-Found.is (record { on = k.grows honest; mine = k.own honest; says = k.answer honest }))
-    (subst (λ xs. TakesVersion p c.take_version.new.self c.in-Found.id xs) bytes c.in_ok-take_version-in-Found.ensures.taken)
+    pulling_on g.L.Link.model c.args.client c.args.host.now state first c.args.link.now c.ask_child.new.link c.args.cursor.now c.take_version.new.self (λ hs. ends_late hs ≡ 0) c.in-Found.id c.in-Found.segment s
+    (child_is_asked g.L.Link.model c.args.client c.args.host.now c.args.link.now c.ask_child.new.link k.kept k.count c.args.cursor.now.at _ _ c.in-Found.is k.heard k.welcome)
+    (λ honest. child_says_truly g.L.Link.model c.args.client c.args.link.now c.ask_child.new.link c.args.cursor.now.at _ _ c.in-Found.is (k.grows honest) (k.own honest) (k.answer honest))
+    (subst (λ xs. TakesVersion c.args.cursor.now c.take_version.new.self c.in-Found.id xs) bytes c.in_ok-take_version-in-Found.ensures.taken)
 
 pub returns-in_ok-take_version-in-Found-clause-found : goal.returns-in_ok-take_version-in-Found-clause-found
 returns-in_ok-take_version-in-Found-clause-found g c = λ more state first s.
-    let m = g.L.Link.model in
     let k = c.in_ok-id.ensures in
     let bytes : c.as_slice.result.now ≡ c.in-Found.segment = search rules in
-    let a = c.args.link.now in
-    let b = c.ask_child.new.link in
-    let p = c.args.cursor.now in
-    pulling_on m c.args.client c.args.host.now state first a b p c.take_version.new.self (λ hs. Unit {0}) c.in-Found.id c.in-Found.segment s
-    (subst (λ r. IsAsked m c.args.client c.args.host.now a b (child_heard c.args.client p.at r)) c.in-Found.is (record { kept = k.kept; count = k.count; heard = k.heard; welcome = k.welcome }))
-    (λ honest. subst (IsTold m c.args.client a b p.at) c.in-Found.is (record { on = k.grows honest; mine = k.own honest; says = k.answer honest }))
-    (subst (λ xs. TakesVersion p c.take_version.new.self c.in-Found.id xs) bytes c.in_ok-take_version-in-Found.ensures.taken)
+    pulling_on g.L.Link.model c.args.client c.args.host.now state first c.args.link.now c.ask_child.new.link c.args.cursor.now c.take_version.new.self (λ hs. Unit {0}) c.in-Found.id c.in-Found.segment s
+    (child_is_asked g.L.Link.model c.args.client c.args.host.now c.args.link.now c.ask_child.new.link k.kept k.count c.args.cursor.now.at _ _ c.in-Found.is k.heard k.welcome)
+    (λ honest. child_says_truly g.L.Link.model c.args.client c.args.link.now c.ask_child.new.link c.args.cursor.now.at _ _ c.in-Found.is (k.grows honest) (k.own honest) (k.answer honest))
+    (subst (λ xs. TakesVersion c.args.cursor.now c.take_version.new.self c.in-Found.id xs) bytes c.in_ok-take_version-in-Found.ensures.taken)
 
 pub returns-in_ok-take_version-in-Found-clause-farther : goal.returns-in_ok-take_version-in-Found-clause-farther
 returns-in_ok-take_version-in-Found-clause-farther g c = λ more.
@@ -65,33 +51,21 @@ returns-in_ok-take_version-in-Found-clause-farther g c = λ more.
 
 pub returns-in-UpToDate-clause-goes_on : goal.returns-in-UpToDate-clause-goes_on
 returns-in-UpToDate-clause-goes_on g c = λ state first s.
-    let m = g.L.Link.model in
     let k = c.in_ok-id.ensures in
-    let a = c.args.link.now in
-    let b = c.ask_child.new.link in
-    let p = c.args.cursor.now in
-    pulled_up m c.args.client c.args.host.now state first a b p s
-    (subst (λ r. IsAsked m c.args.client c.args.host.now a b (child_heard c.args.client p.at r)) c.in-UpToDate.is (record { kept = k.kept; count = k.count; heard = k.heard; welcome = k.welcome }))
-    (λ honest. subst (IsTold m c.args.client a b p.at) c.in-UpToDate.is (record { on = k.grows honest; mine = k.own honest; says = k.answer honest }))
+    pulled_up g.L.Link.model c.args.client c.args.host.now state first c.args.link.now c.ask_child.new.link c.args.cursor.now s
+    (child_is_asked g.L.Link.model c.args.client c.args.host.now c.args.link.now c.ask_child.new.link k.kept k.count c.args.cursor.now.at _ _ c.in-UpToDate.is k.heard k.welcome)
+    (λ honest. child_says_truly g.L.Link.model c.args.client c.args.link.now c.ask_child.new.link c.args.cursor.now.at _ _ c.in-UpToDate.is (k.grows honest) (k.own honest) (k.answer honest))
 
 pub returns-in-UpToDate-clause-late : goal.returns-in-UpToDate-clause-late
 returns-in-UpToDate-clause-late g c = λ none tries state first last s.
-    let m = g.L.Link.model in
     let k = c.in_ok-id.ensures in
-    let a = c.args.link.now in
-    let b = c.ask_child.new.link in
-    let p = c.args.cursor.now in
-    late_alone m c.args.client c.args.host.now state first a b p last s tries
-    (subst (λ r. IsAsked m c.args.client c.args.host.now a b (child_heard c.args.client p.at r)) c.in-UpToDate.is (record { kept = k.kept; count = k.count; heard = k.heard; welcome = k.welcome }))
-    (λ honest. subst (IsTold m c.args.client a b p.at) c.in-UpToDate.is (record { on = k.grows honest; mine = k.own honest; says = k.answer honest }))
+    late_alone g.L.Link.model c.args.client c.args.host.now state first c.args.link.now c.ask_child.new.link c.args.cursor.now last s tries
+    (child_is_asked g.L.Link.model c.args.client c.args.host.now c.args.link.now c.ask_child.new.link k.kept k.count c.args.cursor.now.at _ _ c.in-UpToDate.is k.heard k.welcome)
+    (λ honest. child_says_truly g.L.Link.model c.args.client c.args.link.now c.ask_child.new.link c.args.cursor.now.at _ _ c.in-UpToDate.is (k.grows honest) (k.own honest) (k.answer honest))
 
 pub returns-in-Gone-clause-stopped : goal.returns-in-Gone-clause-stopped
 returns-in-Gone-clause-stopped g c = λ state first s.
-    let m = g.L.Link.model in
     let k = c.in_ok-id.ensures in
-    let a = c.args.link.now in
-    let b = c.ask_child.new.link in
-    let p = c.args.cursor.now in
-    pulling_gone m c.args.client c.args.host.now state first a b p (λ hs. Unit {0}) s
-    (subst (λ r. IsAsked m c.args.client c.args.host.now a b (child_heard c.args.client p.at r)) c.in-Gone.is (record { kept = k.kept; count = k.count; heard = k.heard; welcome = k.welcome }))
-    (λ honest. subst (IsTold m c.args.client a b p.at) c.in-Gone.is (record { on = k.grows honest; mine = k.own honest; says = k.answer honest }))
+    pulling_gone g.L.Link.model c.args.client c.args.host.now state first c.args.link.now c.ask_child.new.link c.args.cursor.now (λ hs. Unit {0}) s
+    (child_is_asked g.L.Link.model c.args.client c.args.host.now c.args.link.now c.ask_child.new.link k.kept k.count c.args.cursor.now.at _ _ c.in-Gone.is k.heard k.welcome)
+    (λ honest. child_says_truly g.L.Link.model c.args.client c.args.link.now c.ask_child.new.link c.args.cursor.now.at _ _ c.in-Gone.is (k.grows honest) (k.own honest) (k.answer honest))

@@ -1,8 +1,8 @@
 use Rattle.std.proofs.Common.{◌≡◌, length, rules, refl, subst}
-use Rattle.tw_sync.specs.Answers.{IsAddAnswer, add_heard}
+use Rattle.tw_sync.specs.Answers.{IsAddAnswer}
 use Rattle.tw_sync.proofs.Results.{passed_on}
-use Rattle.tw_sync.proofs.Turns.{IsAsked}
-use Rattle.tw_sync.proofs.Adding.{added, unsent, unadded, added_unkept}
+use Rattle.tw_sync.proofs.OneExchangeMore.{add_is_asked}
+use Rattle.tw_sync.proofs.LeftIsSent.{added, unsent, unadded, added_unkept}
 use Rattle.tw_sync.proofs.Conflicts.{came_late}
 use Rattle.tw_sync.proofs.pushing.push.Goals as goal
 
@@ -21,38 +21,26 @@ returns-in_err-id-clause-stopped g c =
 
 pub returns-in_err-append-in-Added-clause-stopped : goal.returns-in_err-append-in-Added-clause-stopped
 returns-in_err-append-in-Added-clause-stopped g c =
-    let m = g.L.Link.model in
-    let a = c.args.link.now in
-    let b = c.ask_add.new.link in
-    let p = c.args.cursor.now in
     let k = c.in_ok-id.ensures in
     let t = c.in_ok-segment.ensures in
     passed_on c.from_residual-in_err-append-in-Added.result _ _ c.from_residual-in_err-append-in-Added.ensures.1
-    (λ state first s. added_unkept m c.args.client c.args.host.now state first a b p c.in-Added.id c.in_ok-segment.segment.items s
-    (subst (λ r. IsAsked m c.args.client c.args.host.now a b (add_heard c.args.client p.at c.in_ok-segment.segment.items r)) c.in-Added.is (record { kept = k.kept; count = k.count; heard = k.heard; welcome = k.welcome }))
-    k.grows (λ honest. subst (λ r. IsAddAnswer m a b p.at c.in_ok-segment.segment.items r) c.in-Added.is (k.answer honest)) c.requires.some t.text t.reads_back t.within)
+    (λ state first s. added_unkept g.L.Link.model c.args.client c.args.host.now state first c.args.link.now c.ask_add.new.link c.args.cursor.now c.in-Added.id c.in_ok-segment.segment.items s
+    (add_is_asked g.L.Link.model c.args.client c.args.host.now c.args.link.now c.ask_add.new.link k.kept k.count c.args.cursor.now.at c.in_ok-segment.segment.items _ _ c.in-Added.is k.heard k.welcome)
+    k.grows (λ honest. subst (IsAddAnswer g.L.Link.model c.args.link.now c.ask_add.new.link c.args.cursor.now.at c.in_ok-segment.segment.items) c.in-Added.is (k.answer honest)) c.requires.some t.text t.reads_back t.within)
 
 pub returns-in_ok-append-in-Added-clause-pushed : goal.returns-in_ok-append-in-Added-clause-pushed
 returns-in_ok-append-in-Added-clause-pushed g c = λ state first s.
-    let m = g.L.Link.model in
-    let a = c.args.link.now in
-    let b = c.ask_add.new.link in
-    let p = c.args.cursor.now in
     let k = c.in_ok-id.ensures in
     let t = c.in_ok-segment.ensures in
     let count : c.len-operations.result ≡ length c.args.cursor.now.left.items = search rules in
-    added m c.args.client c.args.host.now state first a b p _ c.in-Added.id c.in_ok-segment.segment.items c.len-operations.result s
-    (subst (λ r. IsAsked m c.args.client c.args.host.now a b (add_heard c.args.client p.at c.in_ok-segment.segment.items r)) c.in-Added.is (record { kept = k.kept; count = k.count; heard = k.heard; welcome = k.welcome }))
-    k.grows (λ honest. subst (λ r. IsAddAnswer m a b p.at c.in_ok-segment.segment.items r) c.in-Added.is (k.answer honest)) c.requires.some t.text t.reads_back t.within refl c.in_ok-append-in-Added.ensures.items refl count
+    added g.L.Link.model c.args.client c.args.host.now state first c.args.link.now c.ask_add.new.link c.args.cursor.now _ c.in-Added.id c.in_ok-segment.segment.items c.len-operations.result s
+    (add_is_asked g.L.Link.model c.args.client c.args.host.now c.args.link.now c.ask_add.new.link k.kept k.count c.args.cursor.now.at c.in_ok-segment.segment.items _ _ c.in-Added.is k.heard k.welcome)
+    k.grows (λ honest. subst (IsAddAnswer g.L.Link.model c.args.link.now c.ask_add.new.link c.args.cursor.now.at c.in_ok-segment.segment.items) c.in-Added.is (k.answer honest)) c.requires.some t.text t.reads_back t.within refl c.in_ok-append-in-Added.ensures.items refl count
 
 pub returns-in-Conflict-clause-pushed : goal.returns-in-Conflict-clause-pushed
 returns-in-Conflict-clause-pushed g c = λ state first s.
-    let m = g.L.Link.model in
-    let a = c.args.link.now in
-    let b = c.ask_add.new.link in
-    let p = c.args.cursor.now in
     let k = c.in_ok-id.ensures in
-    came_late m c.args.client c.args.host.now state first a b p _ c.in_ok-segment.segment.items c.in-Conflict.latest s
-    (subst (λ r. IsAsked m c.args.client c.args.host.now a b (add_heard c.args.client p.at c.in_ok-segment.segment.items r)) c.in-Conflict.is (record { kept = k.kept; count = k.count; heard = k.heard; welcome = k.welcome }))
-    k.grows (λ honest. subst (λ r. IsAddAnswer m a b p.at c.in_ok-segment.segment.items r) c.in-Conflict.is (k.answer honest))
+    came_late g.L.Link.model c.args.client c.args.host.now state first c.args.link.now c.ask_add.new.link c.args.cursor.now _ c.in_ok-segment.segment.items c.in-Conflict.latest s
+    (add_is_asked g.L.Link.model c.args.client c.args.host.now c.args.link.now c.ask_add.new.link k.kept k.count c.args.cursor.now.at c.in_ok-segment.segment.items _ _ c.in-Conflict.is k.heard k.welcome)
+    k.grows (λ honest. subst (IsAddAnswer g.L.Link.model c.args.link.now c.ask_add.new.link c.args.cursor.now.at c.in_ok-segment.segment.items) c.in-Conflict.is (k.answer honest))
     (record { at = refl; left = refl; tasks = refl; remote = refl; versions = refl; bytes = refl; conflicts = refl })

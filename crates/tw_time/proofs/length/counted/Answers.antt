@@ -1,6 +1,7 @@
 use Rattle.std.proofs.Common.{sym, ◌∙◌, ap, take}
 use Rattle.tw_time.specs.Tables.{entries}
-use Rattle.tw_time.proofs.LengthFacts.{digits_of_front, look_up_small}
+use Rattle.tw_text.proofs.TextFacts.{digits_of_front}
+use Rattle.tw_time.proofs.LengthFacts.{look_up_small}
 use Rattle.tw_time.proofs.length.counted.Goals as goal
 
 pub count_of_units-requires-clause-digits : goal.count_of_units-requires-clause-digits

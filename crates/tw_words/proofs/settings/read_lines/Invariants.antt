@@ -1,7 +1,7 @@
--- the lines left, behind what is set, give what all give
+-- the lines left, after what is set, give what all give
 use Rattle.std.proofs.Common.{◌≡◌, ◌≤◌, ◌+◌, length, option_copied}
 use Rattle.tw_filter.specs.Cuts.{parts, parts_of}
-use Rattle.tw_filter.proofs.Cutting.{left_len}
+use Rattle.tw_filter.proofs.FirstParts.{left_len}
 use Rattle.tw_words.specs.Settings.{lines_from}
 use Rattle.tw_words.proofs.settings.read_lines.Given as goal
 

@@ -1,4 +1,4 @@
--- the overrides left, behind what is set, give what all give
+-- the overrides left, after what is set, give what all give
 use Rattle.std.proofs.Common.{◌≡◌, drop}
 use Rattle.tw_words.specs.Settings.{overridden}
 use Rattle.tw_words.proofs.settings.read_overrides.Given as goal

@@ -1,11 +1,11 @@
 use Rattle.std.proofs.Common.{◌≡◌, length, rules, refl, ap, ◌∙◌}
 use Rattle.timew_store.specs.Edit.{edited}
-use Rattle.timew_store.specs.Store.{rows_kept}
+use Rattle.timew_store.specs.Store.{intervals_of}
 use Rattle.timew_store.specs.Writing.{changes_of}
-use Rattle.timew_store.specs.declared.kept.Months.{Months}
+use Rattle.timew_store.specs.declared.months.Months.{Months}
 use Rattle.timew_store.specs.declared.store.Store.{Store}
 use Rattle.timew_store.proofs.Prepares.{file_names, stays_here, change_ready, moved_nowhere, moved_on, either_on, none_changed, some_changed, one_body, change_refused}
-use Rattle.timew_store.proofs.Restored.{restored, edit_holds}
+use Rattle.timew_store.proofs.RestoredStore.{restored, edit_holds}
 use Rattle.timew_store.proofs.store.Store.change.Goals as goal
 
 pub returns-in_err-prepared-clause-any_moment : goal.returns-in_err-prepared-clause-any_moment
@@ -26,7 +26,7 @@ returns-then-len-eq0-clause-changed g c = λ bodies history on.
     let changes = changes_of c.in_ok-prepared.prepared.changes.items in
     let is = c.in_ok-prepared.ensures in
     let none : length c.in_ok-prepared.prepared.changes.items ≡ 0 = search rules in
-    moved_nowhere g.F.Folder.model g.D.Disk.model old c.args.folder.now c.args.disk.now bodies history on (edited c.args.edit (rows_kept old)) changes (is.changes files on.months) _ (none_changed c.in_ok-prepared.prepared.changes.items none) refl
+    moved_nowhere g.F.Folder.model g.D.Disk.model old c.args.folder.now c.args.disk.now bodies history on (edited c.args.edit (intervals_of old)) changes (is.changes files on.months) _ (none_changed c.in_ok-prepared.prepared.changes.items none) refl
     (edit_holds files changes old.months c.months_after.result c.args.edit c.in_ok-prepared.prepared.files.items c.in-Ok.rows.items (c.in-Ok.ensures.rows ∙ ap (λ (m : Months). m.rows) c.replace-files.ensures.value)
     (ap (λ v. v.items) (c.months_after.ensures.files ∙ c.into_files.ensures)) c.months_after.ensures.rows (is.files files on.months) (is.rows files on.months))
 
@@ -41,7 +41,7 @@ returns-in-Ok-write_change-clause-changed g c = λ bodies history on.
     let m = g.F.Folder.model in
     let n = g.D.Disk.model in
     let old = c.args.self.now in
-    let next = edited c.args.edit (rows_kept old) in
+    let next = edited c.args.edit (intervals_of old) in
     let files = m.seen c.args.folder.now in
     let changes = changes_of c.in_ok-prepared.prepared.changes.items in
     let is = c.in_ok-prepared.ensures in
@@ -60,7 +60,7 @@ returns-in-Ok-write_change-clause-any_moment g c = λ bodies history on.
     let m = g.F.Folder.model in
     let n = g.D.Disk.model in
     let old = c.args.self.now in
-    let next = edited c.args.edit (rows_kept old) in
+    let next = edited c.args.edit (intervals_of old) in
     let changes = changes_of c.in_ok-prepared.prepared.changes.items in
     let are = c.in_ok-prepared.ensures.changes (m.seen c.args.folder.now) on.months in
     let some : length c.in_ok-prepared.prepared.changes.items ≡ 0 → ⊥ = search rules in
@@ -72,7 +72,7 @@ returns-in-Err-write_change-clause-any_moment g c = λ bodies history on.
     let m = g.F.Folder.model in
     let n = g.D.Disk.model in
     let old = c.args.self.now in
-    let next = edited c.args.edit (rows_kept old) in
+    let next = edited c.args.edit (intervals_of old) in
     let changes = changes_of c.in_ok-prepared.prepared.changes.items in
     let are = c.in_ok-prepared.ensures.changes (m.seen c.args.folder.now) on.months in
     let some : length c.in_ok-prepared.prepared.changes.items ≡ 0 → ⊥ = search rules in
@@ -84,7 +84,7 @@ returns-in-Err-write_change-clause-refused g c =
     let m = g.F.Folder.model in
     let n = g.D.Disk.model in
     let old = c.args.self.now in
-    let next = edited c.args.edit (rows_kept old) in
+    let next = edited c.args.edit (intervals_of old) in
     let changes = changes_of c.in_ok-prepared.prepared.changes.items in
     let body_is = c.deref.ensures.value ∙ c.in_ok-prepared.ensures.body in
     let some : length c.in_ok-prepared.prepared.changes.items ≡ 0 → ⊥ = search rules in

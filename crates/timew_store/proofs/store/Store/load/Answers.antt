@@ -2,8 +2,8 @@ use Rattle.std.proofs.Common.{◌∙◌}
 use Rattle.tw_world.specs.Turns.{crash_of}
 use Rattle.timew_store.specs.Loading.{OpensAlike}
 use Rattle.timew_store.specs.Store.{IsLoadFault}
-use Rattle.timew_store.proofs.Loads.{passed_on, finish_refused, months_refused, months_fault, store_fault, store_loaded}
-use Rattle.timew_store.proofs.ReadOn.{turns_then_reads}
+use Rattle.timew_store.proofs.LoadRefusals.{passed_on, finish_refused, months_refused, months_fault, store_fault, store_loaded}
+use Rattle.timew_store.proofs.ReadingCalls.{turns_then_reads}
 use Rattle.timew_store.proofs.Stays.{months_stay, spares_too}
 use Rattle.timew_store.proofs.store.Store.load.Goals as goal
 

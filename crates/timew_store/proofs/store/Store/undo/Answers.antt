@@ -4,7 +4,7 @@ use Rattle.timew_store.specs.Body.Step.{Undo}
 use Rattle.timew_store.specs.Held.{replaced}
 use Rattle.timew_store.specs.Store.{HoldMonths}
 use Rattle.timew_store.specs.Writing.{changes_of}
-use Rattle.timew_store.proofs.Loads.{passed_on}
+use Rattle.timew_store.proofs.LoadRefusals.{passed_on}
 use Rattle.timew_store.proofs.Undoes.{none_found, some_found, some_holds, exchanged_months, nothing_left, bodies_are, back_is, undo_ready, taken_back_to, undo_reads, undo_writes, walk_undo_refused, write_undo_refused, back_undo_refused}
 use Rattle.timew_store.proofs.store.Store.undo.Goals as goal
 
@@ -71,7 +71,7 @@ returns-in_err-write-clause-refused g c =
       _,
       back_is m n c.args.self.now c.args.folder.now c.args.disk.now bodies history on change top c.in_ok-prepared.prepared.months.rows (c.in_ok-prepared.ensures.unedited (m.seen c.args.folder.now) on.months) months.rows_are,
     ))
-    (c.in_err-write.ensures.kept, c.in_err-write.ensures.before) c.in_err-write.ensures.refused)
+    (c.in_err-write.ensures.stays, c.in_err-write.ensures.before) c.in_err-write.ensures.refused)
 
 pub returns-clause-undone : goal.returns-clause-undone
 returns-clause-undone g c = λ bodies history on.

@@ -1,5 +1,5 @@
 use Rattle.std.proofs.lemmas.Str.Pattern.{contains_text}
-use Rattle.tw_filter.proofs.Occurring.{occurs_is}
+use Rattle.tw_filter.proofs.Occurrences.{occurs_is}
 use Rattle.tw_commands.proofs.commands.denotate.is_part.Goals as goal
 
 pub returns : goal.returns

@@ -1,7 +1,7 @@
 use Rattle.std.proofs.Common.{◌∙◌, sym}
 use Rattle.std.specs.FinMap as map
 use Rattle.std.specs.FinMap.{len-entries}
-use Rattle.tw_commands.proofs.Copying.{none_made, some_made}
+use Rattle.tw_commands.proofs.Copies.{none_made, some_made}
 use Rattle.tw_commands.proofs.commands.duplicate.duplicating.Goals as goal
 
 pub returns-then-len-eq0 : goal.returns-then-len-eq0

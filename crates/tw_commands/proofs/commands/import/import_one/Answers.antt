@@ -1,7 +1,7 @@
 use Rattle.std.proofs.Common.{◌≡◌, ◌∙◌, ap, sym, ℕ, List}
 use Rattle.tw_commands.specs.Request.{drawn, after_draw}
 use Rattle.tw_commands.specs.Makes.Import.{is_taken, stopped}
-use Rattle.tw_commands.proofs.Importing.{drawn_taken}
+use Rattle.tw_commands.proofs.ImportedElements.{drawn_taken}
 use Rattle.tw_commands.proofs.commands.import.import_one.Goals as goal
 
 pub returns-then-is_taken-clause-stops : goal.returns-then-is_taken-clause-stops

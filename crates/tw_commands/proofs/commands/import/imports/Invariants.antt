@@ -1,4 +1,4 @@
--- the changes of what is left, behind those so far, are all
+-- the changes of what is left, after those so far, are all
 use Rattle.std.proofs.Common.{◌≡◌, List, ℕ, []}
 use Rattle.std.specs.BTreeSet as set
 use Rattle.std.specs.Vec.Iter.{into_iter_items}

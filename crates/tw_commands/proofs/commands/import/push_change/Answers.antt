@@ -1,9 +1,9 @@
 use Rattle.std.proofs.Common.{◌≡◌, ◌∙◌, ◌||◌, ◌∷◌, [], ap, sym}
 use Rattle.std.specs.BTreeSet as set
 use Rattle.tw_model.specs.Maps.{bytes_cmp, same_bytes}
-use Rattle.tw_numbers.proofs.Assigning.{has_more}
+use Rattle.tw_numbers.proofs.SetInserts.{has_more}
 use Rattle.tw_commands.specs.Makes.Import.{is_changed, change_to}
-use Rattle.tw_commands.proofs.Importing.{changed_more}
+use Rattle.tw_commands.proofs.ImportedElements.{changed_more}
 use Rattle.tw_commands.proofs.commands.import.push_change.Goals as goal
 
 pub returns-clause-uuids : goal.returns-clause-uuids

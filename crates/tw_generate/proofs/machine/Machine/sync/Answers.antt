@@ -1,6 +1,6 @@
 use Rattle.std.proofs.Common.{subst, sym}
 use Rattle.tw_http.specs.Link.{IsHonest}
-use Rattle.tw_server.specs.MemoryLink.{memory_link_model}
+use Rattle.tw_server.specs.Memory.Link.{memory_link_model}
 use Rattle.tw_generate.proofs.machine.Machine.sync.Goals as goal
 
 pub returns-in-Ok-clause-ended : goal.returns-in-Ok-clause-ended

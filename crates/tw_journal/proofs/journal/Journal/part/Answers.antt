@@ -1,5 +1,5 @@
 use Rattle.std.proofs.Common.{inr, ◌+◌, ◌≤◌, arith, length}
-use Rattle.tw_journal.proofs.Refusals.{passed_on, part_read, part_refused, part_damaged}
+use Rattle.tw_journal.proofs.Refusals.{passed_on, part_read, part_there, part_refused, part_damaged}
 use Rattle.tw_journal.proofs.journal.Journal.part.Goals as goal
 
 pub returns-in_err-span-clause-refused : goal.returns-in_err-span-clause-refused
@@ -10,7 +10,7 @@ returns-in_err-span-clause-refused g c =
 pub returns-in_err-span-clause-damaged : goal.returns-in_err-span-clause-damaged
 returns-in_err-span-clause-damaged g c =
     passed_on c.from_residual.result _ _ c.from_residual.ensures.1
-    (part_damaged g.D.Disk.model c.args.disk.now c.args.from c.args.len c.in_err-span.field-0.0 c.in_err-span.ensures.damaged)
+    (part_damaged g.D.Disk.model c.args.disk.now c.args.self.now c.args.n c.args.from c.args.len c.in_err-span.field-0.0 c.in_err-span.ensures.damaged)
 
 pub returns-then-not-is_inside-clause-refused : goal.returns-then-not-is_inside-clause-refused
 returns-then-not-is_inside-clause-refused g c = λ tells magic bodies on inside.
@@ -24,3 +24,7 @@ returns-then-not-is_inside-clause-damaged g c = λ tells.
 pub returns-clause-part : goal.returns-clause-part
 returns-clause-part g c = λ magic bodies on.
     part_read g.D.Disk.model c.args.disk.now c.look_up.new.disk c.args.self.now c.args.n c.requires.inside c.in_ok-span.span c.look_up.ensures.untouched c.in_ok-span.ensures.found c.in_ok-span.ensures.stands magic bodies on c.args.from c.args.len c.in_ok-part.part.items (c.is_inside.ensures.inside c.if-not-is_inside.false) c.in_ok-part.ensures.body
+
+pub returns-clause-stands : goal.returns-clause-stands
+returns-clause-stands g c =
+    part_there g.D.Disk.model c.args.disk.now c.look_up.new.disk c.args.self.now c.args.n c.args.from c.args.len c.in_ok-span.span c.in_ok-part.part.items c.look_up.ensures.untouched c.in_ok-span.ensures.stands (c.is_inside.ensures.inside c.if-not-is_inside.false) c.in_ok-part.ensures.long c.in_ok-part.ensures.body

@@ -1,7 +1,7 @@
 use Rattle.std.proofs.Common.{◌∙◌, List, ap, subst, arith}
 use Rattle.tw_model.specs.declared.Op.{Op}
-use Rattle.tw_replica.specs.Kept.{group_in, IsLastOf}
-use Rattle.tw_replica.proofs.Keeping.{last_kept}
+use Rattle.tw_replica.specs.Groups.{group_in, IsLastOf}
+use Rattle.tw_replica.proofs.PendingBodies.{last_kept}
 use Rattle.tw_replica.proofs.pending.Pending.last.Goals as goal
 
 pub returns : goal.returns

@@ -1,8 +1,8 @@
 use Rattle.std.proofs.Common.{◌∙◌, ◌∷◌, [], List, ℕ, refl, drop, ap}
 use Rattle.tw_replica.specs.Core.{state_of}
-use Rattle.tw_numbers.specs.Assign.{assigned}
-use Rattle.tw_replica.proofs.Standing.{is_undone}
-use Rattle.tw_replica.proofs.Keeping.{last_told, last_split}
+use Rattle.tw_numbers.specs.Numbering.{assigned}
+use Rattle.tw_replica.proofs.RecordAdded.{is_undone}
+use Rattle.tw_replica.proofs.PendingBodies.{last_told, last_split}
 use Rattle.tw_replica.proofs.replica.Replica.take_back.Goals as goal
 
 pub returns-clause-prepared : goal.returns-clause-prepared

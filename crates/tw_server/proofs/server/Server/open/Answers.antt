@@ -3,8 +3,7 @@ use Rattle.tw_world.proofs.Moments.{untouched, untouched_join}
 use Rattle.tw_journal.specs.Journal.{is_closed, journal_end}
 use Rattle.tw_journal.specs.Open.{IsImageThen}
 use Rattle.tw_journal.specs.Record.{IsLongerBy}
-use Rattle.tw_journal.specs.Errors.{open_in_all}
-use Rattle.tw_server.specs.Faults.{error_of}
+use Rattle.tw_server.specs.Faults.{open_in_opening}
 use Rattle.tw_server.specs.Server.{magic, ServerOpenRefused}
 use Rattle.tw_server.proofs.Refusals.{from_fault}
 use Rattle.tw_server.proofs.Openings.{nothing_sound, after_reads, open_now, open_refused, opened_on, bad_before, not_opened}
@@ -68,7 +67,7 @@ returns-clause-any_moment g c tells =
 pub returns-in_err-journal-clause-refused : goal.returns-in_err-journal-clause-refused
 returns-in_err-journal-clause-refused g c =
     let m = g.D.Disk.model in
-    from_fault (ServerOpenRefused m c.args.disk.now c.open.new.disk) c.from_residual.result (error_of (open_in_all c.in_err-journal.field-0.0)) c.from_residual.ensures.1
+    from_fault (ServerOpenRefused m c.args.disk.now c.open.new.disk) c.from_residual.result (open_in_opening c.in_err-journal.field-0.0) c.from_residual.ensures.1
     (not_opened m c.args.disk.now c.open.new.disk c.in_err-journal.field-0.0 c.in_err-journal.ensures.refused)
 
 pub returns-in_err-take_body-clause-growth : goal.returns-in_err-take_body-clause-growth

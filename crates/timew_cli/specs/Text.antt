@@ -1,7 +1,0 @@
--- The lines that are made without memory.
-use Rattle.std.specs.Prelude.{ℕ, List, ◌++◌}
-use Rattle.std.specs.Fmt.{decimal}
-
--- a number between two texts
-abbrev pub numbered : List ℕ → ℕ → List ℕ → List ℕ
-numbered front n back = front ++ decimal n ++ back

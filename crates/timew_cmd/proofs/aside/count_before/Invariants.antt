@@ -1,9 +1,0 @@
-use Rattle.std.proofs.Common.{◌≤◌, ◌-◌, length, take}
-use Rattle.timew_cmd.specs.Placing.{AllBefore}
-use Rattle.timew_cmd.proofs.aside.count_before.Given as goal
-
-abbrev pub invariant-loop-count : goal.invariant-loop-count
-invariant-loop-count l = (l.count ≤ length l.rows) × AllBefore l.new (take l.count l.rows)
-
-abbrev pub decreases-loop-count : goal.decreases-loop-count
-decreases-loop-count l = length l.rows - l.count

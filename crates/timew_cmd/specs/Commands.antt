@@ -1,0 +1,18 @@
+-- Each command: what its words are, and what it makes of the intervals.
+pub mod Annotate
+pub mod Cancel
+pub mod Continue
+pub mod Delete
+pub mod Export
+pub mod Join
+pub mod Lengthen
+pub mod Move
+pub mod Shorten
+pub mod Show
+pub mod Split
+pub mod Start
+pub mod Stop
+pub mod Summary
+pub mod Tag
+pub mod Track
+pub mod Untag

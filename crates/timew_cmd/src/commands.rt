@@ -1,0 +1,18 @@
+// Each command: what its words are, and what it makes of the intervals.
+pub mod annotate;
+pub mod cancel;
+pub mod continue_;
+pub mod delete;
+pub mod export;
+pub mod join;
+pub mod lengthen;
+pub mod move_to;
+pub mod shorten;
+pub mod show;
+pub mod split;
+pub mod start;
+pub mod stop;
+pub mod summary;
+pub mod tag;
+pub mod track;
+pub mod untag;

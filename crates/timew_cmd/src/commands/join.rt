@@ -1,0 +1,81 @@
+// `join`: makes one interval of two.
+ghost use Rattle.std.specs.Prelude.{◌≡◌, IfOk};
+ghost use Rattle.timew_cmd.specs.Commands.Join.{join_in, later_end, first_text, joined, joined_both};
+ghost use Rattle.timew_cmd.specs.Given.{IsGiven};
+ghost use Rattle.timew_cmd.specs.Parts.{words_of};
+ghost use Rattle.timew_cmd.specs.Planned.{Answers};
+
+use crate::command::{Changing, Command, Join};
+use crate::error::{BadWord, TimewError};
+use crate::numbers::{checked, row_at};
+use crate::parts::{MISSING, ended, id_in};
+use crate::placing::place;
+use crate::word::Word;
+use std::alloc::Global;
+use timew_store::Interval;
+use tw_world::{Memory, Text};
+
+/// Two ids.
+pub fn join_in(adjust: bool, words: &[Word]) -> Result<Command, BadWord>
+    ensures value { result ≡ join_in adjust (words_of words.now) }
+    ensures given { IfOk result IsGiven }
+{
+    let [word, words @ ..] = words else {
+        return Err(MISSING);
+    };
+    let first = id_in(word)?;
+    let [word, words @ ..] = words else {
+        return Err(MISSING);
+    };
+    let second = id_in(word)?;
+    ended(
+        Command::Change(Changing::Join(Join {
+            first,
+            second,
+            adjust,
+        })),
+        words,
+    )
+}
+
+/// The intervals after `join`.
+pub fn join(alloc: Global, parts: &Join, rows: &[Interval]) -> Result<Vec<Interval>, TimewError>
+    ensures { Answers (λ v. v.items) result (joined_both parts.now.first parts.now.second parts.now.adjust rows.now) }
+{
+    let ids = [parts.first, parts.second];
+    checked(rows.len() as u64, &ids)?;
+    let earlier = row_at(parts.first.max(parts.second), rows)?;
+    let later = row_at(parts.first.min(parts.second), rows)?;
+    let new = joined(alloc, earlier, later)?;
+    place(alloc, parts.adjust, new, rows, &ids)
+}
+
+fn later_end(end: Option<u64>, other: Option<u64>) -> Option<u64>
+    ensures { result ≡ later_end end other }
+{
+    match (end, other) {
+        (Some(end), Some(other)) => Some(end.max(other)),
+        _ => None,
+    }
+}
+
+fn first_text(alloc: Global, text: &Text, other: &Text) -> Result<Text, Memory>
+    ensures { IfOk result (λ t. t ≡ first_text text.now other.now) }
+{
+    if text.as_str().is_empty() {
+        other.copy(alloc)
+    } else {
+        text.copy(alloc)
+    }
+}
+
+fn joined(alloc: Global, row: &Interval, other: &Interval) -> Result<Interval, Memory>
+    ensures { IfOk result (λ r. r ≡ joined row.now other.now) }
+{
+    Ok(Interval {
+        start: row.start,
+        end: later_end(row.end, other.end),
+        tags: row.tags.with(alloc, &other.tags)?,
+        annotation: first_text(alloc, &row.annotation, &other.annotation)?,
+    })
+}

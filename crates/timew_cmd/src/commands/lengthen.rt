@@ -1,0 +1,40 @@
+// `lengthen`: moves the end of a closed interval to a later moment.
+ghost use Rattle.std.specs.Prelude.{◌≡◌, IfOk};
+ghost use Rattle.timew_cmd.specs.Commands.Lengthen.{lengthen_in, lengthened};
+ghost use Rattle.timew_cmd.specs.Given.{IsGiven};
+ghost use Rattle.timew_cmd.specs.Parts.{words_of};
+ghost use Rattle.timew_cmd.specs.Planned.{Answers};
+
+use crate::command::{Changing, Command, Resize};
+use crate::error::{BadWord, TimewError};
+use crate::numbers::row_at;
+use crate::replacing::{closed_end, replace, seconds_of};
+use crate::rows::spanning;
+use crate::stretch::resize_in;
+use crate::word::Word;
+use std::alloc::Global;
+use timew_store::Interval;
+
+/// An id and a length.
+pub fn lengthen_in(adjust: bool, words: &[Word]) -> Result<Command, BadWord>
+    ensures value { result ≡ lengthen_in adjust (words_of words.now) }
+    ensures given { IfOk result IsGiven }
+{
+    let parts = resize_in(adjust, words)?;
+    Ok(Command::Change(Changing::Lengthen(parts)))
+}
+
+/// The intervals after `lengthen`.
+pub fn lengthen(
+    alloc: Global,
+    parts: &Resize,
+    rows: &[Interval],
+) -> Result<Vec<Interval>, TimewError>
+    ensures { Answers (λ v. v.items) result (lengthened parts.now.id parts.now.word parts.now.length parts.now.adjust rows.now) }
+{
+    let row = row_at(parts.id, rows)?;
+    let end = closed_end(parts.word, row.end)?;
+    let seconds = seconds_of(parts.word, &parts.length)?;
+    let new = spanning(alloc, row.start, Some(end.saturating_add(seconds)), row)?;
+    replace(alloc, parts.word, parts.id, parts.adjust, new, rows)
+}

@@ -1,0 +1,54 @@
+// `shorten`: moves the end of a closed interval to an earlier moment.
+ghost use Rattle.std.specs.Prelude.{◌≡◌, ◌<◌, IfOk};
+ghost use Rattle.timew_store.specs.Interval.{limit, AreRows};
+ghost use Rattle.timew_cmd.specs.Commands.Shorten.{shorten_in, shorter, shortened};
+ghost use Rattle.timew_cmd.specs.Given.{IsGiven};
+ghost use Rattle.timew_cmd.specs.Parts.{words_of};
+ghost use Rattle.timew_cmd.specs.Planned.{Answers};
+
+use crate::command::{Changing, Command, Resize};
+use crate::error::{BadWord, TimewError};
+use crate::numbers::row_at;
+use crate::replacing::{closed_end, replace, seconds_of};
+use crate::rows::spanning;
+use crate::stretch::resize_in;
+use crate::word::Word;
+use std::alloc::Global;
+use timew_store::Interval;
+
+/// An id and a length.
+pub fn shorten_in(adjust: bool, words: &[Word]) -> Result<Command, BadWord>
+    ensures value { result ≡ shorten_in adjust (words_of words.now) }
+    ensures given { IfOk result IsGiven }
+{
+    let parts = resize_in(adjust, words)?;
+    Ok(Command::Change(Changing::Shorten(parts)))
+}
+
+/// The intervals after `shorten`.
+pub fn shorten(
+    alloc: Global,
+    parts: &Resize,
+    rows: &[Interval],
+) -> Result<Vec<Interval>, TimewError>
+    requires { AreRows rows.now }
+    ensures { Answers (λ v. v.items) result (shortened parts.now.id parts.now.word parts.now.length parts.now.adjust rows.now) }
+{
+    let row = row_at(parts.id, rows)?;
+    let end = closed_end(parts.word, row.end)?;
+    let seconds = seconds_of(parts.word, &parts.length)?;
+    let end = shorter(parts.word, row.start, end, seconds)?;
+    let new = spanning(alloc, row.start, end, row)?;
+    replace(alloc, parts.word, parts.id, parts.adjust, new, rows)
+}
+
+fn shorter(word: u64, start: u64, end: u64, seconds: u64) -> Result<Option<u64>, TimewError>
+    requires { end < limit }
+    ensures { Answers (λ e. e) result (shorter word start end seconds) }
+{
+    if start.saturating_add(seconds) <= end {
+        Ok(Some(end - seconds))
+    } else {
+        Err(TimewError::Range { word })
+    }
+}

@@ -1,0 +1,35 @@
+// `untag`: takes tags from intervals.
+ghost use Rattle.std.specs.Prelude.{IfOk};
+ghost use Rattle.timew_cmd.specs.Commands.Untag.{untag_in, untagged};
+ghost use Rattle.timew_cmd.specs.Given.{IsGiven};
+ghost use Rattle.timew_cmd.specs.Parts.{words_of};
+ghost use Rattle.timew_cmd.specs.Planned.{Answers};
+ghost use Rattle.timew_cmd.specs.Reading.{Gives};
+
+use crate::command::{Changing, Command, Tagging};
+use crate::error::{TimewError, WordsError};
+use crate::labels::{Label, labelled, tagging_in};
+use crate::word::Word;
+use std::alloc::Global;
+use timew_store::Interval;
+
+/// Ids, or none, and one tag or more.
+pub fn untag_in(alloc: Global, words: &[Word]) -> Result<Command, WordsError>
+    ensures value { Gives (λ command. command) result (untag_in (words_of words.now)) }
+    ensures given { IfOk result IsGiven }
+{
+    let parts = tagging_in(alloc, words)?;
+    Ok(Command::Change(Changing::Untag(parts)))
+}
+
+/// The intervals after `untag`.
+pub fn untag(alloc: Global, parts: &Tagging, rows: &[Interval]) -> Result<Vec<Interval>, TimewError>
+    ensures { Answers (λ v. v.items) result (untagged parts.now.ids parts.now.tags rows.now) }
+{
+    labelled(
+        alloc,
+        parts.ids.as_slice(),
+        Label::Remove(&parts.tags),
+        rows,
+    )
+}

@@ -1,0 +1,144 @@
+// Tags and annotations of intervals.
+ghost use Rattle.std.specs.Prelude.{[], ◌∷◌, Ok, ◌≡◌, IfOk};
+ghost use Rattle.timew_cmd.specs.Given.{AreTags};
+ghost use Rattle.timew_cmd.specs.Labels.{tagging_in, targets, each_of, with_tags, without_tags, with_annotation, with_label, labelled};
+ghost use Rattle.timew_cmd.specs.Parts.{words_of};
+ghost use Rattle.timew_cmd.specs.Planned.{Answers};
+ghost use Rattle.timew_cmd.specs.Reading.{Gives};
+
+use crate::command::Tagging;
+use crate::error::{TimewError, WordsError};
+use crate::numbers::{checked, is_among};
+use crate::open::open_of;
+use crate::parts::{ids_in, leading_ids, some_tags};
+use crate::rows::copy_row;
+use crate::word::Word;
+use std::alloc::Global;
+use timew_store::{Interval, Texts};
+use tw_world::{Memory, Text};
+
+/// What becomes of the tags or the annotation of an interval.
+#[derive(Clone, Copy)]
+pub enum Label<'a> {
+    Add(&'a Texts),
+    Remove(&'a Texts),
+    Annotation(&'a Text),
+}
+
+/// The ids that words begin with, and one tag or more after them.
+pub fn tagging_in(alloc: Global, words: &[Word]) -> Result<Tagging, WordsError>
+    ensures value { Gives (λ parts. parts) result (tagging_in (words_of words.now)) }
+    ensures good { IfOk result (λ parts. AreTags parts.tags) }
+{
+    let (first, rest) = words.split_at(leading_ids(words));
+    let ids = ids_in(alloc, first)?;
+    let tags = some_tags(alloc, rest)?;
+    Ok(Tagging { ids, tags })
+}
+
+// The numbers that a command is about: those given, or the open one's.
+fn targets(alloc: Global, ids: &[u64], rows: &[Interval]) -> Result<Vec<u64>, TimewError>
+    ensures { Answers (λ v. v.items) result (targets ids.now rows.now) }
+{
+    if ids.is_empty() {
+        if open_of(rows).is_none() {
+            return Err(TimewError::NoOpen);
+        }
+        return one_id(alloc);
+    }
+    checked(rows.len() as u64, ids)?;
+    copy_ids(alloc, ids)
+}
+
+fn one_id(alloc: Global) -> Result<Vec<u64>, TimewError>
+    ensures { Answers (λ v. v.items) result (Ok (1 ∷ [])) }
+{
+    match vec![in alloc; 1u64; 1] {
+        Ok(ids) => Ok(ids),
+        Err(_) => Err(TimewError::Memory),
+    }
+}
+
+fn copy_ids(alloc: Global, ids: &[u64]) -> Result<Vec<u64>, TimewError>
+    ensures { Answers (λ v. v.items) result (Ok ids.now) }
+{
+    match ids.to_vec(alloc) {
+        Ok(ids) => Ok(ids),
+        Err(_) => Err(TimewError::Memory),
+    }
+}
+
+fn with_tags(alloc: Global, tags: &Texts, row: &Interval) -> Result<Interval, Memory>
+    ensures { IfOk result (λ r. r ≡ with_tags tags.now row.now) }
+{
+    Ok(Interval {
+        start: row.start,
+        end: row.end,
+        tags: row.tags.with(alloc, tags)?,
+        annotation: row.annotation.copy(alloc)?,
+    })
+}
+
+fn without_tags(alloc: Global, tags: &Texts, row: &Interval) -> Result<Interval, Memory>
+    ensures { IfOk result (λ r. r ≡ without_tags tags.now row.now) }
+{
+    Ok(Interval {
+        start: row.start,
+        end: row.end,
+        tags: row.tags.without(alloc, tags)?,
+        annotation: row.annotation.copy(alloc)?,
+    })
+}
+
+fn with_annotation(alloc: Global, text: &Text, row: &Interval) -> Result<Interval, Memory>
+    ensures { IfOk result (λ r. r ≡ with_annotation text.now row.now) }
+{
+    Ok(Interval {
+        start: row.start,
+        end: row.end,
+        tags: row.tags.copy(alloc)?,
+        annotation: text.copy(alloc)?,
+    })
+}
+
+fn with_label(alloc: Global, label: Label, row: &Interval) -> Result<Interval, Memory>
+    ensures { IfOk result (λ r. r ≡ with_label label.entry row.now) }
+{
+    match label {
+        Label::Add(tags) => with_tags(alloc, tags, row),
+        Label::Remove(tags) => without_tags(alloc, tags, row),
+        Label::Annotation(text) => with_annotation(alloc, text, row),
+    }
+}
+
+fn label_each(
+    alloc: Global,
+    ids: &[u64],
+    label: Label,
+    rows: &[Interval],
+) -> Result<Vec<Interval>, Memory>
+    ensures { IfOk result (λ v. v.items ≡ each_of ids.now (with_label label.entry) rows.now) }
+{
+    let mut out = Vec::with_capacity(alloc, rows.len())?;
+    for (k, row) in rows.iter().enumerate() {
+        if is_among(ids, (rows.len() - k) as u64) {
+            out.push(with_label(alloc, label, row)?)?;
+        } else {
+            out.push(copy_row(alloc, row)?)?;
+        }
+    }
+    Ok(out)
+}
+
+/// The rows with a label at those of these numbers, or without a number at the open one.
+pub fn labelled(
+    alloc: Global,
+    ids: &[u64],
+    label: Label,
+    rows: &[Interval],
+) -> Result<Vec<Interval>, TimewError>
+    ensures { Answers (λ v. v.items) result (labelled ids.now label.entry rows.now) }
+{
+    let those = targets(alloc, ids, rows)?;
+    Ok(label_each(alloc, &those, label, rows)?)
+}

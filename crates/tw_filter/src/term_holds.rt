@@ -1,0 +1,98 @@
+// One look at a task.
+ghost use Rattle.std.specs.Prelude.{◌≡◌, ◌<◌, option_map, map};
+ghost use Rattle.tw_filter.specs.Facts.{AreFacts};
+ghost use Rattle.tw_filter.specs.Holds.{scene_of, has_status, test_holds, term_holds, name_holds, passes};
+ghost use Rattle.tw_urgency.specs.Dependencies.{depends_on};
+ghost use Rattle.tw_model.specs.Places.{uuid_of};
+
+use crate::facts::{Facts, id_of, is_blocking};
+use crate::id_word::Name;
+use crate::task_test::{
+    after, at, before, begins, contains, ends, has_the_word, is_annotated, is_tagged, is_value,
+    is_within, mentions, on_day, same_status,
+};
+use crate::term::{Term, Test};
+use crate::view::View;
+use tw_model::{TaskMap, uuid_of};
+use tw_urgency::{Status, depends_on, has_dependency, is_blocked, moment_at, status_of};
+use uuid::Uuid;
+
+fn has_status(view: &View<'_>, task: &TaskMap, status: Status) -> bool
+    ensures { result ≡ has_status (scene_of view.entry.now) task.now status }
+{
+    same_status(status_of(task, view.now.seconds), status)
+}
+
+fn depends_on_number(view: &View<'_>, task: &TaskMap, id: u64) -> bool
+    ensures { result ≡ passes (depends_on task.now) (uuid_of id (scene_of view.entry.now).places) }
+{
+    match uuid_of(view.numbers, id) {
+        Some(uuid) => depends_on(task, uuid),
+        None => false,
+    }
+}
+
+// Whether a test holds for the task of a uuid.
+#[tactic(auto, unfolding(crate::specs::Holds::test_holds))]
+fn test_holds(facts: &Facts, view: &View<'_>, uuid: Uuid, task: &TaskMap, test: &Test) -> bool
+    requires { AreFacts facts.now (scene_of view.now) }
+    ensures { result ≡ test_holds (scene_of view.entry.now) uuid task.now test.now }
+{
+    match test {
+        Test::IsUuid(other) => uuid == *other,
+        Test::Has(property) => task.get(property.as_str()).is_some(),
+        Test::HasMoment(property) => moment_at(task, property.as_str()).is_some(),
+        Test::HasDependency => has_dependency(task),
+        Test::DependsOn(other) => depends_on(task, *other),
+        Test::DependsOnNumber(id) => depends_on_number(view, task, *id),
+        Test::Is(property, value) => is_value(task, property.as_str(), value.as_str()),
+        Test::IsWithin(property, value) => is_within(task, property.as_str(), value.as_str()),
+        Test::Contains(property, value) => contains(task, property.as_str(), value.as_str()),
+        Test::Begins(property, value) => begins(task, property.as_str(), value.as_str()),
+        Test::Ends(property, value) => ends(task, property.as_str(), value.as_str()),
+        Test::HasWord(property, value) => has_the_word(task, property.as_str(), value.as_str()),
+        Test::Mentions(value) => mentions(task, value.as_str()),
+        Test::OnDay(property, day) => on_day(task, property.as_str(), *day, view.zone),
+        Test::At(property, second) => at(task, property.as_str(), *second),
+        Test::Before(property, second) => before(task, property.as_str(), *second),
+        Test::After(property, second) => after(task, property.as_str(), *second),
+        Test::HasStatus(status) => has_status(view, task, *status),
+        Test::IsActive => has_status(view, task, Status::Pending)
+            && moment_at(task, "start").is_some(),
+        Test::IsOverdue => has_status(view, task, Status::Pending)
+            && before(task, "due", view.now.seconds),
+        Test::IsBlocked => is_blocked(view.tasks, task),
+        Test::IsBlocking => is_blocking(facts, view, uuid),
+        Test::IsTagged => is_tagged(task),
+        Test::IsAnnotated => is_annotated(task),
+    }
+}
+
+/// Whether a term does.
+pub(crate) fn term_holds(
+    facts: &Facts,
+    view: &View<'_>,
+    uuid: Uuid,
+    task: &TaskMap,
+    term: &Term,
+) -> bool
+    requires { AreFacts facts.now (scene_of view.now) }
+    ensures { result ≡ term_holds (scene_of view.entry.now) uuid task.now term.now }
+{
+    let holds = test_holds(facts, view, uuid, task, &term.test);
+    if term.wanted { holds } else { !holds }
+}
+
+/// Whether a name is one of the task's.
+pub(crate) fn name_holds(facts: &Facts, view: &View<'_>, uuid: Uuid, name: Name) -> bool
+    requires { AreFacts facts.now (scene_of view.now) }
+    ensures { result ≡ name_holds (scene_of view.entry.now) uuid name }
+{
+    match name {
+        Name::Numbers(first, last) => match id_of(facts, view, uuid) {
+            Some(id) => first <= id && id <= last,
+            None => false,
+        },
+        Name::One(other) => uuid == other,
+    }
+}

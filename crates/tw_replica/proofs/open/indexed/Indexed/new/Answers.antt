@@ -1,0 +1,10 @@
+use Rattle.std.proofs.Common.{ap}
+use Rattle.tw_replica.specs.State.{State}
+use Rattle.tw_replica.proofs.StepsTaken.{empty_assigned}
+use Rattle.tw_replica.proofs.open.indexed.Indexed.new.Goals as goal
+
+pub returns-clause-ready : goal.returns-clause-ready
+returns-clause-ready c = record {
+  index = tt;
+  assigned = empty_assigned c.new.result.numbers.items c.new.result.tasks (ap (λ (s : State). s.numbers) c.new.ensures) (ap (λ (s : State). s.tasks) c.new.ensures);
+}

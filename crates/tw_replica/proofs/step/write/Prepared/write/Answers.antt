@@ -1,0 +1,35 @@
+use Rattle.std.proofs.Common.{◌++◌, ◌∷◌, ◌∙◌, [], ap, sym, subst, List, ℕ, length}
+use Rattle.tw_journal.specs.Record.{rows}
+use Rattle.tw_journal.specs.Journal.{IsOpenOn}
+use Rattle.tw_world.specs.Disk.{LeavesOnly}
+use Rattle.tw_replica.specs.Replica.{magic}
+use Rattle.tw_replica.specs.Prepared.{RecordsOrAll, bodies_in}
+use Rattle.tw_replica.proofs.RecordSizes.{one_size, grows_by}
+use Rattle.tw_replica.proofs.step.write.Prepared.write.Goals as goal
+
+pub returns-in-Ok-clause-journal : goal.returns-in-Ok-clause-journal
+returns-in-Ok-clause-journal g c = λ bodies on.
+    subst (λ (more : List (List ℕ)). IsOpenOn g.D.Disk.model magic c.append.new.self c.append.new.disk (bodies ++ more))
+    (ap (λ (b : List ℕ). b ∷ []) c.as_slice.ensures.value ∙ ap bodies_in (sym c.in-Some.is)) (c.in-Ok.ensures.appended magic bodies on)
+
+pub returns-in-Ok-clause-any_moment : goal.returns-in-Ok-clause-any_moment
+returns-in-Ok-clause-any_moment g c = λ bodies on.
+    subst (λ (more : List (List ℕ)). LeavesOnly g.D.Disk.model c.args.disk.now c.append.new.disk (RecordsOrAll bodies more))
+    (ap (λ (b : List ℕ). b ∷ []) c.as_slice.ensures.value ∙ ap bodies_in (sym c.in-Some.is)) (c.append.ensures.any_moment magic bodies on)
+
+pub returns-in-Err-clause-any_moment : goal.returns-in-Err-clause-any_moment
+returns-in-Err-clause-any_moment g c = λ bodies on.
+    subst (λ (more : List (List ℕ)). LeavesOnly g.D.Disk.model c.args.disk.now c.append.new.disk (RecordsOrAll bodies more))
+    (ap (λ (b : List ℕ). b ∷ []) c.as_slice.ensures.value ∙ ap bodies_in (sym c.in-Some.is)) (c.append.ensures.any_moment magic bodies on)
+
+pub returns-in-Ok-clause-growth : goal.returns-in-Ok-clause-growth
+returns-in-Ok-clause-growth g c = λ bodies on.
+    grows_by g.D.Disk.model c.args.disk.now c.append.new.disk _ _
+    (ap (λ (more : List (List ℕ)). length (rows more)) (sym (ap (λ (b : List ℕ). b ∷ []) c.as_slice.ensures.value ∙ ap bodies_in (sym c.in-Some.is))) ∙ one_size c.as_slice.result.now)
+    (c.append.ensures.growth magic bodies on)
+
+pub returns-in-Err-clause-growth : goal.returns-in-Err-clause-growth
+returns-in-Err-clause-growth g c = λ bodies on.
+    grows_by g.D.Disk.model c.args.disk.now c.append.new.disk _ _
+    (ap (λ (more : List (List ℕ)). length (rows more)) (sym (ap (λ (b : List ℕ). b ∷ []) c.as_slice.ensures.value ∙ ap bodies_in (sym c.in-Some.is))) ∙ one_size c.as_slice.result.now)
+    (c.append.ensures.growth magic bodies on)

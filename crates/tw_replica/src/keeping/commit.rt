@@ -1,0 +1,164 @@
+// A commit of operations.
+ghost use Rattle.std.specs.Prelude.{◌≡◌, ◌≤◌, ◌+◌, ◌^◌, ◌++◌, List, length, None, Some, true, false, Err as AnErr, IfOk, OnOk, IfErr};
+ghost use Rattle.tw_world.specs.Disk.{FaultsRise};
+ghost use Rattle.tw_journal.specs.Record.{rows};
+ghost use Rattle.tw_journal.specs.Journal.{RecordsOrMore, is_closed};
+ghost use Rattle.tw_model.specs.declared.Op.{Op as AnyOp};
+ghost use Rattle.tw_model.specs.LocalOps.{apply_all_local};
+ghost use Rattle.tw_numbers.specs.Assigned.{IsAssignedIn};
+ghost use Rattle.tw_replica.specs.Body.{body_size, is_group};
+ghost use Rattle.tw_replica.specs.Body.Step.{Commit};
+ghost use Rattle.tw_replica.specs.State.{committed, misfit, renewed};
+ghost use Rattle.tw_replica.specs.Core.{state_of};
+ghost use Rattle.tw_replica.specs.Groups.{group_in};
+ghost use Rattle.tw_replica.specs.Next.{after, IsNextOf};
+ghost use Rattle.tw_replica.specs.Prepared.{step_bodies, IsWithinLimit};
+ghost use Rattle.tw_replica.specs.Replica.{IsLengthKept, StandsAfter, LeavesStep, GrowsBy, RecordsAfter, LeavesRecords, JournalGrowsBy, bodies_after, one_more};
+ghost use Rattle.tw_replica.specs.Replica.{magic, is_replica_closed, CommitRefused, NextRefused, RecordRefused};
+
+use crate::body::step::commit_body;
+use crate::error::{CommitError, RecordError};
+use crate::keeping::copies::part_of;
+use crate::keeping::next::{Next, next_on};
+use crate::pending::{Pending, copy_of};
+use crate::replica::Replica;
+use crate::state::{Core, apply_ops, is_idle};
+use crate::touched::touched_uuids;
+use std::alloc::Global;
+use tw_journal::AppendError;
+use tw_model::Op;
+use tw_world::{Disk, Memory};
+
+/// Why operations lead to nothing.
+#[derive(Clone, Copy, Drop)]
+pub(crate) enum NextError {
+    /// The operation with this number, counted from 0, does not fit what those before it leave.
+    Invalid { index: u64 },
+    /// There was no memory left.
+    Memory,
+}
+
+impl From<Memory> for NextError {
+    ghost use Rattle.tw_replica.specs.declared.keeping.commit.NextError.TheVariants.{Memory as NoMemory};
+
+    ghost from_gives = { λ _ e. e ≡ NoMemory };
+
+    fn from(_: Memory) -> NextError {
+        NextError::Memory
+    }
+}
+
+impl From<NextError> for CommitError {
+    ghost use Rattle.std.specs.Prelude.{◌≡◌};
+    ghost use Rattle.tw_replica.specs.Errors.{next_in_commit};
+
+    ghost from_gives = { λ error e. e ≡ next_in_commit error };
+
+    fn from(error: NextError) -> CommitError {
+        match error {
+            NextError::Invalid { index } => CommitError::Invalid { index },
+            NextError::Memory => CommitError::Memory,
+        }
+    }
+}
+
+// What operations lead to.
+fn next_of_commit(
+    alloc: Global,
+    core: &Core,
+    ops: &Vec<Op>,
+    renumber: bool,
+) -> Result<Next, NextError>
+    requires { IsAssignedIn core.now.numbers.items core.now.tasks }
+    ensures fits { OnOk result (misfit 0 core.now.tasks ops.now.items ≡ None) }
+    ensures tasks { IfOk result (λ next. after next core.now.tasks ≡ apply_all_local core.now.tasks ops.now.items) }
+    ensures numbers { IfOk result (λ next. next.numbers.items ≡ renewed renumber core.now.numbers.items (apply_all_local core.now.tasks ops.now.items)) }
+    ensures next { IfOk result (λ next. IsNextOf core.now.tasks next) }
+    ensures refused { IfErr result (λ e. NextRefused core.now.tasks ops.now.items e) }
+{
+    let touched = touched_uuids(alloc, ops, 0)?;
+    let mut part = part_of(alloc, &core.tasks, &touched)?;
+    if let Some(index) = apply_ops(alloc, &mut part, ops)? {
+        return Err(NextError::Invalid { index });
+    }
+    let next = next_on(alloc, core, touched, part, renumber)?;
+    Ok(next)
+}
+
+// Takes the operations out again that a body put after others, if it held any.
+fn take_out_again(pending: &mut Pending, count: usize)
+    ensures { (before more : List AnyOp) → pending.old ≡ before ++ more → is_group more ≡ true → count ≡ length more → pending.new ≡ before }
+{
+    if count > 0 {
+        pending.pop();
+    }
+}
+
+impl Replica {
+    /// Applies operations and puts them after what is pending.
+    pub fn commit<D: Disk>(
+        &mut self,
+        alloc: Global,
+        disk: &mut D,
+        ops: Vec<Op>,
+        renumber: bool,
+    ) -> Result<(), CommitError>
+        requires group { is_group ops.items ≡ true }
+        requires length { IsLengthKept D.model self.old disk.old }
+        ensures committed { OnOk result (committed renumber ops.items (state_of self.old.core) ≡ Some (state_of self.new.core)) }
+        ensures stands { OnOk result (StandsAfter D.model self.old self.new disk.old disk.new (bodies_after renumber ops.items)) }
+        ensures any_moment { LeavesStep D.model self.old disk.old disk.new (committed renumber ops.items (state_of self.old.core)) }
+        ensures growth { GrowsBy D.model self.old disk.old disk.new (length (rows (step_bodies (Commit renumber ops.items)))) }
+        ensures within { OnOk result (IsWithinLimit (step_bodies (Commit renumber ops.items))) }
+        ensures closed { is_replica_closed self.old ≡ true → result ≡ AnErr (CommitError.Journal AppendError.Closed) }
+        ensures live { OnOk result (is_replica_closed self.new ≡ false) }
+        ensures length { IsLengthKept D.model self.new disk.new }
+        ensures refused { IfErr result (λ e. CommitRefused D.model self.old self.new disk.old disk.new ops.items (body_size (Commit renumber ops.items)) e) }
+        ensures kept { FaultsRise D.model disk.old disk.new }
+    {
+        if self.journal.is_closed() {
+            return Err(CommitError::Journal(AppendError::Closed));
+        }
+        if is_idle(renumber, &ops) {
+            return Ok(());
+        }
+        let next = next_of_commit(alloc, &self.core, &ops, renumber)?;
+        let body = commit_body(alloc, &ops, renumber)?;
+        let kept = copy_of(alloc, &body)?;
+        self.commit_record(alloc, disk, kept, ops.len(), next, &body)?;
+        Ok(())
+    }
+
+    // Writes a commit's record, and then takes what it leads to. What is kept of it holds so many operations.
+    fn commit_record<D: Disk>(
+        &mut self,
+        alloc: Global,
+        disk: &mut D,
+        kept: Vec<u8>,
+        count: usize,
+        next: Next,
+        body: &[u8],
+    ) -> Result<(), RecordError>
+        requires kept { count ≡ length (group_in kept.items) }
+        requires length { IsLengthKept D.model self.old disk.old }
+        requires next { IsNextOf self.old.core.tasks next }
+        ensures journal { IfOk result (λ u. RecordsAfter D.model self.old.journal self.new.journal disk.old disk.new (one_more body.now)) }
+        ensures any_moment { LeavesRecords D.model self.old.journal disk.old disk.new (λ bodies. RecordsOrMore magic bodies body.now) }
+        ensures growth { JournalGrowsBy D.model self.old.journal disk.old disk.new (length body.now + 5) }
+        ensures accepted { OnOk result ((is_closed self.new.journal ≡ false) × (length body.now + 5 ≤ 2 ^ 30)) }
+        ensures length { IsLengthKept D.model self.new disk.new }
+        ensures base { self.new.core.base ≡ self.old.core.base }
+        ensures pending { OnOk result (self.new.core.pending ≡ self.old.core.pending ++ group_in kept.items) }
+        ensures tasks { OnOk result (self.new.core.tasks ≡ after next self.old.core.tasks) }
+        ensures numbers { OnOk result (self.new.core.numbers.items ≡ next.numbers.items) }
+        ensures refused { IfErr result (λ e. RecordRefused D.model self.old self.new disk.old disk.new (length body.now) e) }
+        ensures kept { FaultsRise D.model disk.old disk.new }
+    {
+        self.core.pending.keep(kept, count)?;
+        if let Err(error) = self.write_next(alloc, disk, next, body) {
+            take_out_again(&mut self.core.pending, count);
+            return Err(error);
+        }
+        Ok(())
+    }
+}

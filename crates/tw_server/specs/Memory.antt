@@ -1,0 +1,7 @@
+-- A server in memory, and the link to it.
+pub mod Holding
+pub mod Server
+pub mod Props
+pub mod Script
+pub mod Exchange
+pub mod Link

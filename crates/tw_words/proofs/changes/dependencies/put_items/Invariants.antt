@@ -1,0 +1,13 @@
+-- the parts left, after those that are done, give what all give
+use Rattle.std.proofs.Common.{◌≡◌, option_copied}
+use Rattle.tw_filter.specs.Cuts.{parts, parts_of}
+use Rattle.tw_filter.specs.Holds.{scene_of}
+use Rattle.tw_filter.proofs.FirstParts.{left_len}
+use Rattle.tw_words.specs.Changed.{with_items}
+use Rattle.tw_words.proofs.changes.dependencies.put_items.Given as goal
+
+abbrev pub invariant-loop-left : goal.invariant-loop-left
+invariant-loop-left l = with_items (scene_of l.fn.view) l.task (parts_of 44 (option_copied l.left)) ≡ with_items (scene_of l.fn.view) l.fn.task (parts 44 l.fn.value)
+
+abbrev pub decreases-loop-left : goal.decreases-loop-left
+decreases-loop-left l = left_len (option_copied l.left)

@@ -1,0 +1,79 @@
+// What modification words make of a task: task(1), under "MODIFICATIONS".
+ghost use Rattle.std.specs.Prelude.{◌≡◌, ◌<◌, ◌+◌, length};
+ghost use Rattle.tw_filter.specs.Holds.{scene_of};
+ghost use Rattle.tw_words.specs.Changed.{with_words, changed};
+ghost use Rattle.tw_words.specs.Modifications.{rest_words};
+ghost use Rattle.tw_words.specs.Gives.{Gives};
+ghost use Rattle.tw_words.specs.Makes.{MakesAll, Takes};
+
+pub(crate) mod dependencies;
+pub(crate) mod depends_part;
+pub(crate) mod draft;
+pub(crate) mod field;
+pub(crate) mod modification;
+
+use crate::changes::draft::Draft;
+use crate::changes::modification::{is_add, is_plain, number_at};
+use crate::judging::tally::tally_of;
+use crate::line::Line;
+use crate::word_error::WordError;
+use std::alloc::Global;
+use tw_filter::{BadWord, KindError, View};
+use tw_model::TaskMap;
+
+// Takes a word of a line.
+fn take_word(
+    alloc: Global,
+    draft: &mut Draft,
+    line: &Line,
+    view: &View<'_>,
+    sole: bool,
+    n: u64,
+) -> Result<(), WordError>
+    requires { n < length line.now.words }
+    ensures { Takes (scene_of view.entry.now) sole line.now n result draft.old draft.new }
+{
+    let adding = is_add(line.command);
+    match draft.take(alloc, view, adding, sole, is_plain(line, n), line.word(n)) {
+        Ok(()) => Ok(()),
+        Err(KindError::Bad(kind)) => Err(WordError::Bad(BadWord {
+            word: number_at(line, n),
+            kind,
+        })),
+        Err(KindError::Memory) => Err(WordError::Memory),
+    }
+}
+
+// Takes the words after the command's word.
+fn take_rest(
+    alloc: Global,
+    draft: &mut Draft,
+    line: &Line,
+    view: &View<'_>,
+    sole: bool,
+) -> Result<(), WordError>
+    ensures { MakesAll result (with_words (scene_of view.entry.now) sole line.now draft.old line.now.rest_from (rest_words line.now)) draft.new }
+{
+    for n in line.rest_from..line.words.len() as u64 {
+        take_word(alloc, draft, line, view, sole, n)?;
+    }
+    Ok(())
+}
+
+/// What the modification words of a line make of a task, or the first word that is wrong: task(1), under "MODIFICATIONS". The words are
+/// taken in their order, so that a later one wins. Moments are stored in decimal seconds, a tag as `tag_` and its name and a dependency
+/// as `dep_` and its uuid, both with an empty value.
+///
+/// It is meant for the commands whose rest is `Rest::Modifications`. Of the others each word counts as a modification.
+pub fn changed(
+    alloc: Global,
+    line: &Line,
+    map: &TaskMap,
+    view: &View<'_>,
+) -> Result<TaskMap, WordError>
+    ensures { Gives (λ task. task) result (changed (scene_of view.entry.now) line.now map.now) }
+{
+    let mut draft = Draft::new(map.copy(alloc)?);
+    take_rest(alloc, &mut draft, line, view, tally_of(line).texts == 1)?;
+    Ok(draft.made(alloc)?)
+}

@@ -1,0 +1,6 @@
+-- Numbers that are bytes.
+use Rattle.std.specs.Prelude.{ℕ, ◌<◌, List, All}
+
+-- each of these numbers is a byte
+abbrev pub IsBytes : List ℕ → Type 0
+IsBytes bytes = All (λ b. b < 256) bytes
