@@ -1,16 +1,19 @@
 #!/usr/bin/env python3
 """Times `tw task` beside Taskwarrior's `task` on the same tasks, and compares their peak memory.
 
-    bench/run.py [--tw PATH] [--task PATH] [--sizes 1000,10000,50000] [--runs 9] [--per-record 1] [--synced] [--state] [--commands add,count]
+    bench/run.py [--tw PATH] [--task PATH] [--sizes 1000,10000,50000] [--runs 9] [--per-record 1] [--synced] [--state] [--templates] [--commands add,count]
 
 For each number of tasks it builds a store for each program, as that many `add`s leave it: a journal,
 in the format that docs/FORMATS.md gives, with `--per-record` tasks in each record, and Taskwarrior's
 `pending.data`, `undo.data` and `backlog.data`. With `--synced` the tasks came from a server, and there
 is nothing to undo: a journal of one sync, and Taskwarrior's `pending.data` alone. With `--state` the journal has slots and a thousand
-records, in whose place a first command put the one that spells their state.
+records, in whose place a first command put the one that spells their state. With `--templates` each task is a template that is due daily
+since five years, of which nothing is to be made: `--templates --commands list --sizes 100,1000` tells what asking them costs.
 The runs of the two programs alternate, and each changes something that is not changed yet: `modify` sets
 another project, `annotate` adds another note, `done` ends another task, `modify-all` changes every task, and `import` reads as many
-tasks from a file into an empty store.
+tasks from a file into an empty store. Some commands are of `tw` alone, each over a new store: in `depends` a task for which another one
+waits gets dependencies on one of 250 tasks of a chain, in `depends-ten` on one of 25; in `done-instances` one of 100 tasks is an instance
+of one template and ends, in `done-instances-ten` one of 10.
 Each line gives the median of the wall time in milliseconds, the peak of resident memory of one more run in
 megabytes, and how many times less `tw` takes of each.
 Memory is measured by GNU time (Debian's package time), and left out if that is not there.
@@ -30,6 +33,8 @@ import tempfile
 import time
 
 FIRST_SECOND = 1_700_000_000
+DAY = 86_400
+INSTANCES = 1826
 COMMANDS = {
     "add": ["add", "Buy", "milk"],
     "undo": ["undo"],
@@ -68,18 +73,29 @@ def update(uuid, name, value, second):
     return b"\x03" + uuid + text(name) + b"\x00\x01" + text(value) + struct.pack(">QI", second, 0)
 
 
-def operations(uuid, second, description):
+def properties(second, description):
+    return [("description", description), ("entry", str(second)), ("modified", str(second)), ("status", "pending")]
+
+
+def template_properties(second, description):
+    """A template whose last instance but one was due within this day, as a report leaves it."""
+    due = int(time.time()) - (INSTANCES - 1) * DAY + DAY // 2
     return [
-        b"\x01" + uuid,
-        update(uuid, "description", description, second),
-        update(uuid, "entry", str(second), second),
-        update(uuid, "modified", str(second), second),
-        update(uuid, "status", "pending", second),
+        ("description", description),
+        ("due", str(due)),
+        ("entry", str(second)),
+        ("mask", "-" * INSTANCES),
+        ("modified", str(second)),
+        ("recur", "daily"),
+        ("status", "recurring"),
     ]
 
 
-def synced_operations(uuid, second, description):
-    values = [("description", description), ("entry", str(second)), ("modified", str(second)), ("status", "pending")]
+def operations(uuid, second, values):
+    return [b"\x01" + uuid] + [update(uuid, name, value, second) for name, value in values]
+
+
+def synced_operations(uuid, second, values):
     return [b"\x01" + uuid] + [
         b"\x03" + uuid + text(name) + b"\x01" + text(value) + struct.pack(">QI", second, 0)
         for name, value in values
@@ -98,15 +114,15 @@ def commit(group):
     return b"\x01\x00" + struct.pack(">I", len(group) + 1) + b"\x04" + b"".join(group)
 
 
-def write_journal(folder, number, per_record, body, operations, with_slots):
+def write_journal(folder, number, per_record, body, operations, with_slots, properties):
     """The store of `tw`: the magic, and records of `per_record` tasks each, with slots before them or not."""
     os.makedirs(folder)
     group = []
     with open(os.path.join(folder, "replica.journal"), "wb") as file:
         magic = record(b"TWREPL01")
         file.write(b"\x02" + magic[1:] + struct.pack(">QQ", 29, 0) if with_slots else magic)
-        for place, task in enumerate(tasks(number), 1):
-            group += operations(*task)
+        for place, (uuid, second, description) in enumerate(tasks(number), 1):
+            group += operations(uuid, second, properties(second, description))
             if place % per_record == 0 or place == number:
                 file.write(record(body(group)))
                 group = []
@@ -117,12 +133,10 @@ def hyphenated(uuid):
     return "-".join([digits[:8], digits[8:12], digits[12:16], digits[16:20], digits[20:]])
 
 
-def composed(uuid, second, description):
+def composed(uuid, values):
     """A task as Taskwarrior's data files have it."""
-    return (
-        f'[description:"{description}" entry:"{second}" modified:"{second}"'
-        f' status:"pending" uuid:"{hyphenated(uuid)}"]'
-    )
+    told = " ".join(f'{name}:"{value}"' for name, value in values)
+    return f'[{told} uuid:"{hyphenated(uuid)}"]'
 
 
 def exported(uuid, second, description):
@@ -139,14 +153,15 @@ def write_lines(folder, name, lines):
         file.writelines(line + "\n" for line in lines)
 
 
-def write_data(folder, number, with_history):
+def write_data(folder, number, with_history, properties):
     """The store of Taskwarrior 2, and what its `add`s keep for `undo` and `sync`."""
     os.makedirs(folder)
-    kept = list(tasks(number)) if with_history else []
-    write_lines(folder, "pending.data", (composed(*task) for task in tasks(number)))
+    every = [(task, composed(task[0], properties(*task[1:]))) for task in tasks(number)]
+    kept = every if with_history else []
+    write_lines(folder, "pending.data", (line for _, line in every))
     write_lines(folder, "completed.data", [])
-    write_lines(folder, "undo.data", (f"time {task[1]}\nnew {composed(*task)}\n---" for task in kept))
-    write_lines(folder, "backlog.data", (exported(*task) for task in kept))
+    write_lines(folder, "undo.data", (f"time {task[1]}\nnew {line}\n---" for task, line in kept))
+    write_lines(folder, "backlog.data", (exported(*task) for task, _ in kept))
 
 
 def write_import(path, number):
@@ -155,13 +170,59 @@ def write_import(path, number):
         file.write("[\n" + ",\n".join(exported(*task) for task in tasks(number)) + "\n]\n")
 
 
+def chained(number, count):
+    """The operations of a chain of tasks, each of which waits for the one before it, and of two more, the second of which waits for the
+    first; and the words by which this first one is to wait for so many of the chain."""
+    made, made_operations = list(tasks(number)), []
+    names = [hyphenated(task[0]) for task in made]
+    for place, task in enumerate(made):
+        made_operations += operations(*task)
+        if place not in (0, number - 2):
+            made_operations.append(update(task[0], "dep_" + names[place - 1], "", task[1]))
+    return made_operations, [names[-2], "modify", "depends:" + ",".join(names[: -2 : number // count][:count])]
+
+
+def recurring(number, count):
+    """The operations of tasks of which so many are instances of the first, which is a template; and the words by which they end."""
+    (parent, second, description), *others = tasks(number)
+    due = str(second)
+    template = [("description", description), ("due", due), ("entry", due), ("mask", "-" * count), ("recur", "daily"), ("status", "recurring")]
+    made_operations = [b"\x01" + parent] + [update(parent, name, value, second) for name, value in template]
+    for place, task in enumerate(others):
+        made_operations += operations(*task)
+        if place < count:
+            made_operations.append(update(task[0], "parent", hyphenated(parent), task[1]))
+            made_operations.append(update(task[0], "imask", str(place), task[1]))
+    return made_operations, ["parent.any:", "done"]
+
+
+# Commands over a store of their own, which each run finds as it was made: what makes it, and of how many tasks one takes part.
+OWN = {
+    "depends": (chained, 250),
+    "depends-ten": (chained, 25),
+    "done-instances": (recurring, 100),
+    "done-instances-ten": (recurring, 10),
+}
+
+
+def write_own(folder, command, number):
+    """The store of such a command, and its words."""
+    make, parts = OWN[command]
+    group, words = make(number, max(number // parts, 1))
+    os.makedirs(folder)
+    with open(os.path.join(folder, "replica.journal"), "wb") as file:
+        file.write(record(b"TWREPL01") + record(commit(group)))
+    return words
+
+
 class Program:
     """A program over a store of its own, and an input."""
 
-    def __init__(self, argv, environment, imported):
+    def __init__(self, argv, environment, imported, number=0):
         self.argv = argv
         self.environment = environment
         self.imported = imported
+        self.number = number
         self.turn = 0
 
     def run(self, words, wrapper=(), store=None):
@@ -185,6 +246,10 @@ class Program:
 
     def measure(self, command, wrapper=()):
         """One run of a command. An undo takes back an add that is not measured."""
+        if command in OWN:
+            with tempfile.TemporaryDirectory(prefix="tw-bench-") as folder:
+                store = os.path.join(folder, "tw")
+                return self.run(write_own(store, command, self.number), wrapper, store)
         if command == "undo":
             self.run(["add", "to", "be", "undone"])
         self.turn += 1
@@ -209,15 +274,16 @@ def programs(arguments, folder, number):
     tw_store = os.path.join(folder, "tw")
     per_record = max(number // 1000, 1) if arguments.state else number if arguments.synced else arguments.per_record
     kind = (sync, synced_operations) if arguments.synced else (commit, operations)
-    write_journal(tw_store, number, per_record, *kind, arguments.state)
+    values = template_properties if arguments.templates else properties
+    write_journal(tw_store, number, per_record, *kind, arguments.state, values)
     imported = os.path.join(folder, "import.json")
     write_import(imported, number)
-    found = [Program([arguments.tw, "task"], dict(base, TASKDATA=tw_store), imported)]
+    found = [Program([arguments.tw, "task"], dict(base, TASKDATA=tw_store), imported, number)]
     if arguments.state:
         found[0].run(["count"])
     if arguments.rival:
         task_store = os.path.join(folder, "task")
-        write_data(task_store, number, not arguments.synced)
+        write_data(task_store, number, not arguments.synced, values)
         settings = os.path.join(folder, "taskrc")
         with open(settings, "w", encoding="utf-8") as file:
             file.write("confirmation=no\nbulk=0\nrecurrence.confirmation=no\n")
@@ -230,16 +296,17 @@ def compare(arguments, number, programs):
     with tempfile.TemporaryDirectory(prefix="tw-bench-") as folder:
         pair = programs(arguments, folder, number)
         for command in arguments.commands:
-            walls = [[] for _ in pair]
+            running = pair[:1] if command in OWN else pair
+            walls = [[] for _ in running]
             for _ in range(arguments.runs):
-                for place, program in enumerate(pair):
+                for place, program in enumerate(running):
                     walls[place].append(program.measure(command))
-            peaks = [program.peak(command, folder) for program in pair]
+            peaks = [program.peak(command, folder) for program in running]
             show(number, command, [statistics.median(wall) for wall in walls], peaks)
 
 
 def show(number, command, walls, peaks):
-    cells = [f"{number:>6} {command:<14}"]
+    cells = [f"{number:>6} {command:<18}"]
     for wall, peak in zip(walls, peaks):
         memory = f"{peak:>7.1f} MB" if peak else "          "
         cells.append(f"{wall:>9.1f} ms {memory}")
@@ -268,7 +335,7 @@ def start(parser, rival, counted, programs):
     arguments.commands = arguments.commands.split(",")
     if not os.access(arguments.tw, os.X_OK):
         sys.exit(f"there is no program {arguments.tw}: build it by tools/build")
-    heads = [f"{counted:>6} command       ", "            tw        "]
+    heads = [f"{counted:>6} command           ", "            tw        "]
     if arguments.rival:
         heads += [f"{rival:>15}       ", "  time   memory"]
     print(" | ".join(heads))
@@ -277,10 +344,11 @@ def start(parser, rival, counted, programs):
 
 
 def main():
-    parser = options("Times tw beside Taskwarrior.", "task", "tasks", COMMANDS)
+    parser = options("Times tw beside Taskwarrior.", "task", "tasks", [*COMMANDS, *OWN])
     parser.add_argument("--per-record", type=int, default=1, help="tasks in a record")
     parser.add_argument("--synced", action="store_true", help="stores after a first sync")
     parser.add_argument("--state", action="store_true", help="a journal that begins with a state")
+    parser.add_argument("--templates", action="store_true", help="each task is a template")
     start(parser, "task", "tasks", programs)
 
 

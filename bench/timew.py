@@ -1,13 +1,16 @@
 #!/usr/bin/env python3
 """Times `tw timew` beside Timewarrior's `timew` on the same month files, and compares their peak memory.
 
-    bench/timew.py [--tw PATH] [--timew PATH] [--sizes 1000,10000,50000] [--runs 9] [--changes 0] [--days 0] [--commands start,track]
+    bench/timew.py [--tw PATH] [--timew PATH] [--sizes 1000,10000,50000] [--runs 9] [--changes 0] [--days 0] [--newest-first] [--commands start,track]
 
 For each number of intervals it writes month files as both programs have them, in UTC: half an hour of each hour from 2015 on, the
 last one some hours ago. With `--changes` so many tracks are made and taken back again before anything is measured, which leaves a
 journal as long use does. With `--days` the journal has twenty records a day for so many days before the first interval, as ten intervals
-a day leave that were begun and ended; their month files are not there. The runs of the two programs alternate. A `start` is taken back by a `cancel`, a `stop` ends an interval
-that began ten minutes before, and `track` places an interval where there is none yet; what goes before and after is not measured.
+a day leave that were begun and ended; their month files are not there. With `--newest-first` each month file has its lines in the other
+order, as a hand may leave them: of twice the intervals a command then takes about twice as long, and no more.
+The runs of the two programs alternate. A `start` is taken back by a `cancel`, a `stop` ends an interval
+that began ten minutes before, `track` places an interval where there is none yet, `tag` and `move` change the first interval, and
+`delete` names every interval by its id and is taken back by an `undo`; what goes before and after is not measured.
 Each line gives the median of the wall time in milliseconds, the peak of resident memory of one more run in megabytes, and how many
 times less `tw` takes of each. Without `timew` on the machine (Debian's package timewarrior), it measures `tw` alone.
 """
@@ -19,7 +22,7 @@ import time
 import run
 
 HOUR = 3600
-COMMANDS = ["start", "stop", "track", "summary", "export"]
+COMMANDS = ["start", "stop", "track", "tag", "move", "delete", "summary", "export"]
 
 
 def stamp(second):
@@ -31,7 +34,7 @@ def first_second(number):
     return (int(time.time()) // HOUR - number - 6) * HOUR
 
 
-def write_months(folder, number):
+def write_months(folder, number, newest_first):
     os.makedirs(folder)
     months = {}
     for i in range(number):
@@ -39,7 +42,7 @@ def write_months(folder, number):
         line = f"inc {stamp(start)} - {stamp(start + HOUR // 2)} # code project{i % 10}"
         months.setdefault(time.strftime("%Y-%m", time.gmtime(start)), []).append(line)
     for month, lines in months.items():
-        run.write_lines(folder, f"{month}.data", lines)
+        run.write_lines(folder, f"{month}.data", lines[::-1] if newest_first else lines)
 
 
 def field(text):
@@ -65,9 +68,10 @@ def write_journal(path, first, days):
 class Hours(run.Program):
     """A program over month files of its own."""
 
-    def __init__(self, argv, environment, first):
+    def __init__(self, argv, environment, first, number):
         super().__init__(argv, environment, None)
         self.first = first
+        self.number = number
 
     def place(self):
         """The words of an interval where there is none yet: ten minutes in the free half of an hour."""
@@ -87,6 +91,16 @@ class Hours(run.Program):
             return taken
         if command == "track":
             return self.run(self.place(), wrapper)
+        if command == "tag":
+            self.turn += 1
+            return self.run(["tag", f"@{self.number}", f"tag{self.turn}"], wrapper)
+        if command == "move":
+            self.turn += 1
+            return self.run(["move", f"@{self.number}", stamp(self.first + self.turn)], wrapper)
+        if command == "delete":
+            taken = self.run(["delete", *(f"@{id}" for id in range(1, self.number + 1))], wrapper)
+            self.run(["undo"])
+            return taken
         return self.run([command, ":all"] if command == "summary" else [command], wrapper)
 
 
@@ -97,11 +111,11 @@ def programs(arguments, folder, number):
     for name, argv, zone in [("tw", [arguments.tw, "timew"], ""), ("timew", [arguments.rival], "UTC")]:
         if argv[0]:
             store = os.path.join(folder, name)
-            write_months(os.path.join(store, "data"), number)
+            write_months(os.path.join(store, "data"), number, arguments.newest_first)
             run.write_lines(store, "timewarrior.cfg", [])
             if name == "tw" and arguments.days:
                 write_journal(os.path.join(store, "undo.journal"), first, arguments.days)
-            found.append(Hours(argv, dict(base, TIMEWARRIORDB=store, TZ=zone), first))
+            found.append(Hours(argv, dict(base, TIMEWARRIORDB=store, TZ=zone), first, number))
     for program in found:
         for _ in range(arguments.changes // 2):
             program.run(["track", stamp(first - HOUR), "-", stamp(first - HOUR + 60), "call"])
@@ -113,6 +127,7 @@ def main():
     parser = run.options("Times tw beside Timewarrior.", "timew", "hours", COMMANDS)
     parser.add_argument("--changes", type=int, default=0, help="changes that were made before")
     parser.add_argument("--days", type=int, default=0, help="days of twenty changes in the journal")
+    parser.add_argument("--newest-first", action="store_true", help="month files whose lines have the newest first")
     run.start(parser, "timew", "hours", programs)
 
 
