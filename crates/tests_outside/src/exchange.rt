@@ -61,6 +61,8 @@ impl Dialer for TwoAddresses {
 
     ghost leads_to = { λ stream address nanos. Unit {0} };
 
+    ghost has_opened = { λ host count. Unit {0} };
+
     fn addresses(&self, _host: &str, port: u16) -> io::Result<Vec<SocketAddr>> {
         let mut found = Vec::new(self.alloc);
         for last in 1..3 {
@@ -70,7 +72,7 @@ impl Dialer for TwoAddresses {
         Ok(found)
     }
 
-    fn connect(&self, address: SocketAddr, _wait: Duration) -> io::Result<Answer> {
+    fn connect(&mut self, address: SocketAddr, _wait: Duration) -> io::Result<Answer> {
         if address == SocketAddr::from((Ipv4Addr::new(127, 0, 0, 2), 8080)) {
             return Ok(Answer {
                 left: self.bytes,
@@ -102,12 +104,12 @@ fn a_reply_is_read_to_its_end_or_to_the_longest(rt: HostRuntime) -> Result<(), F
     let alloc = rt.alloc();
     let mut reply = b"an old reply".to_vec(alloc)?;
     for (port, bytes, piece, want) in ROWS {
-        let host = TwoAddresses {
+        let mut host = TwoAddresses {
             alloc,
             bytes,
             piece,
         };
-        match ask(&host, &rt, "host", port, b"request", &mut reply) {
+        match ask(&mut host, &rt, "host", port, b"request", &mut reply) {
             Ok(()) => assert!(rt; want == Ok(reply.len()) && is_all_x(&reply)),
             Err(error) => assert!(rt; want == Err(error)),
         }

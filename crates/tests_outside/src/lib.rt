@@ -7,6 +7,8 @@ mod exchange;
 #[cfg(test)]
 mod files;
 #[cfg(test)]
+mod hooks;
+#[cfg(test)]
 mod journal;
 #[cfg(test)]
 mod streams;

@@ -1,5 +1,5 @@
 -- One exchange with a server.
-use Rattle.std.specs.Prelude.{◌≡◌, ◌⊎◌, ℕ, List, Option, length}
+use Rattle.std.specs.Prelude.{◌≡◌, ◌⊎◌, ℕ, ◌+◌, List, Option, Result, Ok, Err, length}
 use Rattle.std.specs.Io.KnownBytes.{Appends, Consumes, IsAtEnd}
 use Rattle.std.specs.declared.net.socket_addr.SocketAddr.{SocketAddr}
 use Rattle.tw_files.specs.declared.connection.Connection.{Connection}
@@ -39,3 +39,8 @@ pub record Asked {C S : Type 0} (is_of : SocketAddr → Type 0) (leads_to : Lead
   pub dialled : Dialled is_of leads_to has_shown begun
   pub got : Appends (contents begun.stream) (contents sent.stream) request
   pub replied : Replied remaining sent ended reply
+
+-- one connection was opened; or none, if nothing came of it
+abbrev pub OpensOne : {D A E : Type 0} → (has_opened : D → ℕ → Type 0) → (old new : D) → Result A E → Type 0
+OpensOne has_opened old new (Ok x) = (n : ℕ) → has_opened old n → has_opened new (n + 1)
+OpensOne has_opened old new (Err e) = (n : ℕ) → has_opened old n → has_opened new n ⊎ has_opened new (n + 1)

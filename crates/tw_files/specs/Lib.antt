@@ -8,3 +8,4 @@ pub mod Waits
 pub mod Asked
 pub mod FileFolder
 pub mod FolderFiles
+pub mod ProcessSpawner

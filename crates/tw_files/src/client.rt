@@ -1,7 +1,7 @@
 // The client's side of one exchange with a server.
 ghost use Rattle.std.specs.Prelude.{◌≡◌, ◌⊎◌, length, OnOk, IfOk};
 ghost use Rattle.std.specs.Io.KnownBytes.{Consumes, IsAtEnd};
-ghost use Rattle.tw_files.specs.Asked.{Asked, Dialled};
+ghost use Rattle.tw_files.specs.Asked.{Asked, Dialled, OpensOne};
 
 use crate::connection::{Connection, Limits};
 use crate::dialer::Dialer;
@@ -36,14 +36,15 @@ const PIECE: usize = 65_536;
 /// what comes back: all of it, or its first 16,793,600 bytes. It waits 30 seconds at most for an address, a
 /// read or a write, and 120 for all reads and writes. After an error `reply` holds any bytes.
 pub fn ask<D: Dialer, C: Timer + Drop>(
-    dialer: &D,
+    dialer: &mut D,
     clock: C,
     host: &str,
     port: u16,
     request: &[u8],
     reply: &mut Vec<u8>,
 ) -> Result<(), AskError>
-    ensures { OnOk result (Asked (D.is_of host.now port) D.leads_to C.has_shown D.Stream.contents D.Stream.remaining request.now reply.new.items) }
+    ensures opened { OpensOne D.has_opened dialer.old dialer.new result }
+    ensures asked { OnOk result (Asked (D.is_of host.now port) D.leads_to C.has_shown D.Stream.contents D.Stream.remaining request.now reply.new.items) }
 {
     let mut connection = dial(dialer, clock, host, port)?;
     if !write_whole(&mut connection, request) {
@@ -55,12 +56,13 @@ pub fn ask<D: Dialer, C: Timer + Drop>(
 
 // Connects to the first address that answers.
 fn dial<D: Dialer, C: Timer + Drop>(
-    dialer: &D,
+    dialer: &mut D,
     clock: C,
     host: &str,
     port: u16,
 ) -> Result<Connection<C, D::Stream>, AskError>
-    ensures { IfOk result (Dialled (D.is_of host.now port) D.leads_to C.has_shown) }
+    ensures opened { OpensOne D.has_opened dialer.old dialer.new result }
+    ensures dialled { IfOk result (Dialled (D.is_of host.now port) D.leads_to C.has_shown) }
 {
     let addresses = match dialer.addresses(host, port) {
         Ok(addresses) => addresses,

@@ -1,5 +1,5 @@
 // The addresses of a host, and connections to them.
-ghost use Rattle.std.specs.Prelude.{ℕ, List, All, IfOk};
+ghost use Rattle.std.specs.Prelude.{ℕ, ◌+◌, List, All, IfOk, OnOk, OnErr};
 ghost use Rattle.std.specs.Duration.{as_nanos};
 ghost use Rattle.std.specs.declared.net.socket_addr.SocketAddr.{SocketAddr};
 
@@ -18,13 +18,18 @@ pub trait Dialer {
     /// Holds of a new connection to an address, for which it was to wait so many nanoseconds at most.
     ghost leads_to: { Self.Stream → SocketAddr → ℕ → Type 0 };
 
+    /// Holds if it has opened so many connections.
+    ghost has_opened: { Self → ℕ → Type 0 };
+
     /// The addresses of a host at a port.
     fn addresses(&self, host: &str, port: u16) -> io::Result<Vec<SocketAddr>>
         ensures { IfOk result (λ found. All (is_of host.now port) found.items) };
 
     /// Connects to an address, or fails if it has not answered after this time.
-    fn connect(&self, address: SocketAddr, wait: Duration) -> io::Result<Self::Stream>
-        ensures { IfOk result (λ stream. leads_to stream address (as_nanos wait)) };
+    fn connect(&mut self, address: SocketAddr, wait: Duration) -> io::Result<Self::Stream>
+        ensures led { IfOk result (λ stream. leads_to stream address (as_nanos wait)) }
+        ensures one { (n : ℕ) → has_opened self.old n → OnOk result (has_opened self.new (n + 1)) }
+        ensures none { (n : ℕ) → has_opened self.old n → OnErr result (has_opened self.new n) };
 }
 
 impl Dialer for &HostRuntime {
@@ -34,11 +39,14 @@ impl Dialer for &HostRuntime {
 
     ghost leads_to = { λ stream address nanos. Unit {0} };
 
+    // The system does not tell how many there were.
+    ghost has_opened = { λ system count. Unit {0} };
+
     fn addresses(&self, host: &str, port: u16) -> io::Result<Vec<SocketAddr>> {
         Ok((host, port).to_socket_addrs(*self)?.collect(self.alloc())?)
     }
 
-    fn connect(&self, address: SocketAddr, wait: Duration) -> io::Result<TcpStream> {
+    fn connect(&mut self, address: SocketAddr, wait: Duration) -> io::Result<TcpStream> {
         TcpStream::connect_timeout(*self, &address, wait)
     }
 }

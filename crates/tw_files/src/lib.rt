@@ -1,6 +1,6 @@
-//! The program's edge: the system's files, folders, streams and connections as disks, sources, sinks and peers.
+//! The program's edge: the system's files, folders, streams, connections and scripts as disks, sources, sinks, peers and hooks.
 //! Each call says what it asks of the system, with which bytes, offsets, addresses and times, and each fault is counted.
-//! It implements the traits of `tw_world`.
+//! It implements the traits of `tw_world` and `tw_spawn`.
 #![tactic(auto)]
 
 mod client;
@@ -13,6 +13,8 @@ mod folders;
 mod offset_file;
 mod opening;
 mod peer;
+mod process_spawner;
+mod scripts;
 mod source;
 mod stream;
 mod timed_stream;
@@ -27,6 +29,8 @@ pub use folders::Folders;
 pub use offset_file::{Busy, OffsetFile};
 pub use opening::open_disk;
 pub use peer::StreamPeer;
+pub use process_spawner::ProcessSpawner;
+pub use scripts::{OpenScript, Scripts};
 pub use source::StreamSource;
 pub use stream::Stream;
 pub use timed_stream::{TimedStream, Timer};

@@ -1,0 +1,54 @@
+// Each byte of a file that is another.
+use super::{ADDED, THREE, disk_of, journal_on, refusal};
+use std::alloc::Global;
+use std::test::Fail;
+use tw_journal::OpenError;
+
+// How many records a file has where one of its bytes is 255, and the byte of the first body; or why it is not opened, which
+// leaves it as it is.
+fn answer_at(
+    alloc: Global,
+    content: &[u8],
+    at: usize,
+) -> Result<Result<(u64, u8), OpenError>, Fail> {
+    let mut content = content.to_vec(alloc)?;
+    *content.get_mut(at).ok_or("no byte")? = 255;
+    let mut disk = disk_of(alloc, &content, &[])?;
+    match refusal(alloc, &mut disk) {
+        Some(error) if disk.bytes() == content.as_slice() => Ok(Err(error)),
+        Some(_) => Err(Fail::new("another file")),
+        None => Ok(Ok(journal_on(alloc, &content)?.first(alloc)?)),
+    }
+}
+
+// A byte of a gate, a length or the magic that is 255 damages its record, and one of a body is read as it is.
+#[test]
+fn each_byte_of_three_records_may_be_another(rt: HostRuntime) -> Result<(), Fail> {
+    let alloc = rt.alloc();
+    for at in 0..32 {
+        let want = match at {
+            0..=12 => Err(OpenError::Damaged { offset: 0 }),
+            13..=17 => Err(OpenError::Damaged { offset: 13 }),
+            19..=23 => Err(OpenError::Damaged { offset: 19 }),
+            26..=30 => Err(OpenError::Damaged { offset: 26 }),
+            _ => Ok((3, if at == 18 { 255 } else { 2 })),
+        };
+        assert!(rt; answer_at(alloc, &THREE, at)? == want, "{at}");
+    }
+    Ok(())
+}
+
+// A byte of the selector, the magic or the slot that counts damages the file. The other slot may hold anything.
+#[test]
+fn each_byte_of_a_file_with_areas_may_be_another(rt: HostRuntime) -> Result<(), Fail> {
+    let alloc = rt.alloc();
+    for at in 0..35 {
+        let want = match at {
+            0..=20 => Err(OpenError::Damaged { offset: 0 }),
+            29..=33 => Err(OpenError::Damaged { offset: 29 }),
+            _ => Ok((1, if at == 34 { 255 } else { 2 })),
+        };
+        assert!(rt; answer_at(alloc, &ADDED, at)? == want, "{at}");
+    }
+    Ok(())
+}

@@ -1,0 +1,71 @@
+// Records by their numbers, and parts of their bodies.
+use super::{Opened, THREE, journal_on};
+use std::alloc::Global;
+use std::test::Fail;
+
+// Whether a part of the second of three bodies is this, or not in it.
+fn has_part(alloc: Global, from: u64, len: u64, want: Option<&[u8]>) -> Result<bool, Fail> {
+    let mut three = journal_on(alloc, &THREE)?;
+    Ok(three.has_part(alloc, from, len, want))
+}
+
+#[test]
+fn a_part_of_a_body_is_read_up_to_both_its_ends(rt: HostRuntime) -> Result<(), Fail> {
+    let alloc = rt.alloc();
+    let table = [
+        (0, 0, Some([].as_slice())),
+        (0, 2, Some([3, 4].as_slice())),
+        (0, 1, Some([3].as_slice())),
+        (1, 1, Some([4].as_slice())),
+        (2, 0, Some([].as_slice())),
+        (0, 3, None),
+        (2, 1, None),
+        (3, 0, None),
+        (u64::MAX, u64::MAX, None),
+    ];
+    for (from, len, want) in table {
+        assert!(rt; has_part(alloc, from, len, want)?, "{from} {len}");
+    }
+    Ok(())
+}
+
+// A journal of three records, to which two are added.
+fn five(alloc: Global) -> Result<Opened, Fail> {
+    let mut five = journal_on(alloc, &THREE)?;
+    if five.append(&[6, 7, 8]).is_err() || five.append(&[9]).is_err() {
+        return Err(Fail::new("not added"));
+    }
+    Ok(five)
+}
+
+// Whether one of five records begins here and has this body.
+fn is_fifth(alloc: Global, n: u64, offset: u64, body: &[u8]) -> Result<bool, Fail> {
+    let mut five = five(alloc)?;
+    let is_row = !five.journal.can_checkpoint();
+    Ok(is_row & five.has_record(alloc, n, offset, body))
+}
+
+// Whether no offset is answered if the gate of the record became another.
+fn looks_at_the_record(alloc: Global) -> Result<bool, Fail> {
+    let mut three = journal_on(alloc, &THREE)?;
+    let is_spoilt = three.spoil();
+    Ok(is_spoilt & three.offset(1).is_none())
+}
+
+// The offsets of three records are known from the opening, and no room was made for those of two more.
+#[test]
+fn records_are_read_by_their_numbers(rt: HostRuntime) -> Result<(), Fail> {
+    let alloc = rt.alloc();
+    let table = [
+        (0, 13, [2].as_slice()),
+        (1, 19, [3, 4].as_slice()),
+        (2, 26, [5].as_slice()),
+        (3, 32, [6, 7, 8].as_slice()),
+        (4, 40, [9].as_slice()),
+    ];
+    for (n, offset, body) in table {
+        assert!(rt; is_fifth(alloc, n, offset, body)?, "{n}");
+    }
+    assert!(rt; looks_at_the_record(alloc)?);
+    Ok(())
+}
