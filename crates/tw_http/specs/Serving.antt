@@ -9,7 +9,7 @@ use Rattle.tw_http.specs.declared.message.Asked.TheVariants as asked
 use Rattle.tw_http.specs.declared.message.Response.{Response}
 use Rattle.tw_http.specs.declared.message.Response.TheVariants as answer
 use Rattle.tw_http.specs.declared.message.HttpError.{HttpError}
-use Rattle.tw_http.specs.declared.message.HttpError.TheVariants.{Memory, NotYet, Head, Path, Header, Length, Status, TooLong}
+use Rattle.tw_http.specs.declared.message.HttpError.TheVariants.{TooLong}
 use Rattle.tw_http.specs.Messages.{max_body}
 
 -- the client that asks
@@ -40,16 +40,10 @@ response_of protocol.Finding.Taken = answer.Taken
 abbrev pub response_in : List Version → Request → List ℕ → Response
 response_in chain request id = response_of (protocol.answer chain (ask_of request) id).1
 
--- the response to bytes that are no request, or that end inside one
+-- The response to bytes that are no request, or that end inside one. It is asked of no want of memory, which says nothing of bytes
 abbrev pub refusal_of : HttpError → Response
-refusal_of NotYet = answer.Bad
-refusal_of Head = answer.Bad
-refusal_of Path = answer.Bad
-refusal_of Header = answer.Bad
-refusal_of Length = answer.Bad
-refusal_of (Status code) = answer.Bad
 refusal_of TooLong = answer.TooLong
-refusal_of Memory = answer.Bad
+refusal_of error = answer.Bad
 
 -- each segment of a chain fits a body
 abbrev pub SegmentsFit : List Version → Type 0

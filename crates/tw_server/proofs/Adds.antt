@@ -64,13 +64,13 @@ last_uuid h (v ∷ vs) uuid all = last_uuid v.id vs (All-head (λ v. IsUuid v.id
 
 -- ---- the answer
 
-abbrev answer_by : Bool → Bool → List Version → (parent segment id : List ℕ) → List Version × Finding
+abbrev pub answer_by : Bool → Bool → List Version → (parent segment id : List ℕ) → List Version × Finding
 answer_by t u chain parent segment id = cond t (cond u ([], Taken) (version id parent segment ∷ [], Added id)) ([], Conflict (latest chain))
 
-answer_is : (t u : Bool) (chain : List Version) (parent segment id : List ℕ) → accepts chain parent ≡ t → has_id id chain ≡ u → answer chain (Ask_add parent segment) id ≡ answer_by t u chain parent segment id
+pub answer_is : (t u : Bool) (chain : List Version) (parent segment id : List ℕ) → accepts chain parent ≡ t → has_id id chain ≡ u → answer chain (Ask_add parent segment) id ≡ answer_by t u chain parent segment id
 answer_is t u chain parent segment id at there = ap (λ x. answer_by x (has_id id chain) chain parent segment id) at ∙ ap (λ x. answer_by t x chain parent segment id) there
 
-conflicts : (chain : List Version) (parent segment id : List ℕ) → accepts chain parent ≡ false → answer chain (Ask_add parent segment) id ≡ ([], Conflict (latest chain))
+pub conflicts : (chain : List Version) (parent segment id : List ℕ) → accepts chain parent ≡ false → answer chain (Ask_add parent segment) id ≡ ([], Conflict (latest chain))
 conflicts chain parent segment id at = answer_is false (has_id id chain) chain parent segment id at refl
 
 pub not_other : (b : Bool) → false ≡ not b → b ≡ true

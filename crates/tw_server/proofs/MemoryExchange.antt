@@ -59,7 +59,7 @@ own_if : (t : Bool) (v : Version) (xs ys : List Version) → (if t then v ∷ (x
 own_if true v xs ys = refl
 own_if false v xs ys = refl
 
-own_append : (client : List ℕ) (xs ys : List MemoryVersion) → own_of client (xs ++ ys) ≡ own_of client xs ++ own_of client ys
+pub own_append : (client : List ℕ) (xs ys : List MemoryVersion) → own_of client (xs ++ ys) ≡ own_of client xs ++ own_of client ys
 own_append client [] ys = refl
 own_append client (v ∷ xs) ys =
     ap (λ vs. if same_id v.client client && v.own then (accepted_of v).version ∷ vs else vs) (own_append client xs ys) ∙ own_if (same_id v.client client && v.own) (accepted_of v).version (own_of client xs) (own_of client ys)

@@ -43,6 +43,7 @@ pub request_acts : (old new : Holding) (request : List ℕ) (asked : Request) �
 request_acts old new request asked is acted = record {
   asked = λ other also. acted ∙ ap (λ r. after_request old r true) (ok_is (one_request request (Ok asked) (Ok other) is also));
   none = λ error also. absurd (ok_not_err (one_request request (Ok asked) (Err error) is also));
+  read = (Ok asked, is);
 }
 
 pub request_response : (old : Holding) (request reply : List ℕ) (asked : Request) (response : Response) → IsRequestAnswer request (Ok asked) → response ≡ response_at (log_of old.versions) asked (drawn_id old.start) → reply ≡ response_text response → IsReply old request reply
@@ -55,6 +56,7 @@ pub none_acts : (old : Holding) (request : List ℕ) (error : HttpError) → IsR
 none_acts old request error is = record {
   asked = λ other also. absurd (ok_not_err (one_request request (Ok other) (Err error) also is));
   none = λ also_error also. refl;
+  read = (Err error, is);
 }
 
 pub none_response : (old : Holding) (request reply : List ℕ) (error : HttpError) (response : Response) → IsRequestAnswer request (Err error) → response ≡ refusal_of error → reply ≡ response_text response → IsReply old request reply

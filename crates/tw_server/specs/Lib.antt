@@ -8,3 +8,4 @@ pub mod Versions
 pub mod Room
 pub mod Laws
 pub mod Memory
+pub mod Remembered

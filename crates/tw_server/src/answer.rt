@@ -1,12 +1,13 @@
 // The answer to a request.
 ghost use Rattle.std.specs.Prelude.{◌≡◌, ◌⊎◌, ◌<◌, ◌+◌, true, false, length, List, Err, IfOk, IfErr, OnOk, OnErr};
-ghost use Rattle.tw_world.specs.Disk.{FaultsRise, Untouched};
+ghost use Rattle.tw_world.specs.Disk.{Tells, FaultsRise, Untouched};
 ghost use Rattle.tw_http.specs.declared.message.Request.TheVariants as asks;
 ghost use Rattle.tw_http.specs.declared.message.Asked.TheVariants as kinds;
 ghost use Rattle.tw_http.specs.Serving.{kind_of};
 ghost use Rattle.tw_server.specs.declared.error.AnswerError.TheVariants as refused;
 ghost use Rattle.tw_server.specs.Log.{Accepted, added};
 ghost use Rattle.tw_server.specs.Server.{Knows, drawn_id, Replies, most_added, IsServerOn, OnLog, IsAnswered, is_closed, server_end};
+ghost use Rattle.tw_server.specs.Remembered.{IsRemembered, IsRememberedChild, IsSegmentIn};
 ghost use Rattle.tw_server.specs.Server.{LeavesLog, GrowsLogBy, RespondsAt, AnswerRefused};
 
 use crate::entry::{BEFORE_SEGMENT, Entry, body_of};
@@ -38,6 +39,7 @@ impl Server {
         requires { is_closed self.old ≡ false → D.model.len disk.old ≡ server_end self.old }
 
         ensures answered { IfOk result (IsAnswered D.model self.old self.new disk.old disk.new request.now ids.old ids.new) }
+        ensures remembered { IfOk result (IsRemembered D.model self.old self.new disk.old request.now ids.old ids.new) }
         ensures kind { IfOk result (Replies (kind_of request.now)) }
         ensures any_moment { LeavesLog D.model self.old disk.old disk.new (λ log. added log request.now (drawn_id ids.old.start)) }
         ensures growth { GrowsLogBy D.model self.old disk.old disk.new (most_added request.now) }
@@ -78,6 +80,7 @@ impl Server {
         requires length { D.model.len disk.old ≡ server_end self.old }
 
         ensures answered { IfOk result (IsAnswered D.model self.old self.new disk.old disk.new (asks.Add client parent segment.now) ids.old ids.new) }
+        ensures remembered { IfOk result (IsRemembered D.model self.old self.new disk.old (asks.Add client parent segment.now) ids.old ids.new) }
         ensures kind { IfOk result (Replies kinds.Add) }
         ensures any_moment { LeavesLog D.model self.old disk.old disk.new (λ log. added log (asks.Add client parent segment.now) (drawn_id ids.old.start)) }
         ensures growth { GrowsLogBy D.model self.old disk.old disk.new (length segment.now + 54) }
@@ -136,6 +139,7 @@ impl Server {
         requires length { D.model.len disk.old ≡ server_end self.now }
 
         ensures says { IfOk result (λ response. OnLog D.model self.now disk.old (λ log. RespondsAt log (asks.Child client parent) response)) }
+        ensures remembered { IfOk result (IsRememberedChild D.model self.now disk.old (asks.Child client parent)) }
         ensures kind { IfOk result (Replies kinds.Child) }
         ensures untouched { Untouched D.model disk.old disk.new }
         ensures refused { IfErr result (AnswerRefused D.model self.now self.now disk.old disk.new) }
@@ -167,6 +171,7 @@ impl Server {
         requires length { D.model.len disk.old ≡ server_end self.now }
 
         ensures segment { IfOk result (λ segment. OnLog D.model self.now disk.old (λ log. IsSegmentOf log n segment)) }
+        ensures there { IfOk result (λ segment. Tells D.model disk.old → IsSegmentIn self.now (D.model.seen disk.old) n segment) }
         ensures untouched { Untouched D.model disk.old disk.new }
         ensures refused { IfErr result (AnswerRefused D.model self.now self.now disk.old disk.new) }
     {

@@ -1,5 +1,6 @@
 -- The versions that the server of a link accepted, and what a request makes of them.
-use Rattle.std.specs.Prelude.{◌≡◌, ◌⊎◌, ℕ, ◌+◌, ◌%◌, ◌^◌, ◌&&◌, Bool, true, false, if◌then◌else◌, List, [], ◌∷◌, ◌++◌, Option, Some, None, map, take, Ok, Err}
+use Rattle.std.specs.Prelude.{◌≡◌, ◌⊎◌, ℕ, ◌+◌, ◌%◌, ◌^◌, ◌&&◌, Bool, true, false, if◌then◌else◌, List, [], ◌∷◌, ◌++◌, Option, Some, None, map, take}
+use Rattle.std.specs.Prelude.{Result, Ok, Err}
 use Rattle.tw_protocol.specs.Chain.{Version, same_id, latest}
 use Rattle.tw_http.specs.declared.message.Request.{Request}
 use Rattle.tw_http.specs.declared.message.Request.TheVariants.{Add, Child}
@@ -77,6 +78,7 @@ listed (Some v) = v ∷ []
 pub record Acts (old new : Holding) (request : List ℕ) : Type 0 where
   pub asked : (asked : Request) → IsRequestAnswer request (Ok asked) → new ≡ after_request old asked true
   pub none : (error : HttpError) → IsRequestAnswer request (Err error) → new ≡ old
+  pub read : (answer : Result Request HttpError) × IsRequestAnswer request answer
 
 -- this is the text of the reply to them
 pub record IsReply (old : Holding) (request reply : List ℕ) : Type 0 where

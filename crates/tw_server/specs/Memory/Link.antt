@@ -57,6 +57,16 @@ pub record IsNewLink (client : List ℕ) (ids : IdWords) (script : List LinkStep
   pub none_begun : link.exchanges ≡ 0
   pub no_faults : link.faults ≡ 0
 
+-- nobody else adds to its client's chain, or has: no script says so, and its exchanges added each version
+pub record IsAlone (link : MemoryLink) : Type 0 where
+  pub script : length (link_script link) ≡ 0
+  pub own : link_own link ≡ link_chain link
+
+-- an exchange leaves the script, and nobody else adds if the script is empty
+pub record KeepsScript (old new : MemoryLink) : Type 0 where
+  pub same : link_script new ≡ link_script old
+  pub alone : IsAlone old → IsAlone new
+
 -- what the server holds when the request arrives
 abbrev pub before_request : MemoryLink → Holding
 before_request l = after_others l.client (holding_of l.server) (others_at (link_script l) l.exchanges)

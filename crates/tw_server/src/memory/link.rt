@@ -100,7 +100,7 @@ impl MemoryLink {
 }
 
 impl Link for MemoryLink {
-    ghost use Rattle.tw_server.specs.Memory.Link.{memory_link_model, memory_tells_chain, memory_own_stand, link_script, IsScripted};
+    ghost use Rattle.tw_server.specs.Memory.Link.{memory_link_model, memory_tells_chain, memory_own_stand, KeepsScript, IsScripted};
 
     ghost model = { memory_link_model };
 
@@ -116,7 +116,7 @@ impl Link for MemoryLink {
         ensures failed { IsErrOf result LinkError.Failed → Rose (memory_link_model.faults self.old) (memory_link_model.faults self.new) }
 
         ensures scripted { IsScripted self.old self.new request.now reply.new.items result }
-        ensures script { link_script self.new ≡ link_script self.old }
+        ensures script { KeepsScript self.old self.new }
         ensures well { OnOk result (memory_link_model.faults self.new ≡ memory_link_model.faults self.old) }
     {
         let number = self.exchanges as usize;

@@ -15,7 +15,7 @@ returns-in-Err-clause-growth g c log on =
 
 pub returns-in-Ok-clause-cut_off : goal.returns-in-Ok-clause-cut_off
 returns-in-Ok-clause-cut_off g c =
-    if_cut_off c.send.result _ _ (λ wrote tells. record { response = c.in-Ok.response; written = wrote tells; acts = (c.in-Ok.ensures.kind, λ log on. c.in-Ok.ensures.answered log on) })
+    if_cut_off c.send.result _ _ (λ wrote tells. record { response = c.in-Ok.response; written = wrote tells; acts = (c.in-Ok.ensures.kind, (λ log on. c.in-Ok.ensures.answered log on), c.in-Ok.ensures.remembered) })
     (sent_cut_off g.P.Peer.model c.args.peer.now c.send.new.peer c.in-Ok.response c.send.result c.send.ensures.sent)
 
 pub returns-in-Err-clause-cut_off : goal.returns-in-Err-clause-cut_off

@@ -8,6 +8,7 @@ use Rattle.tw_server.specs.Server.{magic, drawn_id}
 use Rattle.tw_server.proofs.Disks.{first_moment, no_growth, growth_is}
 use Rattle.tw_server.proofs.Refusals.{append_closes, is_err}
 use Rattle.tw_server.proofs.Adds.{drawn_is, drawn_uuid, drawn_real, not_other, id_is_there, taken_answer, added_answer, added_as, added_moments}
+use Rattle.tw_server.proofs.Remembered.{is_other, conflict_known, taken_known, added_known}
 use Rattle.tw_server.proofs.server.Server.add.Goals as goal
 
 pub returns-then-has_id-clause-answered : goal.returns-then-has_id-clause-answered
@@ -87,3 +88,29 @@ pub returns-in_err-append-clause-closes : goal.returns-in_err-append-clause-clos
 returns-in_err-append-clause-closes g c closed =
     is_err c.from_residual-in_err-append.result _ c.from_residual-in_err-append.ensures.1
     ∙ ap (λ e. Err e) (append_closes g.D.Disk.model c.make_room.new.self.journal c.append.new.self c.args.disk.now c.append.new.disk _ c.in_err-append.field-0.0 c.in_err-append.ensures.refused (c.make_room.ensures.same.closed ∙ c.requires.open) closed)
+
+pub returns-then-ne-clause-remembered : goal.returns-then-ne-clause-remembered
+returns-then-ne-clause-remembered g c = record {
+  answer = λ log known sound. conflict_known c.args.client c.args.parent c.args.segment.now c.args.self.now log c.args.ids.now c.latest-latest.result known (c.latest-latest.ensures log known) (is_other _ c.if-ne.ensures);
+  segment = tt;
+}
+
+pub returns-then-has_id-clause-remembered : goal.returns-then-has_id-clause-remembered
+returns-then-has_id-clause-remembered g c = record {
+  answer = λ log known sound.
+      let id_is = c.from_bytes-id.ensures ∙ c.next.ensures.id ∙ sym (drawn_is c.args.ids.now.start) in
+      taken_known c.args.client c.args.parent c.args.segment.now c.args.self.now log c.args.ids.now c.next.new.self c.latest-latest.result known (c.latest-latest.ensures log known) (not_other _ c.if-ne.ensures)
+      (id_is_there c.args.client c.from_bytes-id.result c.args.ids.now.start log c.args.self.now.versions.entries.items true known id_is c.if-has_id.ensures) c.next.ensures.start c.next.ensures.step;
+  segment = tt;
+}
+
+pub returns-clause-remembered : goal.returns-clause-remembered
+returns-clause-remembered g c = record {
+  answer = λ log known sound.
+      let start = c.args.ids.now.start in
+      let id_is = c.from_bytes-id.ensures ∙ c.next.ensures.id ∙ sym (drawn_is start) in
+      let entries = c.push.ensures ∙ ap (λ es. es ++ entry_of (accepted_for c.args.client (version c.from_bytes-id.result c.args.parent c.args.segment.now)) ∷ []) (c.make_room.ensures.versions ∙ known) ∙ ap (λ x. map entry_of log ++ entry_of (accepted_for c.args.client (version x c.args.parent c.args.segment.now)) ∷ []) id_is in
+      added_known c.args.client c.args.parent c.args.segment.now _ log c.args.ids.now c.next.new.self c.from_bytes-id.result c.latest-latest.result id_is (c.latest-latest.ensures log known) (not_other _ c.if-ne.ensures)
+      (id_is_there c.args.client c.from_bytes-id.result start log c.args.self.now.versions.entries.items false known id_is c.if-has_id.ensures) c.next.ensures.start c.next.ensures.step entries;
+  segment = tt;
+}
