@@ -1,2 +1,3 @@
 mod Machines
 mod Exports
+mod Links

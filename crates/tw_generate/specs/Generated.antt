@@ -73,7 +73,8 @@ pub record Moments : Type 0 where
   pub second_moved_is : IsSecond 1700200000 second_moved
 
 -- The first replica makes the tasks, and both sync. Then each moves some of them to a project of its own, the second one later; and the second, the first and
--- the second sync again. The text tells of the first segment, of the first replica's last sync, and whether both export the same.
+-- the second sync again. Nobody else adds to the server's chain. The text tells of the first segment, of the first replica's last sync,
+-- and whether both export the same.
 pub record IsGenerated (count seed : ℕ) (weights : Coefficients) (text : List ℕ) : Type 0 where
   pub at : Moments
   pub filled : World
@@ -93,4 +94,5 @@ pub record IsGenerated (count seed : ℕ) (weights : Coefficients) (text : List 
   pub second_sends : (r : SyncReport) × SecondSyncs r both_moved second_sent
   pub first_sends : FirstSyncs report second_sent first_sent
   pub ends : (r : SyncReport) × SecondSyncs r first_sent ended
+  pub alone : ended.server.own ≡ ended.server.chain
   pub tells : text ≡ summary count (length (segment_text (plain filled.first.pending))) report (exports_equal ended weights)

@@ -3,3 +3,4 @@ pub mod Changes
 pub mod Summary
 pub mod Generated
 pub mod Machines
+pub mod Links

@@ -4,6 +4,7 @@
 #![tactic(auto)]
 
 mod changes;
+mod link;
 mod machine;
 mod moments;
 mod network;

@@ -1,11 +1,11 @@
 // A replica over a disk in memory.
 
+use crate::link::LoneLink;
 use std::alloc::Global;
 use tw_export::export_text;
 use tw_model::Change;
 use tw_replica::Replica;
 use tw_segment::write_segment;
-use tw_server::MemoryLink;
 use tw_sync::{SyncReport, sync, sync_ops};
 use tw_urgency::Coefficients;
 use tw_world::{Memory, MemoryDisk, Moment};
@@ -39,12 +39,12 @@ impl Machine {
     ghost use Rattle.tw_segment.specs.Segment.{segment_text};
     ghost use Rattle.tw_replica.specs.State.{start};
     ghost use Rattle.tw_replica.specs.Replica.{held_state};
-    ghost use Rattle.tw_server.specs.Memory.Link.{memory_link_model};
     ghost use Rattle.tw_sync.specs.Answers.{IsLinkKept};
     ghost use Rattle.tw_sync.specs.End.{SyncEnd};
     ghost use Rattle.tw_sync.specs.Sync.{server_chain};
     ghost use Rattle.tw_urgency.specs.Urgency.{AreWeights};
     ghost use Rattle.tw_generate.specs.Generated.{HasChanged, exported};
+    ghost use Rattle.tw_generate.specs.Links.{lone_link_model};
     ghost use Rattle.tw_generate.specs.Machines.{IsOpen};
 
     /// An empty replica.
@@ -81,16 +81,12 @@ impl Machine {
     }
 
     /// Syncs with the server at the other end of a link.
-    pub(crate) fn sync(
-        &mut self,
-        alloc: Global,
-        link: &mut MemoryLink,
-    ) -> Result<SyncReport, Memory>
+    pub(crate) fn sync(&mut self, alloc: Global, link: &mut LoneLink) -> Result<SyncReport, Memory>
         requires { IsOpen self.old }
-        ensures ended { IfOk result (λ report. IsHonest memory_link_model link.old CLIENT → SyncEnd (held_state self.old.replica) (held_state self.new.replica)
-            (server_chain memory_link_model link.old) (server_chain memory_link_model link.new) report) }
+        ensures ended { IfOk result (λ report. IsHonest lone_link_model link.old CLIENT → SyncEnd (held_state self.old.replica) (held_state self.new.replica)
+            (server_chain lone_link_model link.old) (server_chain lone_link_model link.new) report) }
         ensures open { OnOk result (IsOpen self.new) }
-        ensures kept { IsLinkKept memory_link_model link.old link.new }
+        ensures kept { IsLinkKept lone_link_model link.old link.new }
     {
         let client = Uuid::from_bytes(CLIENT);
         match sync(alloc, &mut self.replica, &mut self.disk, link, client, HOST) {

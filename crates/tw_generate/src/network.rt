@@ -1,10 +1,10 @@
 // Two replicas and a link to their server.
 
+use crate::link::LoneLink;
 use crate::machine::{CLIENT, Machine};
 use crate::tasks::TWO_TO_64;
 use std::alloc::Global;
 use tw_model::Change;
-use tw_server::MemoryLink;
 use tw_sync::SyncReport;
 use tw_world::{IdWords, Memory, Moment};
 use uuid::Uuid;
@@ -14,7 +14,7 @@ use uuid::Uuid;
 pub(crate) struct Network {
     pub(crate) first: Machine,
     pub(crate) second: Machine,
-    pub(crate) link: MemoryLink,
+    pub(crate) link: LoneLink,
 }
 
 // It is written out, so that a caller does not prove again how each part is dropped.
@@ -31,12 +31,13 @@ impl Drop for Network {
 impl Network {
     ghost use Rattle.std.specs.Prelude.{◌≡◌, IfOk, OnOk};
     ghost use Rattle.tw_generate.specs.Generated.{empty_world, FirstChanges, SecondChanges, FirstSyncs, SecondSyncs};
-    ghost use Rattle.tw_generate.specs.Machines.{IsConnected, world_of};
+    ghost use Rattle.tw_generate.specs.Machines.{IsConnected, DrawsAfter, world_of};
 
     /// Empty replicas and a server without versions. The server draws its identifiers after those of so many tasks.
     pub(crate) fn new(alloc: Global, seed: u64, count: u64) -> Result<Network, Memory>
         ensures empty { IfOk result (λ network. world_of network ≡ empty_world) }
         ensures connected { IfOk result IsConnected }
+        ensures server { IfOk result (λ network. DrawsAfter seed count network.link) }
     {
         let ids = IdWords {
             start: seed as u128 * TWO_TO_64 + count as u128,
@@ -46,7 +47,7 @@ impl Network {
         Ok(Network {
             first: Machine::new(alloc)?,
             second: Machine::new(alloc)?,
-            link: MemoryLink::new(alloc, client, ids, Vec::new(alloc))?,
+            link: LoneLink::new(alloc, client, ids)?,
         })
     }
 

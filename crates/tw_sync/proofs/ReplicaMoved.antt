@@ -1,5 +1,5 @@
 -- A replica is moved to the cursor where a sync ended.
-use Rattle.std.proofs.Common.{◌≡◌, ◌⊎◌, ℕ, ◌+◌, inl, inr, Bool, true, false, cond, length, List, [], ◌∷◌, ◌++◌, Option, Some, None, refl, sym, ap, subst, ◌∙◌, arith, length-append}
+use Rattle.std.proofs.Common.{◌≡◌, ◌⊎◌, ℕ, ◌+◌, ◌≤◌, ◌^◌, inl, inr, Bool, true, false, cond, length, List, [], ◌∷◌, ◌++◌, Option, Some, None, refl, sym, ap, subst, ◌∙◌, arith, length-append}
 use Rattle.std.proofs.lemmas.Bool.{true≢false}
 use Rattle.std.proofs.lemmas.Cmp.{nat_list_eq_equiv}
 use Rattle.tw_world.specs.Disk.{DiskModel, LeavesOnly}
@@ -183,6 +183,7 @@ records_are m links client old new before after first last cursor sent honest me
           moved = λ stays. apart cursor.at old.core.base e (sym base ∙ stays);
           ops = cursor.remote.items;
           read = λ is. subst (λ b. ReadsBetween (links.chain last) old.core.base b cursor.remote.items) (sym base) (read_since links client (state_of old.core) first last cursor sent (met is));
+          within = subst (λ b. record_size b cursor.remote.items ≤ 2 ^ 30) (sym base) there.2;
           on = subst (λ b. IsReplicaOn m new after (bodies ++ record_body b cursor.remote.items ∷ [])) (sym base) (there.1 bodies on);
           leaves = subst (λ s. LeavesOnly m before after (OpensToEither (state_of old.core) (Some s))) (sym there.0) run;
         })

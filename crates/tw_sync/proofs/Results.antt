@@ -17,6 +17,11 @@ pub on_ok : {T E P Q : Type 0} (r : Result T E) → OnOk r P → (P → Q) → O
 on_ok (Ok v) p f = f p
 on_ok (Err x) p f = tt
 
+-- three facts of a result say another
+pub all_on_ok : {T E P Q R S : Type 0} (r : Result T E) → OnOk r P → OnOk r Q → OnOk r R → (P → Q → R → S) → OnOk r S
+all_on_ok (Ok v) p q s f = f p q s
+all_on_ok (Err x) p q s f = tt
+
 pub if_ok : {T E : Type 0} {P Q : T → Type 0} (r : Result T E) → IfOk r P → ((v : T) → P v → Q v) → IfOk r Q
 if_ok (Ok v) p f = f v p
 if_ok (Err x) p f = tt

@@ -1,5 +1,5 @@
 -- The parts of the contract of a sync.
-use Rattle.std.specs.Prelude.{◌≡◌, ◌⊎◌, ℕ, ◌+◌, List, [], ◌∷◌, ◌++◌, length, Option, Some, None, Ok}
+use Rattle.std.specs.Prelude.{◌≡◌, ◌⊎◌, ℕ, ◌+◌, ◌≤◌, ◌^◌, List, [], ◌∷◌, ◌++◌, length, Option, Some, None, Ok}
 use Rattle.tw_world.specs.Disk.{DiskModel, LeavesOnly}
 use Rattle.tw_model.specs.declared.SyncOp.{SyncOp}
 use Rattle.tw_protocol.specs.Chain.{Version}
@@ -33,13 +33,14 @@ pub record WritesNothing {D : Type 0} (m : DiskModel D) (old new : Replica) (bef
   pub base : new.core.base ≡ old.core.base
   pub same : IsSame old new before after
 
--- a sync that moves the base writes one record: the new base, and the operations of all versions since the old one.
+-- a sync that moves the base writes one record: the new base, and the operations of all versions since the old one. It is within its limit.
 -- At any moment the disk opens to the state before or to the new one
 pub record WritesOne {D : Type 0} (m : DiskModel D) (old new : Replica) (before after : D) (honest : Type 0) (chain : List Version)
     (bodies : List (List ℕ)) : Type 0 where
   pub moved : ¬ (new.core.base ≡ old.core.base)
   pub ops : List SyncOp
   pub read : honest → ReadsBetween chain old.core.base new.core.base ops
+  pub within : record_size new.core.base ops ≤ 2 ^ 30
   pub on : IsReplicaOn m new after (bodies ++ record_body new.core.base ops ∷ [])
   pub leaves : LeavesOnly m before after (OpensToEither (state_of old.core) (Some (state_of new.core)))
 

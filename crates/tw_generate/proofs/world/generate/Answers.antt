@@ -43,6 +43,7 @@ returns c =
       second_sends = (c.in_ok-sync_second-2.field-0, c.in_ok-sync_second-2.ensures.synced);
       first_sends = c.in_ok-report.ensures.synced;
       ends = (c.in_ok-sync_second-3.field-0, c.in_ok-sync_second-3.ensures.synced);
+      alone = c.sync_second-3.new.self.link.alone.own;
       tells = told ∙ ap (λ (b : ℕ). summary c.args.count b c.in_ok-report.report c.in_ok-equal.equal) c.in_ok-bytes.ensures
           ∙ ap (λ (e : Bool). summary c.args.count (length (segment_text (plain filled.first.pending))) c.in_ok-report.report e) c.in_ok-equal.ensures;
     })

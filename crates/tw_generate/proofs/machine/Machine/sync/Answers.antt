@@ -1,7 +1,7 @@
 use Rattle.std.proofs.Common.{subst, sym}
 use Rattle.tw_http.specs.Link.{IsHonest}
-use Rattle.tw_server.specs.Memory.Link.{memory_link_model}
+use Rattle.tw_generate.specs.Links.{lone_link_model}
 use Rattle.tw_generate.proofs.machine.Machine.sync.Goals as goal
 
 pub returns-in-Ok-clause-ended : goal.returns-in-Ok-clause-ended
-returns-in-Ok-clause-ended c = λ honest. c.in-Ok.ensures.ended (subst (IsHonest memory_link_model c.args.link.now) (sym c.from_bytes-client.ensures) honest)
+returns-in-Ok-clause-ended c = λ honest. c.in-Ok.ensures.ended (subst (IsHonest lone_link_model c.args.link.now) (sym c.from_bytes-client.ensures) honest)
