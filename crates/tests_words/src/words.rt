@@ -45,7 +45,6 @@ fn name_of(kind: WordKind) -> &'static str {
         WordKind::Extra => "Extra",
         WordKind::NoFilter => "NoFilter",
         WordKind::Id => "Id",
-        WordKind::Unbuilt => "Unbuilt",
     }
 }
 

@@ -130,7 +130,7 @@ module _ {D L : Type 0} (m : DiskModel D) (links : LinkModel L) (d0 d1 : D) (l0 
     unsettled tells_chain kept sources i0 i1 s o0 o1 (Ok (Sync server)) ids cause run tells honest =
         let r : LeavesOneEnd m links server d0 d1 l0 l1 cause = run tells in
         by_cause (λ state. r.next) (end_agrees server here.0 r.next (whole_chain server.client tells_chain kept honest) here.2 (r.end honest here.0 here.1)) cause r.leaves tells
-    unsettled tells_chain kept sources i0 i1 s o0 o1 (Ok (Generate request)) ids cause run tells honest = records_agree run tells
+    unsettled tells_chain kept sources i0 i1 s o0 o1 (Ok (Generate line settings)) ids cause run tells honest = records_agree run tells
     unsettled tells_chain kept sources i0 i1 s o0 o1 (Err error) ids cause run tells honest = records_agree run tells
 
   -- the records that a run has left stand for a state that agrees with the chain
@@ -161,13 +161,13 @@ module _ {D L : Type 0} (m : DiskModel D) (links : LinkModel L) (d0 d1 : D) (l0 
       at_done : (asked : Result Job LineError) → RunGives m sources s links asked ids (went d0 d1 i0 i1 o0 o1 l0 l1) Done → IsHonestFor links asked l0 → OpensAgreeing (links.chain l1) (m.seen d1)
       at_done (Ok (Here request)) run h = carried_out_agrees (with_input request run.0.0) ids run.0.2.0 run.1 tells here
       at_done (Ok (Sync server)) run h = synced_agrees tells_chain kept server run.0 run.1 tells h here
-      at_done (Ok (Generate request)) run h = nothing run.1 run.3
+      at_done (Ok (Generate line settings)) run h = nothing run.1 run.3
       at_done (Err error) run h = nothing run.1 run.4
 
       at_fault : (asked : Result Job LineError) → RunGives m sources s links asked ids (went d0 d1 i0 i1 o0 o1 l0 l1) OutFault → IsHonestFor links asked l0 → OpensAgreeing (links.chain l1) (m.seen d1)
       at_fault (Ok (Here request)) run h = carried_out_agrees (with_input request run.0.0.0) ids run.0.0.2.0 run.1 tells here
       at_fault (Ok (Sync server)) run h = synced_agrees tells_chain kept server run.0.0 run.0.1 tells h here
-      at_fault (Ok (Generate request)) run h = nothing run.1 run.3
+      at_fault (Ok (Generate line settings)) run h = nothing run.1 run.3
       at_fault (Err error) run h = nothing run.1 run.4
 
   pub agreement_stays : {S O : Type 0} (sources : SourceModel S) (i0 i1 : S) (s : SinkModel O) (o0 o1 : O) → ((disk : D) → Tells m disk → m.leaves disk (m.seen disk)) → CountsNow m → ((link : L) → IsChainOf links link) → (asked : Result Job LineError) (old new : IdWords) (cause : Cause)

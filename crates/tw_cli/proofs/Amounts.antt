@@ -16,12 +16,10 @@ use Rattle.tw_words.specs.Commands.{filtering_of, rest_of}
 use Rattle.tw_words.specs.Modifications.{Clock, at_word, first_of, unless}
 use Rattle.tw_words.specs.Settings.{Pair, settings_in}
 use Rattle.tw_words.specs.Faults.{filter_fault, lack_fault, rest_word, or_zero, number_behind, at_rest, if_there, is_amount, no_amount, no_seed, extra_at, numbers_fault, rest_fault, rest_fault_by, fault_of, unless_bad, filter_by, with_rest, judged}
-use Rattle.tw_words.specs.declared.command.Command.{Command}
-use Rattle.tw_words.specs.declared.command.Command.TheVariants as command
-use Rattle.tw_words.specs.declared.command.Rest.{Rest}
+use Rattle.tw_words.specs.declared.command.AnyCommand.{AnyCommand}
+use Rattle.tw_words.specs.declared.command.AnyCommand.TheVariants as command
 use Rattle.tw_words.specs.declared.word_error.WordError.{WordError}
 use Rattle.tw_words.specs.declared.word_error.WordError.TheVariants.{Bad}
-use Rattle.tw_commands.specs.declared.request.Request.{Request}
 use Rattle.tw_cli.specs.Asked.{syncing, job_by, job_judged, job_set, asked_by, HasFew}
 use Rattle.tw_words.specs.declared.settings.server.ServerSettings.{ServerSettings}
 use Rattle.tw_words.specs.Servers.{server_set}
@@ -63,7 +61,7 @@ line_few : (clock : Clock) (line : Parts) → line.command ≡ command.Generate 
 line_few clock line is e =
     let behind : first_of (lack_fault line) (rest_fault clock line) ≡ None = no_second (filter_fault line) (first_of (lack_fault line) (rest_fault clock line)) e in
     let rest : rest_fault_by (rest_of line.command) clock line ≡ None = no_second (lack_fault line) (rest_fault clock line) behind in
-    numbers_few line (subst (λ (c : Command). rest_fault_by (rest_of c) clock line ≡ None) is rest)
+    numbers_few line (subst (λ (c : AnyCommand). rest_fault_by (rest_of c) clock line ≡ None) is rest)
 
 no_fault : (filter found : List Token) (fault : Option BadWord) → unless_bad filter fault ≡ Ok found → fault ≡ None
 no_fault filter found None e = refl
@@ -78,15 +76,15 @@ sync_has_few : (o : Option ServerSettings) → HasFew (syncing o)
 sync_has_few None = tt
 sync_has_few (Some server) = tt
 
-job_has_few : (c : Command) (request : Request) → (c ≡ command.Generate → number_behind request.line 0 ≤ 10000) → HasFew (job_by c request)
-job_has_few command.Sync request few = sync_has_few (server_set request.settings)
-job_has_few command.Generate request few = few refl
-job_has_few _ request few = tt
+job_has_few : (c : AnyCommand) (line : Parts) (filter : List Token) (settings : List Pair) (now : Moment) (zone : Bor Zone) → (c ≡ command.Generate → number_behind line 0 ≤ 10000) → HasFew (job_by c line filter settings now zone)
+job_has_few (command.Tasks over) line filter settings now zone few = tt
+job_has_few command.Sync line filter settings now zone few = sync_has_few (server_set settings)
+job_has_few command.Generate line filter settings now zone few = few refl
 
 read_has_few : (line : Parts) (settings : List Pair) (now : Moment) (zone : Bor Zone) (read : Result (List Token) WordError) → judged line now.seconds zone.now ≡ read → HasFew (job_judged line settings now zone read)
 read_has_few line settings now zone (Err error) is = tt
 read_has_few line settings now zone (Ok filter) is =
-    job_has_few line.command (record { line = line; filter = filter; settings = settings; at = now; zone = zone; input = [] })
+    job_has_few line.command line filter settings now zone
     (λ generates. judged_few line now zone filter (filter_by (filtering_of line.command) line now.seconds zone.now) generates is)
 
 set_has_few : (line : Parts) (now : Moment) (zone : Bor Zone) (set : Result (List Pair) WordError) → HasFew (job_set line now zone set)

@@ -60,8 +60,6 @@ module _ (words : Vec (String Global)) (settings : Vec ℕ) (now : Moment) (zone
         read_on found (subst (IsAsked (job_judged line pairs now zone (judged line now.seconds zone.now))) (is_error found (Words e) is) (handed_on (judged line now.seconds zone.now) e (job_judged line pairs now zone) (λ e. refl) refused))
 
     -- nothing is refused
-    pub line_taken : (filter : List Token) (input : List ℕ) (found : Result Job LineError) → judged line now.seconds zone.now ≡ Ok filter → input ≡ []
-        → IsAsked (job_by line.command (record { line = line; filter = filter; settings = pairs; at = now; zone = zone; input = input })) found → IsAsked (asked_by words settings now zone) found
-    line_taken filter input found good none asked =
-        read_on found (subst (λ read. IsAsked (job_judged line pairs now zone read) found) (sym good)
-        (subst (λ (i : List ℕ). IsAsked (job_by line.command (record { line = line; filter = filter; settings = pairs; at = now; zone = zone; input = i })) found) none asked))
+    pub line_taken : (filter : List Token) (found : Result Job LineError) → judged line now.seconds zone.now ≡ Ok filter
+        → IsAsked (job_by line.command line filter pairs now zone) found → IsAsked (asked_by words settings now zone) found
+    line_taken filter found good asked = read_on found (subst (λ read. IsAsked (job_judged line pairs now zone read) found) (sym good) asked)

@@ -9,7 +9,7 @@ use Rattle.tw_replica.specs.State.{Stands, applied}
 use Rattle.tw_journal.specs.Form.{has_areas}
 use Rattle.tw_replica.specs.Opening.{IsOpenedReplica, opened_bodies}
 use Rattle.tw_replica.specs.Replica.{magic, OpensToEither, IsReplicaOn, held_state, is_replica_closed, OpeningRefused}
-use Rattle.tw_replica.specs.Prepared.{step_bodies, prepared_bodies, prepared_state, HasSize, RecordsOrAll, PreparedRefused}
+use Rattle.tw_replica.specs.Prepared.{step_bodies, prepared_bodies, prepared_state, HasSize, IsWithinLimit, RecordsOrAll, PreparedRefused}
 use Rattle.tw_replica.specs.declared.replica.Replica.{Replica}
 use Rattle.tw_replica.proofs.PreparedWritten.{prepared_on, prepared_leaves}
 use Rattle.tw_words.specs.declared.command.Command.{Command}
@@ -64,18 +64,18 @@ module _ {D S : Type 0} (m : DiskModel D) (sources : SourceModel S) (request : R
   taking_draws ids input.TooLong = inr (refl, inr (inr (inr (inl refl))))
   taking_draws ids input.Memory = inr (refl, inr (inl refl))
 
-  module _ (command : Command) (same : command ≡ request.line.command) where
+  module _ (command : Command) (same : command ≡ request.command) where
     -- an input that is not taken leaves the records
     pub stays_unread : (ids : IdWords) (mid : D) (old : Replica) (e : InputError) → (Tells m d0 → IsOpenedReplica m d0 mid old) → NotTaken sources command i0 i1 e → StaysUnread m sources request ids d0 mid i0 i1 e
     stays_unread ids mid old e opened why = record { why = subst (λ k. NotTaken sources k i0 i1 e) same why; state = held_state old; stays = stays_open m d0 mid old opened }
 
     -- where the command can be carried out, want of memory alone keeps it from its input
     pub unread_wants : (ids : IdWords) (d1 : D) (e : InputError) → NotTaken sources command i0 i1 e → CanCarryOut m sources request ids d0 d1 i0 i1 → input_cause e ≡ causes.Memory
-    unread_wants ids d1 e why can = taking_wants sources i0 i1 request.line.command e can.bytes (subst (λ k. NotTaken sources k i0 i1 e) same why) can.takes
+    unread_wants ids d1 e why can = taking_wants sources i0 i1 request.command e can.bytes (subst (λ k. NotTaken sources k i0 i1 e) same why) can.takes
 
     -- what holds of the request with the input that was taken
     module _ (r : Request) (bytes : List ℕ) (took : Took sources command i0 i1 bytes) (is : r ≡ with_input request bytes) where
-      there : Took sources request.line.command i0 i1 bytes
+      there : Took sources request.command i0 i1 bytes
       there = subst (λ k. Took sources k i0 i1 bytes) same took
 
       pub taken_with : (P : Request → Type 0) → P r → WithInput sources request i0 i1 P
@@ -85,7 +85,7 @@ module _ {D S : Type 0} (m : DiskModel D) (sources : SourceModel S) (request : R
       pub can_with : (ids : IdWords) (d1 : D) → CanCarryOut m sources request ids d0 d1 i0 i1 → CanBeCarriedOut m r ids d0 d1
       can_with ids d1 can =
           subst (λ q. CanBeCarriedOut m q ids d0 d1) (sym is)
-          (subst (λ b. CanBeCarriedOut m (with_input request b) ids d0 d1) (sym (took_same sources i0 i1 request.line.command bytes can.bytes there can.takes)) can.can)
+          (subst (λ b. CanBeCarriedOut m (with_input request b) ids d0 d1) (sym (took_same sources i0 i1 request.command bytes can.bytes there can.takes)) can.can)
 
 module _ {D : Type 0} (m : DiskModel D) (request : Request) (ids : IdWords) where
   -- an opening that is refused where the command can be carried out wants memory
@@ -124,9 +124,9 @@ module _ {D : Type 0} (m : DiskModel D) (request : Request) (ids : IdWords) wher
       comes = is.is
 
       pub shows_text : (new : Replica) → held_state new ≡ prepared_state ready.prepared
-          → ((bodies : List (List ℕ)) → IsOpenOn m magic ready.prepared.journal mid bodies → IsOpenOn m magic new.journal d1 (bodies ++ prepared_bodies ready.prepared)) → (run : CarriedOut m request ids d0 d1) × (ready.text.items ≡ run.carried.text)
+          → ((bodies : List (List ℕ)) → IsOpenOn m magic ready.prepared.journal mid bodies → IsOpenOn m magic new.journal d1 (bodies ++ prepared_bodies ready.prepared)) → IsWithinLimit (prepared_bodies ready.prepared) → (run : CarriedOut m request ids d0 d1) × (ready.text.items ≡ run.carried.text)
       unfolding come
-      shows_text new state opens = (record { old = held_state old; carried = come; is = comes; disk = λ tells. by (opened tells) }, refl)
+      shows_text new state opens within = (record { old = held_state old; carried = come; is = comes; within = subst IsWithinLimit is.prepared.bodies within; disk = λ tells. by (opened tells) }, refl)
         where
           by : IsOpenedReplica m d0 mid old → HasMore (m.seen d0) (m.seen d1) (step_bodies is.step) (held_state old) (prepared_state ready.prepared) × IsStable m d1
           by o =

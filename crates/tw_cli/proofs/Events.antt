@@ -244,7 +244,7 @@ module _ {D S O L : Type 0} (m : DiskModel D) (sources : SourceModel S) (s : Sin
       let whole : IsServedChain (links.chain l1) = tells_chain l1 (record { honest = subst IsTrue (sym run.link_kept.honest) honest.honest; tells = subst IsTrue (sym run.link_kept.tells_chain) honest.tells }) in
       let at : RunsOn m d0 d1 (OpensReplica (Ok (Sync server))) cause (links.chain l0) (links.chain l1) states = sync_runs (run.grows honest) (λ served. whole) server honest run.gives run.any_moment in
       subst (λ c. RunsOn m d0 d1 (OpensReplica (Ok (Sync server))) cause c now states) (sym same.0) (subst (λ c. RunsOn m d0 d1 (OpensReplica (Ok (Sync server))) cause (links.chain l0) c states) (sym same.1) at)
-  runs_on only_now tells_chain (Ok (Generate request)) old new run honest chain now same =
-      subst (λ c. RunsOn m d0 d1 (OpensReplica (Ok (Generate request))) cause chain c states) (sym same) (nothing_runs only_now (Ok (Generate request)) (λ none. none) chain run.gives.1)
+  runs_on only_now tells_chain (Ok (Generate line settings)) old new run honest chain now same =
+      subst (λ c. RunsOn m d0 d1 (OpensReplica (Ok (Generate line settings))) cause chain c states) (sym same) (nothing_runs only_now (Ok (Generate line settings)) (λ none. none) chain run.gives.1)
   runs_on only_now tells_chain (Err error) old new run honest chain now same =
       subst (λ c. RunsOn m d0 d1 (OpensReplica (Err error)) cause chain c states) (sym same) (nothing_runs only_now (Err error) (λ none. none) chain run.gives.1)

@@ -1,5 +1,5 @@
 -- All that is known of a run, by what it asks for.
-use Rattle.std.proofs.Common.{◌≡◌, ◌∙◌, ap, ◌⊎◌, inl, inr, refl, sym, subst, None, Result, Ok, Err, arith}
+use Rattle.std.proofs.Common.{◌≡◌, ◌∙◌, ap, ◌⊎◌, inl, inr, refl, sym, subst, List, None, Result, Ok, Err, arith}
 use Rattle.tw_world.specs.Disk.{DiskModel, FaultsRise, Rose}
 use Rattle.tw_world.specs.Sink.{SinkModel}
 use Rattle.tw_world.specs.Source.{SourceModel}
@@ -11,6 +11,8 @@ use Rattle.tw_sync.proofs.Served.{grows_same}
 use Rattle.tw_sync.specs.declared.error.ReplyKind.TheVariants.{Status}
 use Rattle.tw_sync.specs.Answers.{IsLinkKept}
 use Rattle.tw_http.specs.Link.{IsHonest}
+use Rattle.tw_words.specs.Lines.{Parts}
+use Rattle.tw_words.specs.Settings.{Pair}
 use Rattle.tw_words.specs.declared.word_error.WordError.TheVariants as wrong
 use Rattle.tw_commands.specs.declared.request.Request.{Request}
 use Rattle.tw_cli.specs.Input.{IsInputKept}
@@ -63,11 +65,11 @@ module _ {D S O L : Type 0} (m : DiskModel D) (sources : SourceModel S) (s : Sin
   pub want_is_run : OnlyNow m → (asked : Result Job LineError) (ids : IdWords) (d : D) (i : S) (o : O) (l : L) → IsRun m sources s links asked ids ids (went d d i i o o l l) Memory
   want_is_run only_now (Ok (Here request)) ids d i o l =
       unchanged_is_run (Ok (Here request)) ids d i o o l Memory ((carry.Open opening.Memory, refl, ((λ tells. opens_as_before (m.seen d) (m.seen d) (inl refl)), refl), refl), refl) (λ can. inr refl)
-      (inl (leaves_as_it_was m only_now d)) (inr (refl, inr (inl refl))) (input_same sources request.line.command i)
+      (inl (leaves_as_it_was m only_now d)) (inr (refl, inr (inl refl))) (input_same sources request.command i)
   want_is_run only_now (Ok (Sync server)) ids d i o l =
       unchanged_is_run (Ok (Sync server)) ids d i o o l Memory (failure.Open opening.Memory, refl, ((λ tells. opens_as_before (m.seen d) (m.seen d) (inl refl)), refl), refl) (λ can well. inl (inr refl))
-      (λ tells. record { next = None; end = λ honest state opens. tt; leaves = leaves_as_it_was m only_now d }) refl refl
-  want_is_run only_now (Ok (Generate request)) ids d i o l = unchanged_is_run (Ok (Generate request)) ids d i o o l Memory ((refl, refl), refl, refl, refl) (λ well. inr refl) (leaves_as_it_was m only_now d) refl refl
+      (λ tells. record { next = None; made = λ state opens. tt; end = λ honest state opens. tt; leaves = leaves_as_it_was m only_now d }) refl refl
+  want_is_run only_now (Ok (Generate line settings)) ids d i o l = unchanged_is_run (Ok (Generate line settings)) ids d i o o l Memory ((refl, refl), refl, refl, refl) (λ well. inr refl) (leaves_as_it_was m only_now d) refl refl
   want_is_run only_now (Err error) ids d i o l = unchanged_is_run (Err error) ids d i o o l Memory (inr refl, refl, refl, refl, refl) tt (leaves_as_it_was m only_now d) refl refl
 
   -- nothing is done
@@ -82,7 +84,7 @@ module _ {D S O L : Type 0} (m : DiskModel D) (sources : SourceModel S) (s : Sin
   -- a command is asked for
   pub command_is_run : (asked : Result Job LineError) (request : Request) (old new : IdWords) (d0 d1 : D) (i0 i1 : S) (o0 o1 : O) (l : L) (cause : Cause) → asked ≡ Ok (Here request)
       → Gives m sources request old d0 d1 i0 i1 s o0 o1 cause → (CanEnd m sources request old d0 d1 i0 i1 s o0 o1 → IsDoneOrWant cause) → LeavesCommand m sources request old d0 d1 i0 i1 cause
-      → Draws m sources request d0 i0 i1 old new cause → FaultsRise m d0 d1 → IsInputKept sources request.line.command i0 i1
+      → Draws m sources request d0 i0 i1 old new cause → FaultsRise m d0 d1 → IsInputKept sources request.command i0 i1
       → IsRun m sources s links asked old new (went d0 d1 i0 i1 o0 o1 l l) cause
   command_is_run asked request old new d0 d1 i0 i1 o0 o1 l cause here gives complete leaves draws kept input_kept = subst (λ (a : Result Job LineError). IsRun m sources s links a old new (went d0 d1 i0 i1 o0 o1 l l) cause) (sym here) (record {
     gives = (gives, refl);
@@ -112,8 +114,8 @@ module _ {D S O L : Type 0} (m : DiskModel D) (sources : SourceModel S) (s : Sin
   })
 
   -- a large world is asked for
-  pub generate_is_run : OnlyNow m → (asked : Result Job LineError) (request : Request) (ids : IdWords) (d : D) (i : S) (o0 o1 : O) (l : L) (cause : Cause) → asked ≡ Ok (Generate request)
-      → GenerateGives s request o0 o1 cause → ((Rose (s.faults o0) (s.faults o1) → ⊥) → IsDoneOrWant cause)
+  pub generate_is_run : OnlyNow m → (asked : Result Job LineError) (line : Parts) (settings : List Pair) (ids : IdWords) (d : D) (i : S) (o0 o1 : O) (l : L) (cause : Cause) → asked ≡ Ok (Generate line settings)
+      → GenerateGives s line settings o0 o1 cause → ((Rose (s.faults o0) (s.faults o1) → ⊥) → IsDoneOrWant cause)
       → IsRun m sources s links asked ids ids (went d d i i o0 o1 l l) cause
-  generate_is_run only_now asked request ids d i o0 o1 l cause there gives complete = subst (λ (a : Result Job LineError). IsRun m sources s links a ids ids (went d d i i o0 o1 l l) cause) (sym there)
-      (unchanged_is_run (Ok (Generate request)) ids d i o0 o1 l cause (gives, refl, refl, refl) complete (leaves_as_it_was m only_now d) refl refl)
+  generate_is_run only_now asked line settings ids d i o0 o1 l cause there gives complete = subst (λ (a : Result Job LineError). IsRun m sources s links a ids ids (went d d i i o0 o1 l l) cause) (sym there)
+      (unchanged_is_run (Ok (Generate line settings)) ids d i o0 o1 l cause (gives, refl, refl, refl) complete (leaves_as_it_was m only_now d) refl refl)

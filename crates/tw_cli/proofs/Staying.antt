@@ -89,5 +89,5 @@ module _ {D : Type 0} (m : DiskModel D) (d0 d1 : D) where
     state_stays (Ok (Sync server)) ids cause gives = λ failed spared tells.
         let why : SyncGivesBy m s links server d0 d1 o0 o1 l0 l1 cause Failed = subst (SyncGivesBy m s links server d0 d1 o0 o1 l0 l1 cause) failed gives in
         syncing_stays server why.0 (λ e. spared (why.1 ∙ e)) why.2 tells
-    state_stays (Ok (Generate request)) ids cause gives = λ failed spared tells. untouched_stays gives.1
+    state_stays (Ok (Generate line settings)) ids cause gives = λ failed spared tells. untouched_stays gives.1
     state_stays (Err error) ids cause gives = λ failed spared tells. untouched_stays gives.1

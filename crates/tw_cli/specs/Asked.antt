@@ -11,11 +11,10 @@ use Rattle.tw_words.specs.Settings.{Pair, settings_in}
 use Rattle.tw_words.specs.Servers.{server_set}
 use Rattle.tw_words.specs.Faults.{judged, number_behind}
 use Rattle.tw_words.specs.declared.settings.server.ServerSettings.{ServerSettings}
-use Rattle.tw_words.specs.declared.command.Command.{Command}
-use Rattle.tw_words.specs.declared.command.Command.TheVariants as command
+use Rattle.tw_words.specs.declared.command.AnyCommand.{AnyCommand}
+use Rattle.tw_words.specs.declared.command.AnyCommand.TheVariants as command
 use Rattle.tw_words.specs.declared.word_error.WordError.{WordError}
 use Rattle.tw_words.specs.declared.word_error.WordError.TheVariants as wrong
-use Rattle.tw_commands.specs.declared.request.Request.{Request}
 use Rattle.tw_cli.specs.declared.asked.Job.{Job}
 use Rattle.tw_cli.specs.declared.asked.Job.TheVariants.{Here, Sync, Generate}
 use Rattle.tw_cli.specs.declared.asked.LineError.{LineError}
@@ -26,18 +25,18 @@ abbrev pub syncing : Option ServerSettings → Result Job LineError
 syncing None = Err NoServer
 syncing (Some server) = Ok (Sync server)
 
--- what a request asks for, by its command: `sync` is with the server that its settings name, `_generate` is in memory,
--- and every other command is over the store
-abbrev pub job_by : Command → Request → Result Job LineError
-job_by command.Sync request = syncing (server_set request.settings)
-job_by command.Generate request = Ok (Generate request)
-job_by _ request = Ok (Here request)
+-- what a line asks for, by its command: one over tasks is over the store, `sync` is with the server that the settings name, and `_generate` is in memory.
+-- No input is read yet
+abbrev pub job_by : AnyCommand → Parts → List Token → List Pair → Moment → Bor Zone → Result Job LineError
+job_by (command.Tasks over) line filter settings now zone =
+    Ok (Here (record { command = over; line = line; filter = filter; settings = settings; at = now; zone = zone; input = [] }))
+job_by command.Sync line filter settings now zone = syncing (server_set settings)
+job_by command.Generate line filter settings now zone = Ok (Generate line settings)
 
--- what a line asks for, once its words are judged. No input is read yet
+-- what a line asks for, once its words are judged
 abbrev pub job_judged : Parts → List Pair → Moment → Bor Zone → Result (List Token) WordError → Result Job LineError
 job_judged line settings now zone (Err error) = Err (Words error)
-job_judged line settings now zone (Ok filter) =
-    job_by line.command (record { line = line; filter = filter; settings = settings; at = now; zone = zone; input = [] })
+job_judged line settings now zone (Ok filter) = job_by line.command line filter settings now zone
 
 -- what a line asks for, once its settings are read
 abbrev pub job_set : Parts → Moment → Bor Zone → Result (List Pair) WordError → Result Job LineError
@@ -60,19 +59,19 @@ IsAsked asked found = (found ≡ asked) ⊎ (found ≡ Err (Words wrong.Memory))
 abbrev pub HasHost : Result Job LineError → Type 0
 HasHost (Ok (Here request)) = Unit {0}
 HasHost (Ok (Sync server)) = IsHost server.host
-HasHost (Ok (Generate request)) = Unit {0}
+HasHost (Ok (Generate line settings)) = Unit {0}
 HasHost (Err error) = Unit {0}
 
 -- a world has at most 10,000 tasks
 abbrev pub HasFew : Result Job LineError → Type 0
 HasFew (Ok (Here request)) = Unit {0}
 HasFew (Ok (Sync server)) = Unit {0}
-HasFew (Ok (Generate request)) = number_behind request.line 0 ≤ 10000
+HasFew (Ok (Generate line settings)) = number_behind line 0 ≤ 10000
 HasFew (Err error) = Unit {0}
 
 -- whether the store is needed
 abbrev pub needs_store : Result Job LineError → Bool
 needs_store (Ok (Here request)) = true
 needs_store (Ok (Sync server)) = true
-needs_store (Ok (Generate request)) = false
+needs_store (Ok (Generate line settings)) = false
 needs_store (Err error) = false

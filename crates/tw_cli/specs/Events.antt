@@ -25,14 +25,14 @@ StandsFor m disk states = (file : List ℕ) → m.leaves disk file → OpensAmon
 abbrev pub IsChainFor : {L : Type 0} → LinkModel L → Result Job LineError → (l0 l1 : L) → (chain now : List Version) → Type 0
 IsChainFor links (Ok (Here request)) l0 l1 chain now = now ≡ chain
 IsChainFor links (Ok (Sync server)) l0 l1 chain now = (chain ≡ links.chain l0) × (now ≡ links.chain l1)
-IsChainFor links (Ok (Generate request)) l0 l1 chain now = now ≡ chain
+IsChainFor links (Ok (Generate line settings)) l0 l1 chain now = now ≡ chain
 IsChainFor links (Err error) l0 l1 chain now = now ≡ chain
 
 -- what is asked for opens the replica
 abbrev pub OpensReplica : Result Job LineError → Type 0
 OpensReplica (Ok (Here request)) = Unit {0}
 OpensReplica (Ok (Sync server)) = Unit {0}
-OpensReplica (Ok (Generate request)) = ⊥
+OpensReplica (Ok (Generate line settings)) = ⊥
 OpensReplica (Err error) = ⊥
 
 -- A run, which may open the replica, is an event of the world, which leaves these states. So is one that a crash cuts off at any moment, which leaves

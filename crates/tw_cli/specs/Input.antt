@@ -68,4 +68,4 @@ IsInputKept m other i0 i1 = i1 ≡ i0
 
 -- some input was taken, and this holds of the request with it
 abbrev pub WithInput : {S : Type 0} → SourceModel S → Request → (i0 i1 : S) → (Request → Type 0) → Type 0
-WithInput m request i0 i1 P = (bytes : List ℕ) × Took m request.line.command i0 i1 bytes × P (with_input request bytes)
+WithInput m request i0 i1 P = (bytes : List ℕ) × Took m request.command i0 i1 bytes × P (with_input request bytes)

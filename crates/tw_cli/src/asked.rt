@@ -4,8 +4,11 @@ ghost use Rattle.tw_cli.specs.Asked.{job_by, asked_by, needs_store, IsAsked};
 
 use std::alloc::Global;
 use tw_commands::{Input, Request};
+use tw_filter::Filter;
 use tw_time::Zone;
-use tw_words::{Command, ServerSettings, WordError, cut_words, judge_line, read_settings};
+use tw_words::{
+    AnyCommand, Line, ServerSettings, Settings, WordError, cut_words, judge_line, read_settings,
+};
 use tw_world::{Memory, Moment};
 
 /// What is to be done.
@@ -15,8 +18,8 @@ pub(crate) enum Job<'a> {
     Here(Request<'a>),
     /// A sync with a server.
     Sync(ServerSettings),
-    /// A large world in memory, which takes and leaves nothing outside.
-    Generate(Request<'a>),
+    /// A large world in memory, which takes and leaves nothing outside: by the numbers of this line, with the weights of these settings.
+    Generate(Line, Settings),
 }
 
 /// Why nothing is to be done.
@@ -51,17 +54,32 @@ impl From<Memory> for LineError {
     }
 }
 
-// What a request asks for, whose words are good.
-fn job_by<'a>(alloc: Global, request: Request<'a>) -> Result<Job<'a>, LineError>
-    ensures { IsAsked (job_by request.entry.line.command request.entry) result }
+// What a line asks for, whose words are good.
+fn job_by<'a>(
+    alloc: Global,
+    line: Line,
+    filter: Filter,
+    settings: Settings,
+    now: Moment,
+    zone: &'a Zone,
+) -> Result<Job<'a>, LineError>
+    ensures { IsAsked (job_by line.command line filter settings now zone.entry) result }
 {
-    match request.line.command {
-        Command::Sync => match request.settings.server(alloc)? {
+    match line.command {
+        AnyCommand::Tasks(command) => Ok(Job::Here(Request {
+            command,
+            line,
+            filter,
+            settings,
+            at: now,
+            zone,
+            input: Input::none(alloc),
+        })),
+        AnyCommand::Sync => match settings.server(alloc)? {
             Some(server) => Ok(Job::Sync(server)),
             None => Err(LineError::NoServer),
         },
-        Command::Generate => Ok(Job::Generate(request)),
-        _ => Ok(Job::Here(request)),
+        AnyCommand::Generate => Ok(Job::Generate(line, settings)),
     }
 }
 
@@ -79,15 +97,7 @@ pub(crate) fn asked<'a>(
     let line = cut_words(alloc, words)?;
     let settings = read_settings(alloc, settings.as_slice(), &line.overrides)?;
     let filter = judge_line(alloc, &line, now, zone)?;
-    let request = Request {
-        line,
-        filter,
-        settings,
-        at: now,
-        zone,
-        input: Input::none(alloc),
-    };
-    job_by(alloc, request)
+    job_by(alloc, line, filter, settings, now, zone)
 }
 
 /// Whether the words ask for something that needs the store: not if they or the settings are wrong, nor for `_generate`.
@@ -113,6 +123,6 @@ fn is_for_store(job: &Job<'_>) -> bool
 {
     match job {
         Job::Here(_) | Job::Sync(_) => true,
-        Job::Generate(_) => false,
+        Job::Generate(_, _) => false,
     }
 }

@@ -49,7 +49,7 @@ fn carry_out<D: Disk, S: Source>(
         (ended carry_cause result) }
     ensures ids { Draws D.model S.model request.entry disk.old input.old input.new ids.old ids.new (ended carry_cause result) }
     ensures kept { FaultsRise D.model disk.old disk.new }
-    ensures input_kept { IsInputKept S.model request.entry.line.command input.old input.new }
+    ensures input_kept { IsInputKept S.model request.entry.command input.old input.new }
 {
     let replica = match open(alloc, disk) {
         Ok(replica) => replica,
@@ -93,7 +93,7 @@ pub(crate) fn run_command<D: Disk, S: Source, O: Sink>(
     ensures any_moment { LeavesCommand D.model S.model request.entry ids.old disk.old disk.new input.old input.new result }
     ensures ids { Draws D.model S.model request.entry disk.old input.old input.new ids.old ids.new result }
     ensures kept { FaultsRise D.model disk.old disk.new }
-    ensures input_kept { IsInputKept S.model request.entry.line.command input.old input.new }
+    ensures input_kept { IsInputKept S.model request.entry.command input.old input.new }
 {
     match carry_out(alloc, request, ids, disk, input) {
         Ok(text) => print(out, text.as_slice(), Cause::Done, Cause::OutFault),

@@ -95,9 +95,9 @@ pub(crate) fn take_input<S: Source>(
 
 /// The command of a request.
 pub(crate) fn command_of(request: &Request<'_>) -> Command
-    ensures { result ≡ request.now.line.command }
+    ensures { result ≡ request.now.command }
 {
-    request.line.command
+    request.command
 }
 
 /// A request with its input.

@@ -39,7 +39,7 @@ fn run_words<D: Disk, L: Link, S: Source, O: Sink>(
     match asked(alloc, words, settings, now, zone) {
         Ok(Job::Here(request)) => run_command(alloc, request, ids, disk, input, out),
         Ok(Job::Sync(server)) => run_sync(alloc, &server, disk, link, out),
-        Ok(Job::Generate(request)) => run_generate(alloc, &request, out),
+        Ok(Job::Generate(line, settings)) => run_generate(alloc, &line, &settings, out),
         Err(error) => Cause::from(error),
     }
 }

@@ -8,5 +8,7 @@ pub mod DependencyPaths
 pub mod MarkedTasks
 pub mod OtherTasks
 pub mod StampedTasks
+pub mod KeptProperties
+pub mod ExactMoments
 pub mod TakenBack
 pub mod ReachedTasks

@@ -63,18 +63,29 @@ kept effect now tasks t (v ∷ us) u apart =
 
 -- ---- the masks of templates
 
+-- a task, or none, as it was but for its mask
+pub record IsButMask (before after : Option TaskValue) : Type 0 where
+  pub there : is_some after ≡ is_some before
+  pub others : (p : List ℕ) → same_bytes p (codes "mask") ≡ false → value_of p after ≡ value_of p before
+
+as_it_was : (there : Option TaskValue) → IsButMask there there
+as_it_was there = record { there = refl; others = λ p mask. refl }
+
 same_itself : (there : Option TaskValue) → IsSameButMask there there
 same_itself there = record { there = refl; others = λ p mask moved. refl }
 
-marked_same : (mark : Mark) (before : Option TaskValue) (task : TaskValue) → IsSameButMask before (Some task) → IsSameButMask before (Some (with_mark mark task))
+marked_same : (mark : Mark) (before : Option TaskValue) (task : TaskValue) → IsButMask before (Some task) → IsButMask before (Some (with_mark mark task))
 marked_same mark before task is = by (get task (codes "mask"))
   where
-    by : (mask : Option (List ℕ)) → IsSameButMask before (Some (with_mark_in mark task mask))
+    by : (mask : Option (List ℕ)) → IsButMask before (Some (with_mark_in mark task mask))
     by None = is
     by (Some mask) = record {
       there = is.there;
-      others = λ p not_mask not_moved. get-set_at_apart task (codes "mask") (Some (with_sign mark.index mark.sign mask)) p not_mask ∙ is.others p not_mask not_moved;
+      others = λ p not_mask. get-set_at_apart task (codes "mask") (Some (with_sign mark.index mark.sign mask)) p not_mask ∙ is.others p not_mask;
     }
+
+same_but : (before after : Option TaskValue) → IsButMask before after → IsSameButMask before after
+same_but before after is = record { there = is.there; others = λ p mask moved. is.others p mask }
 
 stamped_same : (now : Moment) (before : Option TaskValue) (after : TaskValue) → IsSameButMask before (Some after) → IsSameButMask before (Some (stamped_from now before after))
 stamped_same now None after is = is
@@ -90,30 +101,30 @@ stamped_same now (Some before) after is = by (same_task before after)
 -- each of these is the task of its uuid, but for its mask
 abbrev pub AreMarked : TasksValue → List (List ℕ × TaskValue) → Type 0
 AreMarked tasks [] = Unit {0}
-AreMarked tasks (e ∷ es) = IsSameButMask (get tasks e.0) (Some e.1) × AreMarked tasks es
+AreMarked tasks (e ∷ es) = IsButMask (get tasks e.0) (Some e.1) × AreMarked tasks es
 
-one_put : (tasks : TasksValue) (u : List ℕ) (task : TaskValue) (es : List (List ℕ × TaskValue)) → IsSameButMask (get tasks u) (Some task) → AreMarked tasks es → AreMarked tasks (put bytes_cmp u task es)
+one_put : (tasks : TasksValue) (u : List ℕ) (task : TaskValue) (es : List (List ℕ × TaskValue)) → IsButMask (get tasks u) (Some task) → AreMarked tasks es → AreMarked tasks (put bytes_cmp u task es)
 one_put tasks u task [] is all = (is, tt)
 one_put tasks u task (e ∷ es) is all = by (bytes_cmp u e.0) refl (one_put tasks u task es is all.1)
   where
     by : (o : Ordering) → bytes_cmp u e.0 ≡ o → AreMarked tasks (put bytes_cmp u task es) → AreMarked tasks (by_order o ((u, task) ∷ e ∷ es) ((e.0, task) ∷ es) (e ∷ put bytes_cmp u task es))
     by Less at rest = (is, all)
-    by Equal at rest = (subst (λ (v : List ℕ). IsSameButMask (get tasks v) (Some task)) (bytes_exact u e.0 at) is, all.1)
+    by Equal at rest = (subst (λ (v : List ℕ). IsButMask (get tasks v) (Some task)) (bytes_exact u e.0 at) is, all.1)
     by Greater at rest = (all.0, rest)
 
-one_found : (tasks : TasksValue) (u : List ℕ) (es : List (List ℕ × TaskValue)) (task : TaskValue) → find bytes_cmp u es ≡ Some task → AreMarked tasks es → IsSameButMask (get tasks u) (Some task)
+one_found : (tasks : TasksValue) (u : List ℕ) (es : List (List ℕ × TaskValue)) (task : TaskValue) → find bytes_cmp u es ≡ Some task → AreMarked tasks es → IsButMask (get tasks u) (Some task)
 one_found tasks u [] task found all = absurd cc
 one_found tasks u (e ∷ es) task found all = by (eq_by_cmp bytes_cmp u e.0) refl (λ later. one_found tasks u es task later all.1) found
   where
-    by : (b : Bool) → eq_by_cmp bytes_cmp u e.0 ≡ b → (find bytes_cmp u es ≡ Some task → IsSameButMask (get tasks u) (Some task)) → cond b (Some e.1) (find bytes_cmp u es) ≡ Some task
-        → IsSameButMask (get tasks u) (Some task)
+    by : (b : Bool) → eq_by_cmp bytes_cmp u e.0 ≡ b → (find bytes_cmp u es ≡ Some task → IsButMask (get tasks u) (Some task)) → cond b (Some e.1) (find bytes_cmp u es) ≡ Some task
+        → IsButMask (get tasks u) (Some task)
     by true at later here =
         let same : u ≡ e.0 = same_bytes_exact u e.0 (texts_ties u e.0 ∙ at) in
         let is : e.1 ≡ task = same_Some e.1 task here in
-        subst (λ (x : TaskValue). IsSameButMask (get tasks u) (Some x)) is (subst (λ (v : List ℕ). IsSameButMask (get tasks v) (Some e.1)) (sym same) all.0)
+        subst (λ (x : TaskValue). IsButMask (get tasks u) (Some x)) is (subst (λ (v : List ℕ). IsButMask (get tasks v) (Some e.1)) (sym same) all.0)
     by false at later here = later here
 
-put_more : (tasks marked : TasksValue) (mark : Mark) (task : TaskValue) → AreMarked tasks (entries marked) → IsSameButMask (get tasks mark.parent) (Some task)
+put_more : (tasks marked : TasksValue) (mark : Mark) (task : TaskValue) → AreMarked tasks (entries marked) → IsButMask (get tasks mark.parent) (Some task)
     → AreMarked tasks (entries (insert marked mark.parent (with_mark mark task)))
 put_more tasks marked mark task all is =
     subst (AreMarked tasks) (sym (entries-insert nat_list_cmp_total marked mark.parent (with_mark mark task)))
@@ -124,7 +135,7 @@ one_marked tasks marked mark all = by (get marked mark.parent) refl
   where
     from : (there : Option TaskValue) → get tasks mark.parent ≡ there → AreMarked tasks (entries (put_marked marked mark there))
     from None at = all
-    from (Some task) at = put_more tasks marked mark task all (subst (IsSameButMask (get tasks mark.parent)) at (same_itself (get tasks mark.parent)))
+    from (Some task) at = put_more tasks marked mark task all (subst (IsButMask (get tasks mark.parent)) at (as_it_was (get tasks mark.parent)))
 
     by : (there : Option TaskValue) → get marked mark.parent ≡ there → AreMarked tasks (entries (put_marked marked mark (first_there there (get tasks mark.parent))))
     by None at = from (get tasks mark.parent) refl
@@ -139,13 +150,14 @@ none_marked tasks =
     let nothing : entries {X = TaskValue} {R = bytes_cmp} empty ≡ [] = nil_from_length (entries {X = TaskValue} {R = bytes_cmp} empty) (sym (len-entries {X = TaskValue} {R = bytes_cmp} empty) ∙ len-empty bytes_cmp TaskValue) in
     subst (AreMarked tasks) (sym nothing) tt
 
-mask_made : (now : Moment) (tasks t : TasksValue) (e : List ℕ × TaskValue) (u : List ℕ) → IsSameButMask (get tasks e.0) (Some e.1) → IsSameButMask (get tasks u) (get t u)
+mask_made : (now : Moment) (tasks t : TasksValue) (e : List ℕ × TaskValue) (u : List ℕ) → IsButMask (get tasks e.0) (Some e.1) → IsSameButMask (get tasks u) (get t u)
     → IsSameButMask (get tasks u) (get (changed t (mask_change now tasks e)) u)
 mask_made now tasks t e u is so_far = subst (IsSameButMask (get tasks u)) (sym (get-set_at t e.0 (Some (stamped_from now (get tasks e.0) e.1)) u)) (by (same_bytes u e.0) refl)
   where
     by : (b : Bool) → same_bytes u e.0 ≡ b → IsSameButMask (get tasks u) (cond b (Some (stamped_from now (get tasks e.0) e.1)) (get t u))
     by true same =
-        subst (λ (v : List ℕ). IsSameButMask (get tasks v) (Some (stamped_from now (get tasks e.0) e.1))) (sym (same_bytes_exact u e.0 same)) (stamped_same now (get tasks e.0) e.1 is)
+        subst (λ (v : List ℕ). IsSameButMask (get tasks v) (Some (stamped_from now (get tasks e.0) e.1))) (sym (same_bytes_exact u e.0 same))
+        (stamped_same now (get tasks e.0) e.1 (same_but (get tasks e.0) (Some e.1) is))
     by false apart = so_far
 
 masks_made : (now : Moment) (tasks t : TasksValue) (es : List (List ℕ × TaskValue)) (u : List ℕ) → AreMarked tasks es → IsSameButMask (get tasks u) (get t u)
@@ -188,7 +200,7 @@ pub others_stay : OthersStay
 others_stay request ids old c deed u carried acts apart =
     let now = request.at in
     let changes : List Change = changes_by (effect_in request old) now old.tasks (selected_in request old) in
-    let marks : List Mark = marks_of request.line.command old.tasks changes in
+    let marks : List Mark = marks_of request.command old.tasks changes in
     let middle : TasksValue = changed_all old.tasks changes in
     let masks : List Change = mask_changes now middle marks in
     let applies = acting_applies deed request old changes marks c (sym (ap (carried_by request old) acts) ∙ carried) in

@@ -89,7 +89,7 @@ pub changes_stamped : ChangesAreStamped
 changes_stamped request ids old c deed u carried acts =
     let now = request.at in
     let changes : List Change = changes_by (effect_in request old) now old.tasks (selected_in request old) in
-    let marks : List Mark = marks_of request.line.command old.tasks changes in
+    let marks : List Mark = marks_of request.command old.tasks changes in
     let middle : TasksValue = changed_all old.tasks changes in
     let masks : List Change = mask_changes now middle marks in
     let applies = acting_applies deed request old changes marks c (sym (ap (carried_by request old) acts) ∙ carried) in

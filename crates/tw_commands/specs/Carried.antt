@@ -22,7 +22,7 @@ unless_circle (Some d) text = Err (Cycle d)
 
 -- the text of a command whose step led from one state to another, or why it does nothing after all
 abbrev pub concluded : Request → Show → (old new : State) → Result (List ℕ) Refusal
-concluded request show old new = unless_circle (circle_in request.line.command old new) (shown request show old new)
+concluded request show old new = unless_circle (circle_in request.command old new) (shown request show old new)
 
 abbrev pub with_text : Step → State → Result (List ℕ) Refusal → Result Carried Refusal
 with_text step new (Err refusal) = Err refusal

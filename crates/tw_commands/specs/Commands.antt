@@ -6,7 +6,6 @@ use Rattle.tw_model.specs.Ops.{TaskValue}
 use Rattle.tw_replica.specs.State.{State}
 use Rattle.tw_filter.specs.Holds.{Scene}
 use Rattle.tw_filter.specs.declared.bad_word.BadWord.{BadWord}
-use Rattle.tw_filter.specs.declared.bad_word.WordKind.TheVariants.{Unbuilt}
 use Rattle.tw_report.specs.declared.report.Report.TheVariants as report
 use Rattle.tw_words.specs.Lines.{Parts}
 use Rattle.tw_words.specs.Unnamed.{first_unnamed}
@@ -57,25 +56,24 @@ effect_of command.Start scene line now task = start now task
 effect_of command.Stop scene line now task = stop now task
 effect_of _ scene line now task = Nothing
 
--- the same by a line
-abbrev pub effect_by : Scene → Parts → Moment → TaskValue → Effect
-effect_by scene line now task = effect_of line.command scene line now task
-
 -- what a request makes of a task
+abbrev pub effect_by : Request → Scene → TaskValue → Effect
+effect_by request scene task = effect_of request.command scene request.line request.at task
+
 abbrev pub effect_in : Request → State → TaskValue → Effect
-effect_in request state task = effect_by (scene_in request state) request.line request.at task
+effect_in request state task = effect_by request (scene_in request state) task
 
 -- what a command that acts on selected tasks is to do
 abbrev pub editing : Deed → Request → State → Result Plan Refusal
 editing deed request state =
     let changes = changes_by (effect_in request state) request.at state.tasks (selected_in request state) in
-    acting deed changes (marks_of request.line.command state.tasks changes)
+    acting deed changes (marks_of request.command state.tasks changes)
 
 -- what `undo` is to do
 abbrev pub undoing : Plan
 undoing = record { work = TakeBack; show = TakenBack }
 
--- what a command is to do; one that has no plan over tasks, as `sync`, is refused at its word
+-- what a command is to do
 abbrev pub plan_by : Command → Request → IdWords → State → Result Plan Refusal
 plan_by command.Add request ids state = adding request ids state
 plan_by command.Log request ids state = logging request ids state
@@ -105,7 +103,6 @@ plan_by command.All request ids state = Ok (reporting report.All request state)
 plan_by command.Completed request ids state = Ok (reporting report.Completed request state)
 plan_by command.Waiting request ids state = Ok (reporting report.Waiting request state)
 plan_by command.Blocked request ids state = Ok (reporting report.Blocked request state)
-plan_by _ request ids state = Err (BadWords request.line.word_number Unbuilt)
 
 abbrev pub unless_unnamed : Option BadWord → Result Plan Refusal → Result Plan Refusal
 unless_unnamed None plan = plan
@@ -114,7 +111,7 @@ unless_unnamed (Some bad) plan = Err (BadWords bad.word bad.kind)
 -- what a request is to do with a replica in this state, or why it does nothing; a word that names no task comes first
 abbrev pub plan_of : Request → IdWords → State → Result Plan Refusal
 plan_of request ids state =
-    unless_unnamed (first_unnamed (scene_in request state) request.line) (plan_by request.line.command request ids state)
+    unless_unnamed (first_unnamed (scene_in request state) request.line) (plan_by request.command request ids state)
 
 -- the identifiers once a command is decided on
 abbrev pub ids_by : Command → Request → IdWords → State → IdWords
@@ -130,7 +127,7 @@ ids_unless (Some bad) old left = old
 
 abbrev pub ids_after : Request → IdWords → State → IdWords
 ids_after request ids state =
-    ids_unless (first_unnamed (scene_in request state) request.line) ids (ids_by request.line.command request ids state)
+    ids_unless (first_unnamed (scene_in request state) request.line) ids (ids_by request.command request ids state)
 
 -- no identifier was drawn yet, or all were
 abbrev pub DrewNoneOr : (all old new : IdWords) → Type 0

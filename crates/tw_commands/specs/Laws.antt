@@ -1,5 +1,5 @@
 -- Laws of commands.
-use Rattle.std.specs.Prelude.{◌≡◌, ◌⊎◌, ℕ, Bool, false, List, ◌∷◌, Option, Some, None, Ok, is_some, codes}
+use Rattle.std.specs.Prelude.{◌≡◌, ◌⊎◌, ℕ, Bool, true, false, List, ◌∷◌, Option, Some, None, Ok, is_some, codes}
 use Rattle.std.specs.List.{list_any}
 use Rattle.std.specs.Fmt.{decimal}
 use Rattle.std.specs.FinMap.{get}
@@ -11,6 +11,8 @@ use Rattle.tw_model.specs.declared.Change.{Change}
 use Rattle.tw_model.specs.declared.Op.{Op}
 use Rattle.tw_replica.specs.Body.Step.{Commit, Undo}
 use Rattle.tw_replica.specs.State.{State, applied}
+use Rattle.tw_words.specs.declared.command.Command.{Command}
+use Rattle.tw_words.specs.declared.command.Command.TheVariants as command
 use Rattle.tw_commands.specs.Request.{selected_in}
 use Rattle.tw_commands.specs.Plan.{Plan, step_in}
 use Rattle.tw_commands.specs.Plan.Work.{Changes}
@@ -70,6 +72,28 @@ IsStamped now before (Some task) = (before ≡ Some task) ⊎ (get task (codes "
 abbrev pub ChangesAreStamped : Type 0
 ChangesAreStamped = (request : Request) (ids : IdWords) (old : State) (carried : Carried) (deed : Deed) (u : List ℕ) → IsCarriedOut request ids old carried
     → plan_of request ids old ≡ editing deed request old → IsStamped request.at (get old.tasks u) (get carried.new.tasks u)
+
+-- ---- when `modified` moves
+
+-- commands that have `modified` from elsewhere: `import` from its input, and `undo` from before
+abbrev pub brings_moments : Command → Bool
+brings_moments command.Import = true
+brings_moments command.Undo = true
+brings_moments _ = false
+
+-- a task is as another, but for its `modified`
+abbrev pub IsSameButModified : (before after : TaskValue) → Type 0
+IsSameButModified before after = (p : List ℕ) → same_bytes p (codes "modified") ≡ false → get after p ≡ get before p
+
+-- `modified` is the moment if another property differs, and if none does the task is as it was
+pub record MovesExactly (now : Moment) (before after : TaskValue) : Type 0 where
+  pub moved : (p : List ℕ) → same_bytes p (codes "modified") ≡ false → (get after p ≡ get before p → ⊥) → get after (codes "modified") ≡ Some (decimal now.seconds)
+  pub still : IsSameButModified before after → after ≡ before
+
+-- what any other command leaves of a task that was there
+abbrev pub ModifiedMovesExactly : Type 0
+ModifiedMovesExactly = (request : Request) (ids : IdWords) (old : State) (carried : Carried) (u : List ℕ) (before after : TaskValue) → IsCarriedOut request ids old carried
+    → brings_moments request.command ≡ false → get old.tasks u ≡ Some before → get carried.new.tasks u ≡ Some after → MovesExactly request.at before after
 
 -- ---- what an undo takes back
 

@@ -1,6 +1,9 @@
 -- The parents of instances that are done or deleted: each gets a sign in its mask, task(1), under "recur".
-use Rattle.std.specs.Prelude.{ℕ, List, [], ◌∷◌, ◌++◌, map, set, chars, encode_utf8_all, Option, Some, None, codes}
+use Rattle.std.specs.Prelude.{◌≡◌, ℕ, true, is_some, List, [], ◌∷◌, ◌++◌, map, set, chars, encode_utf8_all, Option, Some, None, codes}
+use Rattle.std.specs.List.{AllByRecursion}
 use Rattle.std.specs.FinMap.{get, insert, empty, entries}
+use Rattle.std.specs.Global.{Vec}
+use lib.Utf8.{scalars}
 use Rattle.uuid.specs.Text.{parsed}
 use Rattle.tw_world.specs.declared.Moment.{Moment}
 use Rattle.tw_text.specs.Natural.{natural}
@@ -10,12 +13,19 @@ use Rattle.tw_words.specs.declared.command.Command.{Command}
 use Rattle.tw_words.specs.declared.command.Command.TheVariants as command
 use Rattle.tw_commands.specs.Stamps.{stamped}
 use Rattle.tw_commands.specs.declared.marks.Mark.{Mark}
+use Rattle.tw_commands.specs.declared.marks.Sign.{Sign}
+use Rattle.tw_commands.specs.declared.marks.Sign.TheVariants.{Completed, Deleted}
 
 -- ---- a mask
 
+-- the character of a sign: `+` for an instance that is done, and `X` for one that is deleted
+abbrev pub code_of : Sign → ℕ
+code_of Completed = 43
+code_of Deleted = 88
+
 -- a mask with a sign at an index, if it is that long
-abbrev pub with_sign : (index sign : ℕ) → List ℕ → List ℕ
-with_sign index sign mask = encode_utf8_all (set (chars mask) index sign)
+abbrev pub with_sign : (index : ℕ) → Sign → List ℕ → List ℕ
+with_sign index sign mask = encode_utf8_all (set (chars mask) index (code_of sign))
 
 abbrev pub with_mark_in : Mark → TaskValue → Option (List ℕ) → TaskValue
 with_mark_in mark task None = task
@@ -27,7 +37,7 @@ with_mark mark task = with_mark_in mark task (get task (codes "mask"))
 
 -- ---- the marks of a command
 
-abbrev pub mark_on : (sign : ℕ) → Option (List ℕ) → Option ℕ → List Mark
+abbrev pub mark_on : Sign → Option (List ℕ) → Option ℕ → List Mark
 mark_on sign (Some parent) (Some index) = record { parent = parent; index = index; sign = sign } ∷ []
 mark_on sign _ _ = []
 
@@ -40,23 +50,23 @@ uuid_in None = None
 uuid_in (Some text) = parsed text
 
 -- the mark that an instance leaves at its parent
-abbrev pub mark_by : (sign : ℕ) → Option TaskValue → List Mark
+abbrev pub mark_by : Sign → Option TaskValue → List Mark
 mark_by sign None = []
 mark_by sign (Some task) = mark_on sign (uuid_in (get task (codes "parent"))) (number_in (get task (codes "imask")))
 
 -- the marks of the tasks that are changed
-abbrev pub marks_by : (sign : ℕ) → TasksValue → List Change → List Mark
+abbrev pub marks_by : Sign → TasksValue → List Change → List Mark
 marks_by sign tasks [] = []
 marks_by sign tasks (change ∷ changes) = mark_by sign (get tasks change.uuid) ++ marks_by sign tasks changes
 
-abbrev pub marks_with : Option ℕ → TasksValue → List Change → List Mark
+abbrev pub marks_with : Option Sign → TasksValue → List Change → List Mark
 marks_with None tasks changes = []
 marks_with (Some sign) tasks changes = marks_by sign tasks changes
 
--- the sign of a command: `+` for an instance that is done, and `X` for one that is deleted
-abbrev pub sign_of : Command → Option ℕ
-sign_of command.Done = Some 43
-sign_of command.Delete = Some 88
+-- the sign that a command leaves
+abbrev pub sign_of : Command → Option Sign
+sign_of command.Done = Some Completed
+sign_of command.Delete = Some Deleted
 sign_of _ = None
 
 -- the marks of a command that changes these tasks
@@ -92,3 +102,52 @@ mask_change now tasks entry = record { uuid = entry.0; task = Some (stamped_from
 -- the changes of the parents, in byte order of their uuids
 abbrev pub mask_changes : Moment → TasksValue → List Mark → List Change
 mask_changes now tasks marks = map (mask_change now tasks) (entries (mark_all tasks empty marks))
+
+-- ---- the same, as it is held: each mask is read once
+
+-- the signs in the mask of a task
+abbrev pub signs_in : Option (List ℕ) → List ℕ
+signs_in None = []
+signs_in (Some mask) = chars mask
+
+abbrev pub signs_of : TaskValue → List ℕ
+signs_of task = signs_in (get task (codes "mask"))
+
+-- the signs that are held, or else those in the mask of a task
+abbrev pub signs_or : Option (Vec ℕ) → TaskValue → List ℕ
+signs_or None task = signs_of task
+signs_or (Some signs) task = signs.items
+
+abbrev pub with_signs_in : (signs : List ℕ) → TaskValue → Option (List ℕ) → TaskValue
+with_signs_in signs task None = task
+with_signs_in signs task (Some mask) = insert task (codes "mask") (encode_utf8_all signs)
+
+-- a task with these signs for its mask, if it has one
+abbrev pub with_signs : (signs : List ℕ) → TaskValue → TaskValue
+with_signs signs task = with_signs_in signs task (get task (codes "mask"))
+
+abbrev pub held_by : (signs : List ℕ) → Option TaskValue → TaskValue
+held_by signs None = empty
+held_by signs (Some task) = with_signs signs task
+
+-- a parent with the signs that are held for it
+abbrev pub held_task : TasksValue → List ℕ × Vec ℕ → List ℕ × TaskValue
+held_task tasks e = (e.0, held_by e.1.items (get tasks e.0))
+
+-- signs are held for a task that is there
+abbrev pub IsHeld : TasksValue → List ℕ × Vec ℕ → Type 0
+IsHeld tasks e = (is_some (get tasks e.0) ≡ true) × (scalars e.1.items ≡ true)
+
+-- the signs that are held make these marked tasks
+pub record AreHeld (tasks marked : TasksValue) (held : List (List ℕ × Vec ℕ)) : Type 0 where
+  pub same : entries marked ≡ map (held_task tasks) held
+  pub each : AllByRecursion (IsHeld tasks) held
+
+-- the change of a parent, by the signs that are held for it
+abbrev pub held_change : Moment → List ℕ → (signs : List ℕ) → Option TaskValue → List Change
+held_change now u signs None = []
+held_change now u signs (Some before) = record { uuid = u; task = Some (stamped now before (with_signs signs before)) } ∷ []
+
+abbrev pub held_changes : Moment → TasksValue → List (List ℕ × Vec ℕ) → List Change
+held_changes now tasks [] = []
+held_changes now tasks (e ∷ es) = held_change now e.0 e.1.items (get tasks e.0) ++ held_changes now tasks es

@@ -31,7 +31,7 @@ use crate::plan::{Deed, Plan};
 use crate::refusal::Refusal;
 use crate::request::{Request, view_of};
 use std::alloc::Global;
-use tw_filter::{BadWord, WordKind};
+use tw_filter::BadWord;
 use tw_replica::Replica;
 use tw_report::Report;
 use tw_words::{Command, first_unnamed};
@@ -45,12 +45,12 @@ fn plan_by(
     replica: &Replica,
 ) -> Result<Result<Plan, Refusal>, Memory>
     ensures plan { IfOk result (λ plan. planned plan
-        ≡ spec.plan_by request.now.line.command request.now ids.old (held_state replica.now)) }
-    ensures ids { OnOk result (ids.new ≡ spec.ids_by request.now.line.command request.now ids.old (held_state replica.now)) }
+        ≡ spec.plan_by request.now.command request.now ids.old (held_state replica.now)) }
+    ensures ids { OnOk result (ids.new ≡ spec.ids_by request.now.command request.now ids.old (held_state replica.now)) }
     ensures want { OnErr result
-        (spec.DrewNoneOr (spec.ids_by request.now.line.command request.now ids.old (held_state replica.now)) ids.old ids.new) }
+        (spec.DrewNoneOr (spec.ids_by request.now.command request.now ids.old (held_state replica.now)) ids.old ids.new) }
 {
-    let deed = match request.line.command {
+    let deed = match request.command {
         Command::Add => return add::adding(alloc, request, ids, replica),
         Command::Log => return add::logging(alloc, request, ids, replica),
         Command::Duplicate => return duplicate::copying(alloc, request, ids, replica),
@@ -77,12 +77,6 @@ fn plan_by(
         Command::Purge => Deed::Purged,
         Command::Start => Deed::Started,
         Command::Stop => Deed::Stopped,
-        _ => {
-            return Ok(Err(Refusal::BadWords {
-                word: request.line.word_number,
-                kind: WordKind::Unbuilt,
-            }));
-        }
     };
     editing::editing(alloc, deed, request, replica)
 }

@@ -1,5 +1,5 @@
 //! Laws of commands. Each is the contract of a function that does nothing.
-ghost use Rattle.tw_commands.specs.Laws.{CarriedIsApplied, ChangesAreCarriedOut, ChangesAreStamped, OthersStay, UndoTakesBack};
+ghost use Rattle.tw_commands.specs.Laws.{CarriedIsApplied, ChangesAreCarriedOut, ChangesAreStamped, ModifiedMovesExactly, OthersStay, UndoTakesBack};
 ghost use Rattle.tw_commands.specs.Circles.{LeadsWhereAPathLeads};
 ghost use Rattle.tw_commands.specs.Worded.{WordsAreTaken};
 
@@ -33,6 +33,13 @@ pub fn other_tasks_stay()
 /// Each task that such a command leaves is as it was, or has the moment of the command as its `modified`.
 pub fn changes_are_stamped()
     ensures { ChangesAreStamped }
+{}
+
+/// A task that is there before and after any command but `import` and `undo` is as it was, or another of its properties than `modified`
+/// differs. Exactly then `modified` is the moment of the command. A template changes so if a report makes its mask longer. An import gives a
+/// task the `modified` of its input, and an undo takes it back.
+pub fn modified_moves_exactly()
+    ensures { ModifiedMovesExactly }
 {}
 
 /// An undo right after a command that wrote operations leads back to the tasks before it, and to what was pending.

@@ -1,11 +1,14 @@
 // The parents of instances that are done or deleted: each gets a sign in its mask.
-ghost use Rattle.std.specs.Prelude.{◌≡◌, ◌++◌, IfOk, OnOk, chars, encode_utf8_all, string_bytes, map as list_map};
+ghost use Rattle.std.specs.Prelude.{◌≡◌, ◌++◌, true, is_none, IfOk, OnOk, chars, set, encode_utf8_all, string_bytes};
 ghost use Rattle.std.specs.Option.{option_copied};
 ghost use Rattle.std.specs.FinMap as map;
+ghost use lib.Utf8.{scalars};
+ghost use Rattle.tw_model.specs.Ops.{TasksValue};
 ghost use Rattle.tw_commands.specs.Marks as spec;
 
 use crate::effect::stamped;
 use std::alloc::Global;
+use std::collections::BTreeMap;
 use tw_model::{Change, TaskMap, Tasks};
 use tw_text::read_u64;
 use tw_urgency::read_uuid;
@@ -13,16 +16,38 @@ use tw_words::Command;
 use tw_world::{Memory, Moment};
 use uuid::Uuid;
 
+/// How an instance ended.
+#[derive(Clone, Copy)]
+pub(crate) enum Sign {
+    /// It is done.
+    Completed,
+    /// It is deleted.
+    Deleted,
+}
+
+impl Sign {
+    // Its character in the mask of its parent.
+    fn code(self) -> char
+        ensures { result ≡ spec.code_of self }
+    {
+        match self {
+            Sign::Completed => '+',
+            Sign::Deleted => 'X',
+        }
+    }
+}
+
 /// A sign for a parent's mask, at an index.
 #[derive(Clone, Copy)]
 pub(crate) struct Mark {
     pub parent: Uuid,
     pub index: u64,
-    pub sign: char,
+    pub sign: Sign,
 }
 
 fn chars_of(alloc: Global, text: &str) -> Result<Vec<char>, Memory>
-    ensures { IfOk result (λ all. all.items ≡ chars text.now) }
+    ensures all { IfOk result (λ all. all.items ≡ chars text.now) }
+    ensures scalars { IfOk result (λ all. scalars all.items ≡ true) }
 {
     let mut all = Vec::new(alloc);
     for c in text.chars() {
@@ -41,24 +66,44 @@ fn text_of(alloc: Global, all: &Vec<char>) -> Result<String, Memory>
     Ok(text)
 }
 
-// A mask with a sign at an index, if it is that long.
-fn with_sign(alloc: Global, index: u64, sign: char, mask: &str) -> Result<String, Memory>
-    ensures { IfOk result (λ text. string_bytes text ≡ spec.with_sign index sign mask.now) }
+// The signs in the mask of a task.
+fn signs_of(alloc: Global, task: &TaskMap) -> Result<Vec<char>, Memory>
+    ensures all { IfOk result (λ signs. signs.items ≡ spec.signs_of task.now) }
+    ensures scalars { IfOk result (λ signs. scalars signs.items ≡ true) }
 {
-    let mut signs = chars_of(alloc, mask)?;
-    if index < signs.len() as u64 {
-        signs[index as usize] = sign;
+    match task.get("mask") {
+        Some(mask) => chars_of(alloc, mask),
+        None => Ok(Vec::new(alloc)),
     }
-    text_of(alloc, &signs)
 }
 
-// A task with a mark in its mask.
-fn with_mark(alloc: Global, mark: &Mark, task: &TaskMap) -> Result<TaskMap, Memory>
-    ensures { IfOk result (λ marked. marked ≡ spec.with_mark mark.now task.now) }
+// The signs that are held, or else those in the mask of a task.
+fn signs_or(alloc: Global, held: Option<Vec<char>>, task: &TaskMap) -> Result<Vec<char>, Memory>
+    ensures all { IfOk result (λ signs. signs.items ≡ spec.signs_or held task.now) }
+    ensures scalars { IfOk result (λ signs. is_none held ≡ true → scalars signs.items ≡ true) }
+{
+    match held {
+        Some(signs) => Ok(signs),
+        None => signs_of(alloc, task),
+    }
+}
+
+// Puts a sign at an index, if there are so many.
+fn put_sign(signs: &mut Vec<char>, index: u64, sign: Sign)
+    ensures { signs.new.items ≡ set signs.old.items index (spec.code_of sign) }
+{
+    if index < signs.len() as u64 {
+        signs[index as usize] = sign.code();
+    }
+}
+
+// A task with these signs for its mask, if it has one.
+fn with_signs(alloc: Global, signs: &Vec<char>, task: &TaskMap) -> Result<TaskMap, Memory>
+    ensures { IfOk result (λ marked. marked ≡ spec.with_signs signs.now.items task.now) }
 {
     let mut marked = task.copy(alloc)?;
-    if let Some(mask) = task.get("mask") {
-        let mask = with_sign(alloc, mark.index, mark.sign, mask)?;
+    if task.get("mask").is_some() {
+        let mask = text_of(alloc, signs)?;
         marked.set(alloc, "mask", Some(mask.as_str()))?;
     }
     Ok(marked)
@@ -83,7 +128,7 @@ fn uuid_in(text: Option<&str>) -> Option<Uuid>
 }
 
 // Adds the mark that an instance leaves at its parent.
-fn push_mark(marks: &mut Vec<Mark>, sign: char, task: Option<&TaskMap>) -> Result<(), Memory>
+fn push_mark(marks: &mut Vec<Mark>, sign: Sign, task: Option<&TaskMap>) -> Result<(), Memory>
     ensures { OnOk result (marks.new.items ≡ marks.old.items ++ spec.mark_by sign (option_copied task.entry)) }
 {
     let Some(task) = task else {
@@ -103,7 +148,7 @@ fn push_mark(marks: &mut Vec<Mark>, sign: char, task: Option<&TaskMap>) -> Resul
 
 fn marks_by(
     alloc: Global,
-    sign: char,
+    sign: Sign,
     tasks: &Tasks,
     changes: &Vec<Change>,
 ) -> Result<Vec<Mark>, Memory>
@@ -126,98 +171,88 @@ pub(crate) fn marks_of(
     ensures { IfOk result (λ marks. marks.items ≡ spec.marks_of command tasks.now changes.now.items) }
 {
     match command {
-        Command::Done => marks_by(alloc, '+', tasks, changes),
-        Command::Delete => marks_by(alloc, 'X', tasks, changes),
+        Command::Done => marks_by(alloc, Sign::Completed, tasks, changes),
+        Command::Delete => marks_by(alloc, Sign::Deleted, tasks, changes),
         _ => Ok(Vec::new(alloc)),
     }
 }
 
-fn put_marked(
+// Puts a mark into the signs of its parent, which are read at its first mark.
+fn mark_one(
     alloc: Global,
-    marked: &mut Tasks,
+    tasks: &Tasks,
+    held: &mut BTreeMap<Uuid, Vec<char>>,
     mark: &Mark,
-    task: Option<&TaskMap>,
 ) -> Result<(), Memory>
-    ensures { OnOk result (marked.new ≡ spec.put_marked marked.old mark.now (option_copied task.entry)) }
+    ensures { OnOk result ((marked : TasksValue) → spec.AreHeld tasks.now marked held.old.entries
+        → spec.AreHeld tasks.now (spec.mark_one tasks.now marked mark.now) held.new.entries) }
 {
-    let Some(task) = task else {
+    let Some(task) = tasks.get(mark.parent) else {
         return Ok(());
     };
-    let task = with_mark(alloc, mark, task)?;
-    let _ = marked.remove(mark.parent);
-    let _ = marked.insert(mark.parent, task)?;
+    let there = held.insert(mark.parent, Vec::new(alloc))?;
+    let mut signs = signs_or(alloc, there, task)?;
+    put_sign(&mut signs, mark.index, mark.sign);
+    let _ = held.insert(mark.parent, signs)?;
     Ok(())
 }
 
-fn copied_task(alloc: Global, task: Option<&TaskMap>) -> Result<Option<TaskMap>, Memory>
-    ensures { IfOk result (λ copy. copy ≡ option_copied task.entry) }
-{
-    match task {
-        Some(task) => Ok(Some(task.copy(alloc)?)),
-        None => Ok(None),
-    }
-}
-
-fn as_ref(task: &Option<TaskMap>) -> Option<&TaskMap>
-    ensures { option_copied result ≡ task.now }
-{
-    match task {
-        Some(task) => Some(task),
-        None => None,
-    }
-}
-
-fn first_there<'a>(task: Option<&'a TaskMap>, other: Option<&'a TaskMap>) -> Option<&'a TaskMap>
-    ensures { option_copied result ≡ spec.first_there (option_copied task.entry) (option_copied other.entry) }
-{
-    match task {
-        Some(task) => Some(task),
-        None => other,
-    }
-}
-
-fn mark_one(alloc: Global, tasks: &Tasks, marked: &mut Tasks, mark: &Mark) -> Result<(), Memory>
-    ensures { OnOk result (marked.new ≡ spec.mark_one tasks.now marked.old mark.now) }
-{
-    let there = copied_task(
-        alloc,
-        first_there(marked.get(mark.parent), tasks.get(mark.parent)),
-    )?;
-    put_marked(alloc, marked, mark, as_ref(&there))
-}
-
-// The parents with all their marks.
-fn mark_all(alloc: Global, tasks: &Tasks, marks: &Vec<Mark>) -> Result<Tasks, Memory>
-    ensures { IfOk result (λ marked. marked ≡ spec.mark_all tasks.now map.empty marks.now.items) }
-{
-    let mut marked = Tasks::new(alloc);
-    for mark in marks {
-        mark_one(alloc, tasks, &mut marked, mark)?;
-    }
-    Ok(marked)
-}
-
-fn mask_change(
+// The signs of the parents, with all their marks. Each mask is read once.
+fn mark_all(
     alloc: Global,
+    tasks: &Tasks,
+    marks: &Vec<Mark>,
+) -> Result<BTreeMap<Uuid, Vec<char>>, Memory>
+    ensures { IfOk result (λ held. spec.AreHeld tasks.now (spec.mark_all tasks.now map.empty marks.now.items) held.entries) }
+{
+    let mut held = BTreeMap::new(alloc);
+    for mark in marks {
+        mark_one(alloc, tasks, &mut held, mark)?;
+    }
+    Ok(held)
+}
+
+// Puts the change of a parent after others.
+fn push_change(
+    alloc: Global,
+    changes: &mut Vec<Change>,
     now: Moment,
     tasks: &Tasks,
     uuid: Uuid,
-    task: &TaskMap,
-) -> Result<Change, Memory>
-    ensures { IfOk result (λ change. change ≡ spec.mask_change now tasks.now (uuid, task.now)) }
+    signs: &Vec<char>,
+) -> Result<(), Memory>
+    ensures { OnOk result (changes.new.items ≡ changes.old.items ++ spec.held_change now uuid signs.now.items (map.get tasks.now uuid)) }
 {
-    let after = task.copy(alloc)?;
-    let task = match tasks.get(uuid) {
-        Some(before) => stamped(alloc, now, before, after)?,
-        None => after,
+    let Some(before) = tasks.get(uuid) else {
+        return Ok(());
     };
-    Ok(Change {
+    let after = with_signs(alloc, signs, before)?;
+    let task = stamped(alloc, now, before, after)?;
+    changes.push(Change {
         uuid,
         task: Some(task),
-    })
+    })?;
+    Ok(())
 }
 
-/// The changes of the parents, in byte order of their uuids.
+// The changes of the parents, by the signs that are held for them.
+fn changes_of(
+    alloc: Global,
+    now: Moment,
+    tasks: &Tasks,
+    held: &BTreeMap<Uuid, Vec<char>>,
+) -> Result<Vec<Change>, Memory>
+    ensures { IfOk result (λ changes. changes.items ≡ spec.held_changes now tasks.now held.now.entries) }
+{
+    let mut changes = Vec::new(alloc);
+    for (uuid, signs) in held.iter() {
+        push_change(alloc, &mut changes, now, tasks, *uuid, signs)?;
+    }
+    Ok(changes)
+}
+
+/// The changes of the parents, in byte order of their uuids. The time grows with the marks, times the logarithm of the tasks, and with the
+/// masks of their parents.
 pub(crate) fn mask_changes(
     alloc: Global,
     now: Moment,
@@ -226,10 +261,6 @@ pub(crate) fn mask_changes(
 ) -> Result<Vec<Change>, Memory>
     ensures { IfOk result (λ changes. changes.items ≡ spec.mask_changes now tasks.now marks.now.items) }
 {
-    let marked = mark_all(alloc, tasks, marks)?;
-    let mut changes = Vec::new(alloc);
-    for (uuid, task) in marked.iter() {
-        changes.push(mask_change(alloc, now, tasks, *uuid, task)?)?;
-    }
-    Ok(changes)
+    let held = mark_all(alloc, tasks, marks)?;
+    changes_of(alloc, now, tasks, &held)
 }

@@ -114,9 +114,9 @@ fn circle_in(
     prepared: &Prepared,
 ) -> Result<Option<Uuid>, Memory>
     ensures { IfOk result (λ circle. (old : State) → pending ≡ length old.pending
-        → circle ≡ circle_in request.now.line.command old (prepared_state prepared.now)) }
+        → circle ≡ circle_in request.now.command old (prepared_state prepared.now)) }
 {
-    if is_judged(request.line.command) {
+    if is_judged(request.command) {
         let made = prepared.pending().behind(alloc, pending)?;
         first_circle(alloc, prepared.tasks(), &made, 0)
     } else {

@@ -9,13 +9,14 @@ use std::alloc::Global;
 use tw_filter::{Filter, Looks, View, select};
 use tw_replica::Replica;
 use tw_time::Zone;
-use tw_words::{Line, Settings};
+use tw_words::{Command, Line, Settings};
 use tw_world::{IdWords, Memory, Moment};
 use uuid::Uuid;
 
-/// What is asked for: the line, the filter of its words, the settings with the line's overrides, the moment and the zone at which all
-/// is read, and the input that `import` reads.
+/// What is asked for: the command and the line that names it, the filter of its words, the settings with the line's overrides, the
+/// moment and the zone at which all is read, and the input that `import` reads.
 pub struct Request<'a> {
+    pub command: Command,
     pub line: Line,
     pub filter: Filter,
     pub settings: Settings,
@@ -28,6 +29,7 @@ pub struct Request<'a> {
 impl Drop for Request<'_> {
     fn drop(self) {
         let Request {
+            command: _,
             line: _,
             filter: _,
             settings: _,

@@ -6,3 +6,5 @@ pub mod Decimals
 pub mod FirstFaults
 pub mod UnnamedWords
 pub mod PlacedWords
+pub mod NamingWords
+pub mod KeptModified

@@ -8,7 +8,8 @@ use Rattle.tw_words.specs.Commands.{command_named, rest_of}
 use Rattle.tw_words.specs.Lines.{Taken, override_in, first_command, taking, dashed, named, overriding, as_command, as_override, as_word, with_word, taken_from, nothing, filter_end, line_with, line_by}
 use Rattle.tw_words.specs.Places.{Pile, is_pile, picked, first_dash, IsNamedBy, RisesFrom, ArePlaced, EachWordHasItsPlace}
 use Rattle.tw_words.specs.Places.Pile.{Word, Override, Naming, Dash}
-use Rattle.tw_words.specs.declared.command.Command.{Command}
+use Rattle.tw_words.specs.declared.command.AnyCommand.{AnyCommand}
+use Rattle.tw_words.specs.declared.command.AnyCommand.TheVariants.{Tasks}
 use Rattle.tw_words.specs.declared.command.Command.TheVariants.{Next}
 
 -- ---- a pile, word by word
@@ -85,7 +86,7 @@ tells given pile n (x ∷ rest) there =
 
 -- ---- the command's word
 
-no_command : (c : Command) → Some c ≡ None → ⊥
+no_command : (c : AnyCommand) → Some c ≡ None → ⊥
 no_command c e = absurd (cc)
 
 -- none of these words names the command
@@ -97,7 +98,7 @@ record Still (t u : Taken) (words : List (ℕ × List ℕ)) : Type 0 where
 -- one of them does, and none did before
 record Named (t u : Taken) (words : List (ℕ × List ℕ)) : Type 0 where
   word : List ℕ
-  command : Command
+  command : AnyCommand
   one : words ≡ (u.word_number, word) ∷ []
   before : t.command ≡ None
   after : u.command ≡ Some command
@@ -129,7 +130,7 @@ names_on t u v a b (inr s) (inl r) = inr (record {
 })
 names_on t u v a b (inr s) (inr r) = absurd (no_command s.command (sym s.after ∙ r.before))
 
-first_is : (o : Option Command) (word : List ℕ) (c : Command) → first_command o word ≡ Some c → (o ≡ None) × (command_named word ≡ Some c)
+first_is : (o : Option AnyCommand) (word : List ℕ) (c : AnyCommand) → first_command o word ≡ Some c → (o ≡ None) × (command_named word ≡ Some c)
 first_is None word c e = (refl, e)
 first_is (Some x) word c e = absurd (cc)
 
@@ -188,7 +189,7 @@ module _ (t : Taken) (n : ℕ) (word : List ℕ) where
     dashes = λ rest. passed t.plain n word rest first other;
   }
 
-  to_command : (c : Command) → (t.command ≡ None) × (command_named word ≡ Some c) → t.plain ≡ None → same_bytes word (codes "--") ≡ false → Step t n word (named t n c)
+  to_command : (c : AnyCommand) → (t.command ≡ None) × (command_named word ≡ Some c) → t.plain ≡ None → same_bytes word (codes "--") ≡ false → Step t n word (named t n c)
   to_command c both first other = record {
     pile = Naming;
     words = sym (append-nil t.words);
@@ -211,7 +212,7 @@ module _ (t : Taken) (n : ℕ) (word : List ℕ) where
   step : Step t n word (with_word t n word)
   step = by_plain t.plain refl
     where
-      by_command : (o : Option Command) → first_command t.command word ≡ o → t.plain ≡ None → same_bytes word (codes "--") ≡ false → Step t n word (as_command t n word o)
+      by_command : (o : Option AnyCommand) → first_command t.command word ≡ o → t.plain ≡ None → same_bytes word (codes "--") ≡ false → Step t n word (as_command t n word o)
       by_command None e first other = to_words (λ rest. passed t.plain n word rest first other)
       by_command (Some c) e first other = to_command c (first_is t.command word c e) first other
 
@@ -269,7 +270,7 @@ went t n (word ∷ given) =
 -- ---- the line
 
 module _ (given : List (List ℕ)) (t : Taken) (all : Went nothing 0 given t) where
-  tell_with : (c : Command) (to : ℕ) → IsNamedBy (picked Naming 0 all.sorted) (line_with t c to) → ArePlaced given (line_with t c to)
+  tell_with : (c : AnyCommand) (to : ℕ) → IsNamedBy (picked Naming 0 all.sorted) (line_with t c to) → ArePlaced given (line_with t c to)
   tell_with c to is =
       let there = tells given Word 0 all.sorted (λ k. ap (λ (l : List (List ℕ)). slice_get l k) all.each ∙ ap (λ (n : ℕ). slice_get given n) (from_none k)) in
       record {
@@ -292,8 +293,8 @@ module _ (given : List (List ℕ)) (t : Taken) (all : Went nothing 0 given t) wh
   tell : ArePlaced given (line_by t t.command)
   tell = by t.command refl all.names
     where
-      by : (o : Option Command) → t.command ≡ o → Names nothing t (picked Naming 0 all.sorted) → ArePlaced given (line_by t o)
-      by None e (inl s) = tell_with Next (length t.words) (inr (s.none, refl, s.number))
+      by : (o : Option AnyCommand) → t.command ≡ o → Names nothing t (picked Naming 0 all.sorted) → ArePlaced given (line_by t o)
+      by None e (inl s) = tell_with (Tasks Next) (length t.words) (inr (s.none, refl, s.number))
       by None e (inr r) = absurd (no_command r.command (sym r.after ∙ e))
       by (Some c) e (inl s) = absurd (no_command c (sym e ∙ s.command))
       by (Some c) e (inr r) = tell_with c (filter_end (rest_of c) t.before (length t.words)) (inl (r.word, r.one, r.is ∙ sym r.after ∙ e))

@@ -1,11 +1,12 @@
 -- The commands: task(1), under "SUBCOMMANDS".
-use Rattle.std.specs.Prelude.{◌≡◌, ℕ, List, [], ◌∷◌, Option, Some, map, codes}
+use Rattle.std.specs.Prelude.{◌≡◌, ℕ, List, [], ◌∷◌, ◌++◌, Option, Some, map, codes}
 use Rattle.tw_time.specs.Tables.{look_up}
+use Rattle.tw_words.specs.declared.command.AnyCommand.{AnyCommand}
+use Rattle.tw_words.specs.declared.command.AnyCommand.TheVariants.{Tasks, Sync, Generate}
 use Rattle.tw_words.specs.declared.command.Command.{Command}
 use Rattle.tw_words.specs.declared.command.Command.TheVariants.{Add, Log, Modify, Append, Prepend, Annotate, Denotate, Done, Delete, Purge}
-use Rattle.tw_words.specs.declared.command.Command.TheVariants.{Start, Stop, Duplicate, Undo, Sync, Import, Count, Ids, Uuids, Export}
+use Rattle.tw_words.specs.declared.command.Command.TheVariants.{Start, Stop, Duplicate, Undo, Import, Count, Ids, Uuids, Export}
 use Rattle.tw_words.specs.declared.command.Command.TheVariants.{Information, Projects, Tags, Next, All, Completed, Waiting, Blocked}
-use Rattle.tw_words.specs.declared.command.Command.TheVariants.{Generate}
 use Rattle.tw_words.specs.declared.command.Command.TheVariants as command
 use Rattle.tw_words.specs.declared.command.Filtering.{Filtering}
 use Rattle.tw_words.specs.declared.command.Filtering.TheVariants as filtering
@@ -21,57 +22,64 @@ pub record Form : Type 0 where
 abbrev pub form : List ℕ → Filtering → Rest → Form
 form word filtering rest = record { word = word; filtering = filtering; rest = rest }
 
+-- the table of commands that have a plan over tasks
+abbrev pub form_over : Command → Form
+form_over Add = form (codes "add") filtering.Nothing rest.Modifications
+form_over Log = form (codes "log") filtering.Nothing rest.Modifications
+form_over Modify = form (codes "modify") filtering.Needed rest.Modifications
+form_over Append = form (codes "append") filtering.Needed rest.Text
+form_over Prepend = form (codes "prepend") filtering.Needed rest.Text
+form_over Annotate = form (codes "annotate") filtering.Needed rest.Text
+form_over Denotate = form (codes "denotate") filtering.Needed rest.Text
+form_over Done = form (codes "done") filtering.Needed rest.Nothing
+form_over Delete = form (codes "delete") filtering.Needed rest.Nothing
+form_over Purge = form (codes "purge") filtering.Needed rest.Nothing
+form_over Start = form (codes "start") filtering.Needed rest.Nothing
+form_over Stop = form (codes "stop") filtering.Needed rest.Nothing
+form_over Duplicate = form (codes "duplicate") filtering.Needed rest.Modifications
+form_over Undo = form (codes "undo") filtering.Nothing rest.Nothing
+form_over Import = form (codes "import") filtering.Nothing rest.Dash
+form_over Count = form (codes "count") filtering.Free rest.Filter
+form_over Ids = form (codes "ids") filtering.Free rest.Filter
+form_over Uuids = form (codes "uuids") filtering.Free rest.Filter
+form_over Export = form (codes "export") filtering.Free rest.Filter
+form_over Information = form (codes "information") filtering.Needed rest.Filter
+form_over Projects = form (codes "projects") filtering.Free rest.Filter
+form_over Tags = form (codes "tags") filtering.Free rest.Filter
+form_over command.List = form (codes "list") filtering.Free rest.Filter
+form_over Next = form (codes "next") filtering.Free rest.Filter
+form_over All = form (codes "all") filtering.Free rest.Filter
+form_over Completed = form (codes "completed") filtering.Free rest.Filter
+form_over Waiting = form (codes "waiting") filtering.Free rest.Filter
+form_over Blocked = form (codes "blocked") filtering.Free rest.Filter
+
 -- the table of commands
-abbrev pub form_of : Command → Form
-form_of Add = form (codes "add") filtering.Nothing rest.Modifications
-form_of Log = form (codes "log") filtering.Nothing rest.Modifications
-form_of Modify = form (codes "modify") filtering.Needed rest.Modifications
-form_of Append = form (codes "append") filtering.Needed rest.Text
-form_of Prepend = form (codes "prepend") filtering.Needed rest.Text
-form_of Annotate = form (codes "annotate") filtering.Needed rest.Text
-form_of Denotate = form (codes "denotate") filtering.Needed rest.Text
-form_of Done = form (codes "done") filtering.Needed rest.Nothing
-form_of Delete = form (codes "delete") filtering.Needed rest.Nothing
-form_of Purge = form (codes "purge") filtering.Needed rest.Nothing
-form_of Start = form (codes "start") filtering.Needed rest.Nothing
-form_of Stop = form (codes "stop") filtering.Needed rest.Nothing
-form_of Duplicate = form (codes "duplicate") filtering.Needed rest.Modifications
-form_of Undo = form (codes "undo") filtering.Nothing rest.Nothing
+abbrev pub form_of : AnyCommand → Form
+form_of (Tasks command) = form_over command
 form_of Sync = form (codes "sync") filtering.Nothing rest.Nothing
-form_of Import = form (codes "import") filtering.Nothing rest.Dash
-form_of Count = form (codes "count") filtering.Free rest.Filter
-form_of Ids = form (codes "ids") filtering.Free rest.Filter
-form_of Uuids = form (codes "uuids") filtering.Free rest.Filter
-form_of Export = form (codes "export") filtering.Free rest.Filter
-form_of Information = form (codes "information") filtering.Needed rest.Filter
-form_of Projects = form (codes "projects") filtering.Free rest.Filter
-form_of Tags = form (codes "tags") filtering.Free rest.Filter
-form_of command.List = form (codes "list") filtering.Free rest.Filter
-form_of Next = form (codes "next") filtering.Free rest.Filter
-form_of All = form (codes "all") filtering.Free rest.Filter
-form_of Completed = form (codes "completed") filtering.Free rest.Filter
-form_of Waiting = form (codes "waiting") filtering.Free rest.Filter
-form_of Blocked = form (codes "blocked") filtering.Free rest.Filter
 form_of Generate = form (codes "_generate") filtering.Nothing rest.Numbers
 
-abbrev pub all_commands : List Command
-all_commands =
+abbrev pub all_over_tasks : List Command
+all_over_tasks =
     Add ∷ Log ∷ Modify ∷ Append ∷ Prepend ∷ Annotate ∷ Denotate ∷ Done ∷ Delete ∷ Purge
-    ∷ Start ∷ Stop ∷ Duplicate ∷ Undo ∷ Sync ∷ Import ∷ Count ∷ Ids ∷ Uuids ∷ Export
-    ∷ Information ∷ Projects ∷ Tags ∷ command.List ∷ Next ∷ All ∷ Completed ∷ Waiting ∷ Blocked ∷ Generate ∷ []
+    ∷ Start ∷ Stop ∷ Duplicate ∷ Undo ∷ Import ∷ Count ∷ Ids ∷ Uuids ∷ Export
+    ∷ Information ∷ Projects ∷ Tags ∷ command.List ∷ Next ∷ All ∷ Completed ∷ Waiting ∷ Blocked ∷ []
+
+abbrev pub all_commands : List AnyCommand
+all_commands = map (λ command. Tasks command) all_over_tasks ++ Sync ∷ Generate ∷ []
 
 -- the command that a word names
-unfoldable pub command_named : List ℕ → Option Command
+unfoldable pub command_named : List ℕ → Option AnyCommand
 command_named word = look_up word (map (λ command. ((form_of command).word, command)) all_commands)
 
 -- the word of each command names that one
 abbrev pub EachWordNamesItsCommand : Type 0
-EachWordNamesItsCommand = (command : Command) → command_named (form_of command).word ≡ Some command
+EachWordNamesItsCommand = (command : AnyCommand) → command_named (form_of command).word ≡ Some command
 
 -- whether a command has a filter
-abbrev pub filtering_of : Command → Filtering
+abbrev pub filtering_of : AnyCommand → Filtering
 filtering_of command = (form_of command).filtering
 
 -- what the words after a command are
-abbrev pub rest_of : Command → Rest
+abbrev pub rest_of : AnyCommand → Rest
 rest_of command = (form_of command).rest

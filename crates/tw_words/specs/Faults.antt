@@ -14,7 +14,8 @@ use Rattle.tw_words.specs.Lines.{Parts, parts_of_line}
 use Rattle.tw_words.specs.Commands.{filtering_of, rest_of}
 use Rattle.tw_words.specs.Modifications.{Clock, tally_of, rest_words, number_at, at_word, first_of, first_fault, text_fault, unless}
 use Rattle.tw_words.specs.declared.judging.tally.Tally.{Tally}
-use Rattle.tw_words.specs.declared.command.Command.{Command}
+use Rattle.tw_words.specs.declared.command.AnyCommand.{AnyCommand}
+use Rattle.tw_words.specs.declared.command.AnyCommand.TheVariants.{Tasks}
 use Rattle.tw_words.specs.declared.command.Command.TheVariants.{Add, Log, Modify}
 use Rattle.tw_words.specs.declared.command.Filtering.{Filtering}
 use Rattle.tw_words.specs.declared.command.Filtering.TheVariants as filtering
@@ -32,10 +33,10 @@ abbrev pub filter_fault : Parts → Option BadWord
 filter_fault line = filter_fault_by (filtering_of line.command) line
 
 -- whether changes lack a word
-abbrev pub lacks_change : Command → (few : Bool) → Tally → Bool
-lacks_change Add few g = ((g.texts == 0) && not g.described) || (g.recurs && not g.due)
-lacks_change Log few g = (g.texts == 0) && not g.described
-lacks_change Modify few g = few
+abbrev pub lacks_change : AnyCommand → (few : Bool) → Tally → Bool
+lacks_change (Tasks Add) few g = ((g.texts == 0) && not g.described) || (g.recurs && not g.due)
+lacks_change (Tasks Log) few g = (g.texts == 0) && not g.described
+lacks_change (Tasks Modify) few g = few
 lacks_change _ few g = false
 
 -- the word after the command's word, counted from 0

@@ -5,14 +5,15 @@ use Rattle.tw_model.specs.Maps.{same_bytes}
 use Rattle.tw_filter.specs.Cuts.{parted}
 use Rattle.tw_words.specs.Settings.{Pair}
 use Rattle.tw_words.specs.Commands.{command_named, rest_of}
-use Rattle.tw_words.specs.declared.command.Command.{Command}
+use Rattle.tw_words.specs.declared.command.AnyCommand.{AnyCommand}
+use Rattle.tw_words.specs.declared.command.AnyCommand.TheVariants.{Tasks}
 use Rattle.tw_words.specs.declared.command.Command.TheVariants.{Next}
 use Rattle.tw_words.specs.declared.command.Rest.{Rest}
 use Rattle.tw_words.specs.declared.command.Rest.TheVariants as rest
 
 -- the parts of a line
 pub record Parts : Type 0 where
-  pub command : Command
+  pub command : AnyCommand
   pub word_number : ℕ
   pub filter_from : ℕ
   pub filter_to : ℕ
@@ -25,7 +26,7 @@ pub record Parts : Type 0 where
 -- what is taken of a line: the command, if there is one, with the number of its word and how many words are before it; how many words are before
 -- `--`, if there is one; words and their numbers; overrides
 pub record Taken : Type 0 where
-  pub command : Option Command
+  pub command : Option AnyCommand
   pub word_number : ℕ
   pub before : ℕ
   pub plain : Option ℕ
@@ -56,7 +57,7 @@ unfoldable pub override_in : List ℕ → Option Pair
 override_in word = cond (starts_with nat_eq word (codes "rc.")) (round_mark (drop 3 word)) None
 
 -- the command that a word names, if there is none before it
-abbrev pub first_command : Option Command → List ℕ → Option Command
+abbrev pub first_command : Option AnyCommand → List ℕ → Option AnyCommand
 first_command None word = command_named word
 first_command (Some c) word = None
 
@@ -82,7 +83,7 @@ dashed t = record {
   overrides = t.overrides;
 }
 
-abbrev pub named : Taken → ℕ → Command → Taken
+abbrev pub named : Taken → ℕ → AnyCommand → Taken
 named t n c = record {
   command = Some c;
   word_number = n;
@@ -104,7 +105,7 @@ overriding t x = record {
   overrides = t.overrides ++ x ∷ [];
 }
 
-abbrev pub as_command : Taken → ℕ → List ℕ → Option Command → Taken
+abbrev pub as_command : Taken → ℕ → List ℕ → Option AnyCommand → Taken
 as_command t n word None = taking t n word
 as_command t n word (Some c) = named t n c
 
@@ -136,7 +137,7 @@ abbrev pub filter_end : Rest → (before all : ℕ) → ℕ
 filter_end rest.Filter before all = all
 filter_end _ before all = before
 
-abbrev pub line_with : Taken → Command → (to : ℕ) → Parts
+abbrev pub line_with : Taken → AnyCommand → (to : ℕ) → Parts
 line_with t c to = record {
   command = c;
   word_number = t.word_number;
@@ -149,8 +150,8 @@ line_with t c to = record {
   overrides = t.overrides;
 }
 
-abbrev pub line_by : Taken → Option Command → Parts
-line_by t None = line_with t Next (length t.words)
+abbrev pub line_by : Taken → Option AnyCommand → Parts
+line_by t None = line_with t (Tasks Next) (length t.words)
 line_by t (Some c) = line_with t c (filter_end (rest_of c) t.before (length t.words))
 
 -- the parts of a line

@@ -18,7 +18,8 @@ use Rattle.tw_filter.specs.declared.bad_word.WordKind.{WordKind}
 use Rattle.tw_filter.specs.declared.bad_word.WordKind.TheVariants as bad
 use Rattle.tw_words.specs.Lines.{Parts}
 use Rattle.tw_words.specs.Commands.{rest_of}
-use Rattle.tw_words.specs.declared.command.Command.{Command}
+use Rattle.tw_words.specs.declared.command.AnyCommand.{AnyCommand}
+use Rattle.tw_words.specs.declared.command.AnyCommand.TheVariants.{Tasks}
 use Rattle.tw_words.specs.declared.command.Command.TheVariants.{Add}
 use Rattle.tw_words.specs.declared.command.Rest.{Rest}
 use Rattle.tw_words.specs.declared.command.Rest.TheVariants as rest
@@ -89,8 +90,8 @@ is_text_rest _ = false
 abbrev pub is_plain : Parts → ℕ → Bool
 is_plain line n = is_text_rest (rest_of line.command) || nat_le line.plain_from n
 
-abbrev pub is_add : Command → Bool
-is_add Add = true
+abbrev pub is_add : AnyCommand → Bool
+is_add (Tasks Add) = true
 is_add _ = false
 
 abbrev pub if_not_plain : {X : Type 0} → Bool → Option X → Option X

@@ -5,6 +5,7 @@ use Rattle.tw_model.specs.Maps.{same_bytes}
 use Rattle.tw_words.specs.Settings.{Pair}
 use Rattle.tw_words.specs.Commands.{command_named}
 use Rattle.tw_words.specs.Lines.{Parts, override_in, parts_of_line}
+use Rattle.tw_words.specs.declared.command.AnyCommand.TheVariants.{Tasks}
 use Rattle.tw_words.specs.declared.command.Command.TheVariants.{Next}
 
 -- where a word given goes: to the words of the line, to its overrides, to its command, or it is the `--` after which all is text
@@ -35,7 +36,7 @@ first_dash n (word ∷ words) = cond (same_bytes word (codes "--")) ((n, word) �
 abbrev pub IsNamedBy : List (ℕ × List ℕ) → Parts → Type 0
 IsNamedBy named line =
     ((word : List ℕ) × (named ≡ (line.word_number, word) ∷ []) × (command_named word ≡ Some line.command))
-    ⊎ ((named ≡ []) × (line.command ≡ Next) × (line.word_number ≡ 0))
+    ⊎ ((named ≡ []) × (line.command ≡ Tasks Next) × (line.word_number ≡ 0))
 
 -- each word given goes to one pile, and the piles are the words with their places, the overrides, the command's word and the first `--`
 pub record IsSorted (given : List (List ℕ)) (line : Parts) : Type 0 where

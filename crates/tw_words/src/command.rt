@@ -1,10 +1,21 @@
 // The commands: task(1), under "SUBCOMMANDS".
 ghost use Rattle.std.specs.Prelude.{◌≡◌};
-ghost use Rattle.tw_words.specs.Commands.{command_named, filtering_of, rest_of};
+ghost use Rattle.tw_words.specs.Commands.{command_named, form_over, filtering_of, rest_of};
 
 use tw_time::look_up;
 
 /// A command: task(1), under "READ SUBCOMMANDS", "WRITE SUBCOMMANDS" and "MISCELLANEOUS SUBCOMMANDS".
+#[derive(Clone, Copy, PartialEq, Eq, Drop)]
+pub enum AnyCommand {
+    /// One that has a plan over the tasks of a replica.
+    Tasks(Command),
+    /// Syncs with a server.
+    Sync,
+    /// Runs two replicas over memory with many tasks; no command of task(1).
+    Generate,
+}
+
+/// A command that has a plan over the tasks of a replica.
 #[derive(Clone, Copy, PartialEq, Eq, Drop)]
 pub enum Command {
     /// Adds a task.
@@ -35,8 +46,6 @@ pub enum Command {
     Duplicate,
     /// Takes the last group of operations back.
     Undo,
-    /// Syncs with a server.
-    Sync,
     /// Adds the tasks of a JSON text.
     Import,
     /// Prints how many tasks there are.
@@ -65,8 +74,6 @@ pub enum Command {
     Waiting,
     /// Reports blocked tasks.
     Blocked,
-    /// Runs two replicas over memory with many tasks; no command of task(1).
-    Generate,
 }
 
 /// Whether a command has a filter: task(1), under "FILTER".
@@ -98,42 +105,42 @@ pub enum Rest {
 }
 
 // The words of commands.
-const COMMANDS: [(&str, Command); 30] = [
-    ("add", Command::Add),
-    ("log", Command::Log),
-    ("modify", Command::Modify),
-    ("append", Command::Append),
-    ("prepend", Command::Prepend),
-    ("annotate", Command::Annotate),
-    ("denotate", Command::Denotate),
-    ("done", Command::Done),
-    ("delete", Command::Delete),
-    ("purge", Command::Purge),
-    ("start", Command::Start),
-    ("stop", Command::Stop),
-    ("duplicate", Command::Duplicate),
-    ("undo", Command::Undo),
-    ("sync", Command::Sync),
-    ("import", Command::Import),
-    ("count", Command::Count),
-    ("ids", Command::Ids),
-    ("uuids", Command::Uuids),
-    ("export", Command::Export),
-    ("information", Command::Information),
-    ("projects", Command::Projects),
-    ("tags", Command::Tags),
-    ("list", Command::List),
-    ("next", Command::Next),
-    ("all", Command::All),
-    ("completed", Command::Completed),
-    ("waiting", Command::Waiting),
-    ("blocked", Command::Blocked),
-    ("_generate", Command::Generate),
+const COMMANDS: [(&str, AnyCommand); 30] = [
+    ("add", AnyCommand::Tasks(Command::Add)),
+    ("log", AnyCommand::Tasks(Command::Log)),
+    ("modify", AnyCommand::Tasks(Command::Modify)),
+    ("append", AnyCommand::Tasks(Command::Append)),
+    ("prepend", AnyCommand::Tasks(Command::Prepend)),
+    ("annotate", AnyCommand::Tasks(Command::Annotate)),
+    ("denotate", AnyCommand::Tasks(Command::Denotate)),
+    ("done", AnyCommand::Tasks(Command::Done)),
+    ("delete", AnyCommand::Tasks(Command::Delete)),
+    ("purge", AnyCommand::Tasks(Command::Purge)),
+    ("start", AnyCommand::Tasks(Command::Start)),
+    ("stop", AnyCommand::Tasks(Command::Stop)),
+    ("duplicate", AnyCommand::Tasks(Command::Duplicate)),
+    ("undo", AnyCommand::Tasks(Command::Undo)),
+    ("import", AnyCommand::Tasks(Command::Import)),
+    ("count", AnyCommand::Tasks(Command::Count)),
+    ("ids", AnyCommand::Tasks(Command::Ids)),
+    ("uuids", AnyCommand::Tasks(Command::Uuids)),
+    ("export", AnyCommand::Tasks(Command::Export)),
+    ("information", AnyCommand::Tasks(Command::Information)),
+    ("projects", AnyCommand::Tasks(Command::Projects)),
+    ("tags", AnyCommand::Tasks(Command::Tags)),
+    ("list", AnyCommand::Tasks(Command::List)),
+    ("next", AnyCommand::Tasks(Command::Next)),
+    ("all", AnyCommand::Tasks(Command::All)),
+    ("completed", AnyCommand::Tasks(Command::Completed)),
+    ("waiting", AnyCommand::Tasks(Command::Waiting)),
+    ("blocked", AnyCommand::Tasks(Command::Blocked)),
+    ("sync", AnyCommand::Sync),
+    ("_generate", AnyCommand::Generate),
 ];
 
 /// The command that a word names.
 #[tactic(auto, unfolding(crate::specs::Commands::command_named))]
-pub(crate) fn command_named(word: &str) -> Option<Command>
+pub(crate) fn command_named(word: &str) -> Option<AnyCommand>
     ensures { result ≡ command_named word.now }
 {
     look_up(word.as_bytes(), &COMMANDS)
@@ -142,7 +149,7 @@ pub(crate) fn command_named(word: &str) -> Option<Command>
 impl Command {
     // Whether it has a filter, and what the words after it are.
     fn form(self) -> (Filtering, Rest)
-        ensures { result ≡ (filtering_of self, rest_of self) }
+        ensures { result ≡ ((form_over self).filtering, (form_over self).rest) }
     {
         match self {
             Command::Add | Command::Log => (Filtering::Nothing, Rest::Modifications),
@@ -153,7 +160,7 @@ impl Command {
             Command::Done | Command::Delete | Command::Purge | Command::Start | Command::Stop => {
                 (Filtering::Needed, Rest::Nothing)
             }
-            Command::Undo | Command::Sync => (Filtering::Nothing, Rest::Nothing),
+            Command::Undo => (Filtering::Nothing, Rest::Nothing),
             Command::Import => (Filtering::Nothing, Rest::Dash),
             Command::Count
             | Command::Ids
@@ -168,7 +175,19 @@ impl Command {
             | Command::Waiting
             | Command::Blocked => (Filtering::Free, Rest::Filter),
             Command::Information => (Filtering::Needed, Rest::Filter),
-            Command::Generate => (Filtering::Nothing, Rest::Numbers),
+        }
+    }
+}
+
+impl AnyCommand {
+    // Whether it has a filter, and what the words after it are.
+    fn form(self) -> (Filtering, Rest)
+        ensures { result ≡ (filtering_of self, rest_of self) }
+    {
+        match self {
+            AnyCommand::Tasks(command) => command.form(),
+            AnyCommand::Sync => (Filtering::Nothing, Rest::Nothing),
+            AnyCommand::Generate => (Filtering::Nothing, Rest::Numbers),
         }
     }
 

@@ -2,6 +2,7 @@
 ghost use Rattle.std.specs.Prelude.{◌≡◌, ◌<◌, map, string_bytes, option_copied};
 ghost use Rattle.tw_words.specs.Modifications.{first_of, text_fault};
 ghost use Rattle.tw_words.specs.Clocks.{clock_of};
+ghost use Rattle.tw_words.specs.declared.command.AnyCommand.TheVariants.{Tasks};
 ghost use Rattle.tw_words.specs.Commands.{filtering_of, rest_of};
 ghost use Rattle.tw_words.specs.Faults.{filter_fault, lacks_change, lacks_by, lacks_filter, at_command, lack_fault, at_rest, if_there};
 ghost use Rattle.tw_words.specs.Faults.{no_dash, no_amount, no_seed, extra_at, dash_fault, numbers_fault, text_rest_fault};
@@ -17,7 +18,7 @@ pub(crate) mod unnamed;
 
 use crate::changes::modification::number_at;
 use crate::clock::Clock;
-use crate::command::{Command, Filtering, Rest};
+use crate::command::{AnyCommand, Command, Filtering, Rest};
 use crate::judging::fault::{at_word, first_fault, text_fault, unless};
 use crate::judging::tally::{Tally, tally_of};
 use crate::line::{Line, cut_words};
@@ -48,14 +49,23 @@ fn filter_fault(line: &Line) -> Option<BadWord>
     }
 }
 
-fn lacks_change(command: Command, few: bool, tally: Tally) -> bool
-    ensures { result ≡ lacks_change command few tally }
+fn lacks_task_change(command: Command, few: bool, tally: Tally) -> bool
+    ensures { result ≡ lacks_change (Tasks command) few tally }
 {
     match command {
         Command::Add => tally.texts == 0 && !tally.described || tally.recurs && !tally.due,
         Command::Log => tally.texts == 0 && !tally.described,
         Command::Modify => few,
         _ => false,
+    }
+}
+
+fn lacks_change(command: AnyCommand, few: bool, tally: Tally) -> bool
+    ensures { result ≡ lacks_change command few tally }
+{
+    match command {
+        AnyCommand::Tasks(command) => lacks_task_change(command, few, tally),
+        AnyCommand::Sync | AnyCommand::Generate => false,
     }
 }
 

@@ -10,7 +10,6 @@ pub fn words_change_where_they_name_tasks()
 {}
 
 /// Each command has a word of its own, which names it and no other.
-#[tactic(auto, unfolding(crate::specs::Commands::command_named))]
 pub fn each_word_names_its_command()
     ensures { EachWordNamesItsCommand }
 {}

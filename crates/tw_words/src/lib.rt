@@ -14,7 +14,7 @@ mod word_error;
 
 pub use changes::changed;
 pub use clock::Clock;
-pub use command::{Command, Filtering, Rest};
+pub use command::{AnyCommand, Command, Filtering, Rest};
 pub use judging::unnamed::first_unnamed;
 pub use judging::{fault_of, judge_line, read_line};
 pub use line::{Line, cut_words};

@@ -6,7 +6,7 @@ ghost use Rattle.tw_words.specs.Lines.{with_word, taken_from, nothing, line_by, 
 
 pub(crate) mod taken;
 
-use crate::command::Command;
+use crate::command::AnyCommand;
 use crate::line::taken::Taken;
 use std::alloc::Global;
 use std::marker::Model;
@@ -16,7 +16,7 @@ use tw_world::{Memory, Text};
 /// The parts of a command line: task(1), under "SYNOPSIS". Overrides, the command's word and `--` are no words of it.
 pub struct Line {
     /// The command that the first such word before `--` names, and `next` if none does.
-    pub command: Command,
+    pub command: AnyCommand,
     /// The number of the command's word among the words taken, or 0 if there is none.
     pub word_number: u64,
     /// The words of the filter are those from here ..

@@ -4,7 +4,7 @@ use super::{NOW, halves, line_of, verdict, words_of};
 use std::alloc::Global;
 use std::test::Fail;
 use tw_time::Zone;
-use tw_words::{Command, Line, judge_line, read_line};
+use tw_words::{AnyCommand, Command, Line, judge_line, read_line};
 use tw_world::Memory;
 
 // Words with bars between them, and the first that is wrong: by its number, from 0, and its kind.
@@ -160,7 +160,7 @@ const PARTS: [(&str, Command, &str); 5] = [
 
 fn has_parts(alloc: Global, words: &str, command: Command, want: &str) -> Result<bool, Memory> {
     let line = line_of(alloc, words)?;
-    let begins = line.command == command && line.filter_from == 0;
+    let begins = line.command == AnyCommand::Tasks(command) && line.filter_from == 0;
     let ends = line.rest_from == line.filter_to;
     Ok(parts_of(alloc, &line)?.as_str() == want && begins && ends)
 }
@@ -179,6 +179,46 @@ fn other_parts(alloc: Global) -> Result<Option<&'static str>, Memory> {
 fn lines_have_their_parts(rt: HostRuntime) -> Result<(), Fail> {
     let alloc = rt.alloc();
     assert_eq!(rt; other_parts(alloc)?, None);
-    assert!(rt; line_of(alloc, "x|y")?.command == Command::Next);
+    let next = AnyCommand::Tasks(Command::Next);
+    assert!(rt; line_of(alloc, "x|y")?.command == next);
+    Ok(())
+}
+
+// Two hundred words, each with an override behind it.
+fn push_filter(alloc: Global, words: &mut Vec<String>) -> Result<(), Memory> {
+    for n in 0..200u64 {
+        words.push(format!(in alloc; "w{n}")?)?;
+        words.push(format!(in alloc; "rc.a:{n}")?)?;
+    }
+    Ok(())
+}
+
+// `modify` with a hundred words behind it.
+fn push_changes(alloc: Global, words: &mut Vec<String>) -> Result<(), Memory> {
+    words.push(String::from_str(alloc, "modify")?)?;
+    for n in 0..100u64 {
+        words.push(format!(in alloc; "x{n}")?)?;
+    }
+    Ok(())
+}
+
+fn is_at(line: &Line, n: usize, place: u64) -> bool {
+    line.word_numbers.get(n).copied() == Some(place)
+}
+
+// Whether a line of 501 words is read, with each word at its place.
+fn are_placed(alloc: Global) -> Result<bool, Fail> {
+    let mut words = Vec::new(alloc);
+    push_filter(alloc, &mut words)?;
+    push_changes(alloc, &mut words)?;
+    let line = read_line(alloc, &words).or(Err("no line"))?;
+    let counts = (line.words.len() == 300) & (line.overrides.len() == 200);
+    let filter = (line.filter_to == 200) & is_at(&line, 1, 2) & is_at(&line, 199, 398);
+    Ok(counts & filter & (line.word_number == 400) & is_at(&line, 299, 500))
+}
+
+#[test]
+fn words_by_the_hundred_have_their_places(rt: HostRuntime) -> Result<(), Fail> {
+    assert!(rt; are_placed(rt.alloc())?);
     Ok(())
 }

@@ -315,3 +315,26 @@ fn the_folder_is_found(rt: HostRuntime) -> Result<(), Fail> {
     assert_eq!(rt; other_folder(rt.alloc())?, None);
     Ok(())
 }
+
+// A thousand lines, of which this is the last.
+fn thousand(alloc: Global, last: &str) -> Result<Vec<u8>, Memory> {
+    let mut bytes = Vec::new(alloc);
+    for n in 1..1000u64 {
+        bytes.extend_from_slice(format!(in alloc; "name{n}=value{n}\n")?.as_bytes())?;
+    }
+    bytes.extend_from_slice(last.as_bytes())?;
+    Ok(bytes)
+}
+
+fn are_a_thousand(alloc: Global) -> Result<bool, Fail> {
+    let settings = settings_of(alloc, &thousand(alloc, "name1=again")?, "count")?;
+    let first = settings.get("name1") == Some("again");
+    let last = settings.get("name999") == Some("value999");
+    Ok(first & last & names_line_of(alloc, &thousand(alloc, "gc=maybe")?, "1000")?)
+}
+
+#[test]
+fn a_thousand_lines_are_read(rt: HostRuntime) -> Result<(), Fail> {
+    assert!(rt; are_a_thousand(rt.alloc())?);
+    Ok(())
+}

@@ -25,24 +25,24 @@ use std::alloc::Global;
 use tw_filter::View;
 use tw_model::{Change, TaskMap};
 use tw_replica::Replica;
-use tw_words::{Command, Line};
-use tw_world::{Memory, Moment};
+use tw_words::Command;
+use tw_world::Memory;
 use uuid::Uuid;
 
 // What a command that acts on selected tasks makes of one. The text is the rest of the line.
 fn effect_of(
     alloc: Global,
-    line: &Line,
+    request: &Request<'_>,
     text: &str,
-    now: Moment,
     view: &View<'_>,
     task: &TaskMap,
 ) -> Result<Effect, Memory>
-    requires { text.now ≡ rest_text line.now }
-    ensures { IfOk result (λ effect. effect ≡ spec.effect_by (scene_of view.entry.now) line.now now task.now) }
+    requires { text.now ≡ rest_text request.now.line }
+    ensures { IfOk result (λ effect. effect ≡ spec.effect_by request.now (scene_of view.entry.now) task.now) }
 {
-    match line.command {
-        Command::Modify => modify(alloc, line, view, task),
+    let now = request.at;
+    match request.command {
+        Command::Modify => modify(alloc, &request.line, view, task),
         Command::Append => append(alloc, text, task),
         Command::Prepend => prepend(alloc, text, task),
         Command::Annotate => annotate(alloc, now, text, task),
@@ -60,20 +60,19 @@ fn effect_of(
 fn change_one(
     alloc: Global,
     changes: &mut Vec<Change>,
-    line: &Line,
+    request: &Request<'_>,
     text: &str,
-    now: Moment,
     view: &View<'_>,
     uuid: Uuid,
 ) -> Result<(), Memory>
-    requires { text.now ≡ rest_text line.now }
+    requires { text.now ≡ rest_text request.now.line }
     ensures { let scene = scene_of view.entry.now in OnOk result (changes.new.items
-        ≡ changes.old.items ++ change_at (spec.effect_by scene line.now now) now uuid (map.get scene.tasks uuid)) }
+        ≡ changes.old.items ++ change_at (spec.effect_by request.now scene) request.now.at uuid (map.get scene.tasks uuid)) }
 {
     match view.tasks.get(uuid) {
         Some(task) => {
-            let effect = effect_of(alloc, line, text, now, view, task)?;
-            push_change(alloc, changes, now, uuid, task, effect)
+            let effect = effect_of(alloc, request, text, view, task)?;
+            push_change(alloc, changes, request.at, uuid, task, effect)
         }
         None => Ok(()),
     }
@@ -81,19 +80,18 @@ fn change_one(
 
 fn changes_by(
     alloc: Global,
-    line: &Line,
+    request: &Request<'_>,
     text: &str,
-    now: Moment,
     view: &View<'_>,
     rows: &Vec<Uuid>,
 ) -> Result<Vec<Change>, Memory>
-    requires { text.now ≡ rest_text line.now }
+    requires { text.now ≡ rest_text request.now.line }
     ensures { let scene = scene_of view.entry.now in IfOk result (λ changes. changes.items
-        ≡ changes_by (spec.effect_by scene line.now now) now scene.tasks rows.now.items) }
+        ≡ changes_by (spec.effect_by request.now scene) request.now.at scene.tasks rows.now.items) }
 {
     let mut changes = Vec::new(alloc);
     for uuid in rows {
-        change_one(alloc, &mut changes, line, text, now, view, *uuid)?;
+        change_one(alloc, &mut changes, request, text, view, *uuid)?;
     }
     Ok(changes)
 }
@@ -110,14 +108,7 @@ pub(crate) fn editing(
     let rows = selected(alloc, request, replica)?;
     let view = view_of(request, replica);
     let text = rest_text(alloc, &request.line)?;
-    let changes = changes_by(
-        alloc,
-        &request.line,
-        text.as_str(),
-        request.at,
-        &view,
-        &rows,
-    )?;
-    let marks = marks_of(alloc, request.line.command, replica.tasks(), &changes)?;
+    let changes = changes_by(alloc, request, text.as_str(), &view, &rows)?;
+    let marks = marks_of(alloc, request.command, replica.tasks(), &changes)?;
     Ok(acting(deed, changes, marks))
 }

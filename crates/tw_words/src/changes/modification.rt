@@ -1,8 +1,9 @@
 // Modification words: task(1), under "MODIFICATIONS".
 ghost use Rattle.std.specs.Prelude.{◌≡◌, ◌<◌, option_map};
 ghost use Rattle.tw_words.specs.Modifications.{is_text_rest, is_plain, is_add, tag_of, pair_of, number_at};
+ghost use Rattle.tw_words.specs.declared.command.AnyCommand.TheVariants.{Tasks};
 
-use crate::command::{Command, Rest};
+use crate::command::{AnyCommand, Command, Rest};
 use crate::line::Line;
 use tw_filter::{pair_in, tag_in};
 
@@ -23,13 +24,22 @@ pub(crate) fn is_plain(line: &Line, n: u64) -> bool
     is_text_rest(line.command.rest()) || line.plain_from <= n
 }
 
-/// Whether the command makes a task that may recur.
-pub(crate) fn is_add(command: Command) -> bool
-    ensures { result ≡ is_add command }
+fn adds(command: Command) -> bool
+    ensures { result ≡ is_add (Tasks command) }
 {
     match command {
         Command::Add => true,
         _ => false,
+    }
+}
+
+/// Whether the command makes a task that may recur.
+pub(crate) fn is_add(command: AnyCommand) -> bool
+    ensures { result ≡ is_add command }
+{
+    match command {
+        AnyCommand::Tasks(command) => adds(command),
+        AnyCommand::Sync | AnyCommand::Generate => false,
     }
 }
 

@@ -5,7 +5,7 @@ ghost use Rattle.tw_words.specs.Commands.{command_named};
 ghost use Rattle.tw_words.specs.Lines.{round_mark, override_in, first_command, taking, dashed, named, overriding, with_word, nothing};
 ghost use Rattle.tw_words.specs.Lines.{filter_end, line_with, line_by};
 
-use crate::command::{Command, Rest, command_named};
+use crate::command::{AnyCommand, Command, Rest, command_named};
 use crate::line::Line;
 use crate::settings::pair::parted_at_equals;
 use std::alloc::Global;
@@ -14,7 +14,7 @@ use tw_world::{Memory, Text};
 
 /// What is taken of a line.
 pub(crate) struct Taken {
-    command: Option<Command>,
+    command: Option<AnyCommand>,
     word_number: u64,
     before: u64,
     plain: Option<u64>,
@@ -89,7 +89,7 @@ fn override_in(word: &str) -> Option<(&str, &str)>
     }
 }
 
-fn first_command(command: Option<Command>, word: &str) -> Option<Command>
+fn first_command(command: Option<AnyCommand>, word: &str) -> Option<AnyCommand>
     ensures { result ≡ first_command command word.now }
 {
     match command {
@@ -139,7 +139,7 @@ impl Taken {
         self.plain = Some(self.words.len() as u64);
     }
 
-    fn name(&mut self, n: u64, command: Command)
+    fn name(&mut self, n: u64, command: AnyCommand)
         ensures { self.new ≡ named self.old n command }
     {
         self.command = Some(command);
@@ -186,7 +186,7 @@ impl Taken {
         } = self;
         let all = words.len() as u64;
         let (command, to) = match command {
-            None => (Command::Next, all),
+            None => (AnyCommand::Tasks(Command::Next), all),
             Some(command) => (command, filter_end(command.rest(), before, all)),
         };
         Line {

@@ -16,4 +16,4 @@ returns-in_err-filter c =
 pub returns : goal.returns
 returns c =
     line_taken c.args.words.now c.args.settings.now c.args.now c.args.zone c.in_ok-line.line c.as_slice.result.now c.line.inside.overrides.items c.in_ok-line.ensures c.as_slice.ensures.value (ap (λ (p : Parts). p.overrides) c.line.view_is)
-    c.in_ok-settings.settings c.in_ok-settings.ensures c.in_ok-filter.filter c.none.result c.job_by.result c.in_ok-filter.ensures c.none.ensures c.job_by.ensures
+    c.in_ok-settings.settings c.in_ok-settings.ensures c.in_ok-filter.filter c.job_by.result c.in_ok-filter.ensures c.job_by.ensures

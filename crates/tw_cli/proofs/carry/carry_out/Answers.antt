@@ -80,7 +80,7 @@ pub returns-in-Ok-write-clause-shows : goal.returns-in-Ok-write-clause-shows
 returns-in-Ok-write-clause-shows g c =
     taken_with g.D.Disk.model g.S.Source.model c.args.request c.args.disk.now c.args.input.now c.take_input.new.input c.command_of-command.result c.command_of-command.ensures c.with_input-request.result c.in-Ok-take_input.taken c.in-Ok-take_input.ensures.took c.with_input-request.ensures (λ (r : Request). (run : CarriedOut g.D.Disk.model r c.args.ids.now c.args.disk.now c.write.new.disk) × (c.in-Ok-Ok.ready.text.items ≡ run.carried.text))
     (shows_text g.D.Disk.model c.with_input-request.result c.args.ids.now c.args.disk.now c.open.new.disk c.in-Ok.replica c.in-Ok.ensures.opened c.write.new.disk c.in-Ok-Ok.ready
-    (ok_is (IsDecided c.with_input-request.result c.args.ids.now c.in-Ok.replica) c.in-Ok-Ok.field-0 c.in-Ok-Ok.ready c.in-Ok-Ok.field-0-is c.in-Ok-Ok.ensures.ready) c.in-Ok-write.replica c.in-Ok-write.ensures.state c.in-Ok-write.ensures.journal)
+    (ok_is (IsDecided c.with_input-request.result c.args.ids.now c.in-Ok.replica) c.in-Ok-Ok.field-0 c.in-Ok-Ok.ready c.in-Ok-Ok.field-0-is c.in-Ok-Ok.ensures.ready) c.in-Ok-write.replica c.in-Ok-write.ensures.state c.in-Ok-write.ensures.journal c.in-Ok-write.ensures.within)
 
 pub returns-in-Ok-write-clause-any_moment : goal.returns-in-Ok-write-clause-any_moment
 returns-in-Ok-write-clause-any_moment g c =

@@ -24,7 +24,7 @@ returns-in-Ok-clause-any_moment g c =
     let left : LeavesSync g.D.Disk.model g.L.Link.model c.args.server.now c.args.disk.now c.sync_with.new.disk c.args.link.now c.sync_with.new.link Done =
     subst (λ (r : Result SyncReport SyncFailure). LeavesSync g.D.Disk.model g.L.Link.model c.args.server.now c.args.disk.now c.sync_with.new.disk c.args.link.now c.sync_with.new.link (ended failure_cause r)) c.in-Ok.is c.sync_with.ensures.any_moment in
     at_end g.O.Sink.model c.args.out.now c.print.new.out c.as_bytes.result.now c.print.result
-    (LeavesSync g.D.Disk.model g.L.Link.model c.args.server.now c.args.disk.now c.sync_with.new.disk c.args.link.now c.sync_with.new.link) c.print.ensures (λ got. left) (λ part rose tells. let r = left tells in record { next = r.next; end = r.end; leaves = r.leaves })
+    (LeavesSync g.D.Disk.model g.L.Link.model c.args.server.now c.args.disk.now c.sync_with.new.disk c.args.link.now c.sync_with.new.link) c.print.ensures (λ got. left) (λ part rose tells. let r = left tells in record { next = r.next; made = r.made; end = r.end; leaves = r.leaves })
 
 pub returns-in-Err-clause-gives : goal.returns-in-Err-clause-gives
 returns-in-Err-clause-gives g c = failed_sync_gives g.D.Disk.model g.O.Sink.model g.L.Link.model c.args.server.now c.args.disk.now c.sync_with.new.disk c.args.out.now c.args.link.now c.sync_with.new.link c.in-Err.error c.from.result c.from.ensures c.in-Err.ensures.refused

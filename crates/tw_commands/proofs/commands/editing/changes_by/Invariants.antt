@@ -7,5 +7,5 @@ use Rattle.tw_commands.proofs.commands.editing.changes_by.Given as goal
 
 abbrev pub invariant-loop-uuid : goal.invariant-loop-uuid
 invariant-loop-uuid l =
-    l.changes.items ++ changes_by (effect_by (scene_of l.view) l.line l.now) l.now (scene_of l.view).tasks (drop l.uuid-index l.rows.items)
-    ≡ changes_by (effect_by (scene_of l.view) l.line l.now) l.now (scene_of l.view).tasks l.rows.items
+    l.changes.items ++ changes_by (effect_by l.request (scene_of l.view)) l.request.at (scene_of l.view).tasks (drop l.uuid-index l.rows.items)
+    ≡ changes_by (effect_by l.request (scene_of l.view)) l.request.at (scene_of l.view).tasks l.rows.items
