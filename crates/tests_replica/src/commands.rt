@@ -5,6 +5,7 @@ mod circles;
 mod imports;
 mod recurrence;
 mod reports;
+mod sizes;
 mod statuses;
 
 use std::alloc::Global;
@@ -14,7 +15,7 @@ use tw_filter::Filter;
 use tw_model::{Change, TaskMap, Tasks};
 use tw_replica::{Prepared, Replica};
 use tw_time::Zone;
-use tw_words::{Line, Settings, cut_words, judge_line, read_settings};
+use tw_words::{AnyCommand, Line, Settings, cut_words, judge_line, read_settings};
 use tw_world::{IdWords, Memory, MemoryDisk, Moment};
 use uuid::Uuid;
 
@@ -110,9 +111,13 @@ fn request_of<'a>(
     at: Moment,
     zone: &'a Zone,
 ) -> Result<Request<'a>, Fail> {
+    let AnyCommand::Tasks(command) = line.command else {
+        return Err(Fail::new("no command over tasks"));
+    };
     let filter = filter_of(alloc, &line, at, zone)?;
     let settings = settings_of(alloc, &line)?;
     Ok(Request {
+        command,
         line,
         filter,
         settings,

@@ -1,5 +1,5 @@
 //! Tests of a replica, of the commands over it, and of what they read and print: the public calls of tw_replica, tw_commands,
-//! tw_export, tw_import, tw_report and tw_generate.
+//! tw_export, tw_import, tw_report, tw_hooks and tw_generate.
 //! A module is named after the crate that it tests.
 #![tactic(auto)]
 
@@ -9,6 +9,8 @@ mod commands;
 mod export;
 #[cfg(test)]
 mod generate;
+#[cfg(test)]
+mod hooks;
 #[cfg(test)]
 mod import;
 #[cfg(test)]

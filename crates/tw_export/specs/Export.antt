@@ -134,14 +134,16 @@ abbrev pub annotations_tokens : TaskValue → List AnnotationRank → List Token
 annotations_tokens task [] = []
 annotations_tokens task (r ∷ rs) = key (codes "annotations") ∷ begin_array ∷ (flat_map (annotation_tokens task) (r ∷ rs) ++ end_array ∷ [])
 
-abbrev pub urgency_tokens : ℤ → List Token
-urgency_tokens z = key (codes "urgency") ∷ number (decimal3 z) ∷ []
+-- the urgency, if it is to be printed
+abbrev pub urgency_tokens : Option ℤ → List Token
+urgency_tokens None = []
+urgency_tokens (Some z) = key (codes "urgency") ∷ number (decimal3 z) ∷ []
 
 -- a member of the export's own: its name and its tokens, none if it is left out
 abbrev pub Own : Type 0
 Own = List ℕ × List Token
 
-unfoldable pub own_members : List ℕ → TaskValue → ℤ → List Own
+unfoldable pub own_members : List ℕ → TaskValue → Option ℤ → List Own
 own_members u task z =
     (codes "annotations", annotations_tokens task (with_annotations [] 0 (keys task)))
     ∷ (codes "depends", texts_tokens (codes "depends") dependency_of (entries task))
@@ -169,11 +171,11 @@ in_order task now own [] = own_tokens own
 in_order task now own (e ∷ es) = own_tokens (own_below e.0 own) ++ (property_tokens task now e ++ in_order task now (own_from e.0 own) es)
 
 -- the members of a task's object
-abbrev pub member_tokens : List ℕ → TaskValue → ℕ → ℤ → List Token
+abbrev pub member_tokens : List ℕ → TaskValue → ℕ → Option ℤ → List Token
 member_tokens u task now z = in_order task now (own_members u task z) (entries task)
 
--- a task of some urgency as compact JSON
-unfoldable pub task_text : List ℕ → TaskValue → ℕ → ℤ → List ℕ
+-- a task as compact JSON, with its urgency if that is to be printed
+unfoldable pub task_text : List ℕ → TaskValue → ℕ → Option ℤ → List ℕ
 task_text u task now z = print (begin_object ∷ (member_tokens u task now z ++ end_object ∷ []))
 
 -- ---- the whole text
@@ -190,7 +192,7 @@ lines (text ∷ texts) = text ++ more_lines texts
 
 -- the text of a task with its urgency
 abbrev pub entry_text : TasksValue → ℕ → Coefficients → List ℕ × TaskValue → List ℕ
-entry_text tasks now w e = task_text e.0 e.1 now (urgency tasks e.0 now w)
+entry_text tasks now w e = task_text e.0 e.1 now (Some (urgency tasks e.0 now w))
 
 -- the export of the rows
 abbrev pub export_text : List (List ℕ) → TasksValue → ℕ → Coefficients → List ℕ

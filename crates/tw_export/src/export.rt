@@ -1,10 +1,10 @@
 // The text of the chosen tasks.
-ghost use Rattle.std.specs.Prelude.{◌≡◌, ◌<◌, ◌++◌, List, ℕ, IfOk, codes, cond, []};
+ghost use Rattle.std.specs.Prelude.{◌≡◌, ◌<◌, ◌++◌, List, ℕ, None, IfOk, codes, cond, []};
 ghost use Rattle.std.specs.BTreeSet as set;
 ghost use Rattle.tw_model.specs.Maps.{bytes_cmp};
 ghost use Rattle.tw_urgency.specs.Dependencies.{blocking};
 ghost use Rattle.tw_urgency.specs.Urgency.{AreWeights, urgency};
-ghost use Rattle.tw_export.specs.Export.{export_text, entry_text};
+ghost use Rattle.tw_export.specs.Export.{export_text, entry_text, task_text};
 ghost use Rattle.tw_export.specs.Owns.{subject_text};
 
 use crate::members::{Subject, put_members};
@@ -59,6 +59,18 @@ pub fn export_text(
     Ok(text)
 }
 
+/// One task as compact JSON, without a newline: its object in the export without `urgency`. Hooks are given it.
+pub fn task_text(alloc: Global, uuid: Uuid, task: &TaskMap, now: Moment) -> Result<Vec<u8>, Memory>
+    ensures { IfOk result (λ text. text.items ≡ task_text uuid task.now now.seconds None) }
+{
+    let subject = Subject {
+        uuid,
+        task,
+        urgency: None,
+    };
+    put_task(alloc, Vec::new(alloc), &subject, now.seconds)
+}
+
 #[tactic(auto, unfolding(tw_urgency::specs::Urgency::urgency))]
 fn urgency_among(
     found: &BTreeSet<Uuid>,
@@ -96,7 +108,7 @@ fn with_entry(
     ensures { let entry = entry_text tasks.now second weights.now (uuid, task.now) in
         IfOk result (λ longer. longer.items ≡ text.items ++ (cond is_first [] (codes ",\n") ++ entry)) }
 {
-    let urgency = urgency_among(found, tasks, uuid, second, weights);
+    let urgency = Some(urgency_among(found, tasks, uuid, second, weights));
     let subject = Subject {
         uuid,
         task,

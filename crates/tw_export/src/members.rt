@@ -19,7 +19,8 @@ use uuid::Uuid;
 pub(crate) struct Subject<'a> {
     pub(crate) uuid: Uuid,
     pub(crate) task: &'a TaskMap,
-    pub(crate) urgency: i64,
+    /// What is printed under `urgency`, if anything.
+    pub(crate) urgency: Option<i64>,
 }
 
 /// Writes the members of a task's object, in byte order of their names.

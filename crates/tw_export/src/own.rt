@@ -74,10 +74,13 @@ fn put_thousandths(writer: &mut Writer, thousandths: i64) -> Result<(), Memory>
     Ok(())
 }
 
-fn put_urgency(writer: &mut Writer, urgency: i64) -> Result<(), Memory>
+fn put_urgency(writer: &mut Writer, urgency: Option<i64>) -> Result<(), Memory>
     ensures written { OnOk result (writer.new.tokens ≡ writer.old.tokens ++ urgency_tokens urgency) }
     ensures before { writer.new.before ≡ writer.old.before }
 {
+    let Some(urgency) = urgency else {
+        return Ok(());
+    };
     writer.key("urgency")?;
     put_thousandths(writer, urgency)
 }

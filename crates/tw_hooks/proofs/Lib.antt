@@ -1,0 +1,4 @@
+pub mod Leading
+pub mod Lines
+pub mod Reaching
+pub mod Sets
