@@ -1,8 +1,8 @@
 -- What stands before an interval that is placed, or behind it, stays.
 use Rattle.std.specs.Prelude.{not, ◌&&◌, Err}
-use Rattle.std.proofs.Common.{◌≡◌, ℕ, ◌+◌, ◌-◌, ◌≤◌, Bool, true, false, cond, List, [], ◌∷◌, ◌++◌, length, take, drop, Option, Some, None, Result, Ok, refl, sym, ap, subst, ◌∙◌, arith, append-nil, append_assoc, length-append}
+use Rattle.std.proofs.Common.{◌≡◌, ℕ, ◌+◌, ◌-◌, ◌<◌, ◌≤◌, Bool, true, false, cond, List, [], ◌∷◌, ◌++◌, length, get_or, take, drop, Option, Some, None, Result, Ok, refl, sym, ap, subst, ◌∙◌, arith, append-nil, append_assoc, length-append}
 use Rattle.std.proofs.Math.Seq.{take-append_seam, drop-append-add}
-use Rattle.std.proofs.lemmas.List.{take-append-drop, take-take, drop-drop, drop_all}
+use Rattle.std.proofs.lemmas.List.{take-append-drop, take-take, drop_all, drop_more}
 use Rattle.std.specs.List.{flat_map}
 use Rattle.std.proofs.lemmas.List.Concat.{flat_map-append}
 use Rattle.timew_store.specs.declared.interval.Interval.{Interval}
@@ -11,11 +11,12 @@ use Rattle.timew_store.specs.Interval.{overlaps}
 use Rattle.timew_store.specs.Placing.{front_of, back_of, left_outside, is_not_after, inserted, placed}
 use Rattle.timew_cmd.specs.declared.error.TimewError.{TimewError}
 use Rattle.timew_cmd.specs.declared.error.TimewError.TheVariants as plan
-use Rattle.timew_cmd.specs.Placing.{AllBefore, AllBehind}
+use Rattle.timew_cmd.specs.Placing.{stands_before, stands_behind, AllBefore, AllBehind}
 use Rattle.timew_cmd.specs.Numbers.{numbered, without, rows_in}
 use Rattle.timew_cmd.specs.Placing.{overlapped, later_of, unless_overlapped, place}
 use Rattle.timew_cmd.specs.Planned.{Fails}
 use Rattle.timew_cmd.proofs.AllRows.{all_rows}
+use Rattle.timew_store.proofs.MonthTexts.{all_take_more}
 
 -- the two tests of one on a side
 both : (a b : Bool) → (not a && b) ≡ true → (a ≡ false) × (b ≡ true)
@@ -65,6 +66,17 @@ placed_behind new rows back all =
     ap (inserted new) (flat_map-append (left_outside new) rows back ∙ ap (λ (l : List Interval). flat_map (left_outside new) rows ++ l) (outside_behind new back all))
     ∙ inserted_behind new (flat_map (left_outside new) rows) back all
 
+-- ---- one row more on a side
+
+pub before_more : (new : Interval) (rows : List Interval) (count : ℕ) (r : Interval) → count < length rows → r ≡ get_or rows count r → stands_before new r ≡ true → AllBefore new (take count rows) → AllBefore new (take (count + 1) rows)
+before_more new rows count r less here test all = all_take_more (λ (x : Interval). stands_before new x ≡ true) rows count r less here all test
+
+pub behind_more : (new : Interval) (rows : List Interval) (at : ℕ) (r : Interval) → 0 < at → at ≤ length rows → r ≡ get_or rows (at - 1) r → stands_behind new r ≡ true → AllBehind new (drop at rows) → AllBehind new (drop (at - 1) rows)
+behind_more new rows at r some inside here test all =
+    let back : at ≡ at - 1 + 1 = omega (arith, some) in
+    subst (AllBehind new) (sym (drop_more rows (at - 1) r (omega (arith, some, inside)) ∙ ap (λ (x : Interval). x ∷ drop (at - 1 + 1) rows) (sym here)))
+    (test, subst (λ (n : ℕ). AllBehind new (drop n rows)) back all)
+
 -- one that is placed between rows that stay
 pub placed_within : (new : Interval) (front rows back : List Interval) → AllBefore new front → AllBehind new back → placed new (front ++ (rows ++ back)) ≡ front ++ (placed new rows ++ back)
 placed_within new front rows back before behind = placed_before new front (rows ++ back) before ∙ ap (λ (l : List Interval). front ++ l) (placed_behind new rows back behind)
@@ -112,13 +124,6 @@ front_is front rows last is = ap (take (length front)) is ∙ take-append_seam f
 
 pub has_last : (front rows : List Interval) (last : Interval) → rows ≡ front ++ last ∷ [] → length front + 1 ≡ length rows
 has_last front rows last is = sym (length-append front (last ∷ [])) ∙ ap (λ (l : List Interval). length l) (sym is)
-
--- one that is placed among those that do not stay on a side
-pub within_edit : (new : Interval) (rows : List Interval) (n k : ℕ) → AllBefore new (take n rows) → AllBehind new (drop k (drop n rows)) → spliced n k (placed new (take k (drop n rows))) rows ≡ placed new rows
-within_edit new rows n k before behind =
-    ap (λ (l : List Interval). take n rows ++ (placed new (take k (drop n rows)) ++ l)) (sym (drop-drop k n rows))
-    ∙ sym (placed_within new (take n rows) (take k (drop n rows)) (drop k (drop n rows)) before behind)
-    ∙ ap (placed new) (ap (λ (l : List Interval). take n rows ++ l) (take-append-drop k (drop n rows)) ∙ take-append-drop n rows)
 
 apart : (rows last : List Interval) (at : ℕ) → rows ++ last ≡ take at rows ++ (drop at rows ++ last)
 apart rows last at = ap (λ (l : List Interval). l ++ last) (sym (take-append-drop at rows)) ∙ append_assoc (take at rows) (drop at rows) last

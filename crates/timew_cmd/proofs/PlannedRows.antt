@@ -40,16 +40,16 @@ is_ok : {A : Type 0} (a b : A) → ◌≡◌ {A = Result A TimewError} (Ok a) (O
 is_ok a b e = cc
 
 -- what comes first is Ok, and then the rest
-and_then : {A B : Type 0} (first : Result A TimewError) (rest : A → Result B TimewError) (end : B) (P : Type 0) → (first >>= rest) ≡ Ok end → ((x : A) → first ≡ Ok x → rest x ≡ Ok end → P) → P
+pub and_then : {A B : Type 0} (first : Result A TimewError) (rest : A → Result B TimewError) (end : B) (P : Type 0) → (first >>= rest) ≡ Ok end → ((x : A) → first ≡ Ok x → rest x ≡ Ok end → P) → P
 and_then (Err e) rest end P is later = absurd (cc)
 and_then (Ok x) rest end P is later = later x refl is
 
 -- the test fails, and then the rest
-if_not : {A : Type 0} (b : Bool) (e : TimewError) (rest : Result A TimewError) (end : A) → cond b (Err e) rest ≡ Ok end → (b ≡ false) × (rest ≡ Ok end)
+pub if_not : {A : Type 0} (b : Bool) (e : TimewError) (rest : Result A TimewError) (end : A) → cond b (Err e) rest ≡ Ok end → (b ≡ false) × (rest ≡ Ok end)
 if_not true e rest end is = absurd (cc)
 if_not false e rest end is = (refl, is)
 
-if_so : {A : Type 0} (b : Bool) (e : TimewError) (rest : Result A TimewError) (end : A) → cond b rest (Err e) ≡ Ok end → (b ≡ true) × (rest ≡ Ok end)
+pub if_so : {A : Type 0} (b : Bool) (e : TimewError) (rest : Result A TimewError) (end : A) → cond b rest (Err e) ≡ Ok end → (b ≡ true) × (rest ≡ Ok end)
 if_so true e rest end is = (refl, is)
 if_so false e rest end is = absurd (cc)
 

@@ -4,6 +4,7 @@ pub mod Cancel
 pub mod Continue
 pub mod Delete
 pub mod Export
+pub mod Hours
 pub mod Join
 pub mod Lengthen
 pub mod Move

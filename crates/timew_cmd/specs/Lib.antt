@@ -11,5 +11,6 @@ pub mod Replacing
 pub mod Labels
 pub mod Commands
 pub mod Planned
+pub mod Seconds
 pub mod Reading
 pub mod Texts

@@ -4,6 +4,7 @@ use Rattle.std.specs.Prelude.{ℕ, List, [], ◌∷◌, codes, Bool, true, false
 use Rattle.timew_cmd.specs.Commands.Export.{export}
 use Rattle.timew_cmd.specs.Commands.Split.{split}
 use Rattle.timew_cmd.specs.Commands.Summary.{summary}
+use Rattle.timew_cmd.specs.declared.command.TimeReport.TheVariants.{Gaps, Days, Weeks, Totals}
 use Rattle.timew_cmd.specs.declared.name.Name.{Name}
 
 abbrev pub names : List (List ℕ × Name)
@@ -14,6 +15,7 @@ names =
     ∷ (codes "delete", name.Delete) ∷ (codes "split", name.Split) ∷ (codes "join", name.Join)
     ∷ (codes "move", name.Move) ∷ (codes "lengthen", name.Lengthen) ∷ (codes "shorten", name.Shorten)
     ∷ (codes "undo", name.Undo) ∷ (codes "export", name.Export) ∷ (codes "summary", name.Summary)
+    ∷ (codes "gaps", name.Hours Gaps) ∷ (codes "days", name.Hours Days) ∷ (codes "weeks", name.Hours Weeks) ∷ (codes "totals", name.Hours Totals)
     ∷ []
 
 -- the command places an interval, so that `:adjust` is no part of it, wherever it is

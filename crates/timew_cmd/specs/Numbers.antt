@@ -1,6 +1,6 @@
 -- Rows by their numbers, which count from the last one, from 1.
 use Rattle.std.specs.List.{list_any}
-use Rattle.std.specs.Prelude.{ℕ, List, [], ◌∷◌, Bool, Option, Some, None, ◌+◌, ◌==◌, Result, Ok, Err, if◌then◌else◌, nat_lt, map, filter, not, drop, length}
+use Rattle.std.specs.Prelude.{ℕ, List, [], ◌∷◌, Bool, false, Option, Some, None, ◌≡◌, ◌<◌, ◌≤◌, ◌+◌, ◌-◌, ◌==◌, Result, Ok, Err, if◌then◌else◌, nat_lt, map, filter, not, drop, length}
 use Rattle.timew_store.specs.Interval.{by_id}
 use Rattle.timew_store.specs.declared.interval.Interval.{Interval}
 use Rattle.timew_cmd.specs.declared.error.TimewError.{TimewError}
@@ -19,6 +19,17 @@ from_place k rows = numbered (drop k rows)
 
 abbrev pub is_among : List ℕ → ℕ → Bool
 is_among ids id = list_any (λ n. n == id) ids
+
+-- none of these is above the one number and not above the other
+abbrev pub NoneAmong : List ℕ → ℕ → ℕ → Type 0
+NoneAmong ids low high = (n : ℕ) → low < n → n ≤ high → is_among ids n ≡ false
+
+-- of so many rows only those from an index up to another have some of these numbers
+pub record IsWindow (ids : List ℕ) (count at end : ℕ) : Type 0 where
+  pub order : at ≤ end
+  pub inside : end ≤ count
+  pub front : NoneAmong ids (count - at) count
+  pub back : NoneAmong ids 0 (count - end)
 
 -- the rows without those of these numbers
 abbrev pub without : List ℕ → Numbered → Numbered

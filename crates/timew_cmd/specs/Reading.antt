@@ -7,6 +7,7 @@ use Rattle.timew_cmd.specs.Commands.Annotate.{annotate_in}
 use Rattle.timew_cmd.specs.Commands.Continue.{continue_in}
 use Rattle.timew_cmd.specs.Commands.Delete.{delete_in}
 use Rattle.timew_cmd.specs.Commands.Export.{export_in}
+use Rattle.timew_cmd.specs.Commands.Hours.{hours_in}
 use Rattle.timew_cmd.specs.Commands.Join.{join_in}
 use Rattle.timew_cmd.specs.Commands.Lengthen.{lengthen_in}
 use Rattle.timew_cmd.specs.Commands.Move.{move_in}
@@ -49,6 +50,7 @@ command_by name.Shorten adjust now zone words = shorten_in adjust words
 command_by name.Undo adjust now zone words = ended Undo words
 command_by name.Export adjust now zone words = export_in now zone words
 command_by name.Summary adjust now zone words = summary_in now zone words
+command_by (name.Hours report) adjust now zone words = hours_in report now zone words
 
 abbrev pub command_named : Option Name → (now : ℕ) → TimeZone → Words → Result Command BadWord
 command_named None now zone words = refused 0 Value

@@ -134,6 +134,19 @@ impl Drop for Changing {
     }
 }
 
+/// A report of hours, which is about a range.
+#[derive(Clone, Copy, Drop)]
+pub enum TimeReport {
+    /// The stretches in which nothing is tracked.
+    Gaps,
+    /// The tracked time of each day.
+    Days,
+    /// The tracked time of each week, under its Monday.
+    Weeks,
+    /// The tracked time of each tag.
+    Totals,
+}
+
 /// A command that only shows.
 #[derive(Clone, Copy, Drop)]
 pub enum Showing {
@@ -143,6 +156,8 @@ pub enum Showing {
     Export(Range),
     /// The intervals as a table.
     Summary(Range),
+    /// Sums of their time.
+    Hours(TimeReport, Range),
 }
 
 /// A command.

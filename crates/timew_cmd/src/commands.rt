@@ -4,6 +4,7 @@ pub mod cancel;
 pub mod continue_;
 pub mod delete;
 pub mod export;
+pub mod hours;
 pub mod join;
 pub mod lengthen;
 pub mod move_to;

@@ -1,20 +1,22 @@
 // Tags and annotations of intervals.
-ghost use Rattle.std.specs.Prelude.{[], ◌∷◌, Ok, ◌≡◌, IfOk};
+ghost use Rattle.std.specs.Prelude.{[], ◌∷◌, ◌++◌, ◌+◌, ◌≤◌, length, drop, Ok, ◌≡◌, IfOk};
+ghost use Rattle.timew_store.specs.Edit.{edited};
 ghost use Rattle.timew_cmd.specs.Given.{AreTags};
 ghost use Rattle.timew_cmd.specs.Labels.{tagging_in, targets, each_of, with_tags, without_tags, with_annotation, with_label, labelled};
 ghost use Rattle.timew_cmd.specs.Parts.{words_of};
 ghost use Rattle.timew_cmd.specs.Planned.{Answers};
 ghost use Rattle.timew_cmd.specs.Reading.{Gives};
 
+use crate::chosen::Chosen;
 use crate::command::Tagging;
 use crate::error::{TimewError, WordsError};
-use crate::numbers::{checked, is_among};
+use crate::numbers::checked;
 use crate::open::open_of;
 use crate::parts::{ids_in, leading_ids, some_tags};
 use crate::rows::copy_row;
 use crate::word::Word;
 use std::alloc::Global;
-use timew_store::{Interval, Texts};
+use timew_store::{Edit, Interval, Texts};
 use tw_world::{Memory, Text};
 
 /// What becomes of the tags or the annotation of an interval.
@@ -111,33 +113,55 @@ fn with_label(alloc: Global, label: Label, row: &Interval) -> Result<Interval, M
     }
 }
 
-fn label_each(
+// The rows from an index up to another, those of these numbers with a label.
+fn label_within(
     alloc: Global,
-    ids: &[u64],
+    ids: &Chosen,
     label: Label,
     rows: &[Interval],
+    at: usize,
+    end: usize,
 ) -> Result<Vec<Interval>, Memory>
-    ensures { IfOk result (λ v. v.items ≡ each_of ids.now (with_label label.entry) rows.now) }
+    requires order { at ≤ end }
+    requires inside { end ≤ length rows.now }
+    ensures { IfOk result (λ v. v.items ++ each_of ids.now.given.now (with_label label.entry) (drop end rows.now)
+        ≡ each_of ids.now.given.now (with_label label.entry) (drop at rows.now)) }
 {
-    let mut out = Vec::with_capacity(alloc, rows.len())?;
-    for (k, row) in rows.iter().enumerate() {
-        if is_among(ids, (rows.len() - k) as u64) {
-            out.push(with_label(alloc, label, row)?)?;
+    let mut out = Vec::with_capacity(alloc, end - at)?;
+    for k in at..end {
+        if ids.has((rows.len() - k) as u64) {
+            out.push(with_label(alloc, label, &rows[k])?)?;
         } else {
-            out.push(copy_row(alloc, row)?)?;
+            out.push(copy_row(alloc, &rows[k])?)?;
         }
     }
     Ok(out)
 }
 
-/// The rows with a label at those of these numbers, or without a number at the open one.
+// The edit that gives the rows of these numbers a label.
+fn label_each(alloc: Global, ids: &[u64], label: Label, rows: &[Interval]) -> Result<Edit, Memory>
+    ensures labelled { IfOk result (λ e. edited e rows.now ≡ each_of ids.now (with_label label.entry) rows.now) }
+    ensures inside { IfOk result (λ e. e.at + e.count ≤ length rows.now) }
+{
+    let chosen = Chosen::of(alloc, ids)?;
+    let (at, end) = chosen.window(rows.len());
+    let out = label_within(alloc, &chosen, label, rows, at, end)?;
+    Ok(Edit {
+        at,
+        count: end - at,
+        rows: out,
+    })
+}
+
+/// The edit that gives the rows of these numbers a label, or without a number the open one.
 pub fn labelled(
     alloc: Global,
     ids: &[u64],
     label: Label,
     rows: &[Interval],
-) -> Result<Vec<Interval>, TimewError>
-    ensures { Answers (λ v. v.items) result (labelled ids.now label.entry rows.now) }
+) -> Result<Edit, TimewError>
+    ensures labelled { Answers (λ e. edited e rows.now) result (labelled ids.now label.entry rows.now) }
+    ensures inside { IfOk result (λ e. e.at + e.count ≤ length rows.now) }
 {
     let those = targets(alloc, ids, rows)?;
     Ok(label_each(alloc, &those, label, rows)?)

@@ -3,6 +3,7 @@
 //! It stands on timew_store (intervals) and tw_time (lengths of time).
 #![tactic(auto)]
 
+mod chosen;
 mod command;
 mod commands;
 mod error;
@@ -26,7 +27,8 @@ mod texts;
 mod word;
 
 pub use command::{
-    Annotate, Changing, Command, Continue, Join, Move, Resize, Showing, Start, Stop, Tagging, Track,
+    Annotate, Changing, Command, Continue, Join, Move, Resize, Showing, Start, Stop, Tagging,
+    TimeReport, Track,
 };
 pub use commands::export::export_text;
 pub use commands::show::tracking_text;
@@ -34,5 +36,6 @@ pub use commands::summary::summary_text;
 pub use error::{BadWord, TimewError, WordKind, WordsError};
 pub use ids::Ids;
 pub use planning::plan;
-pub use range::Range;
+pub use range::{Range, measured, seconds_within, total, word_or};
 pub use reading::read_words;
+pub use texts::{length_text, shown_text};

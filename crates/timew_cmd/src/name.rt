@@ -3,6 +3,7 @@ ghost use Rattle.std.specs.Prelude.{◌≡◌};
 ghost use Rattle.tw_time.specs.Tables.{look_up};
 ghost use Rattle.timew_cmd.specs.Names.{names, places};
 
+use crate::command::TimeReport;
 use tw_time::look_up;
 
 /// A command of timew(1), by its name.
@@ -25,9 +26,10 @@ pub enum Name {
     Undo,
     Export,
     Summary,
+    Hours(TimeReport),
 }
 
-const NAMES: [(&str, Name); 17] = [
+const NAMES: [(&str, Name); 21] = [
     ("start", Name::Start),
     ("stop", Name::Stop),
     ("cancel", Name::Cancel),
@@ -45,6 +47,10 @@ const NAMES: [(&str, Name); 17] = [
     ("undo", Name::Undo),
     ("export", Name::Export),
     ("summary", Name::Summary),
+    ("gaps", Name::Hours(TimeReport::Gaps)),
+    ("days", Name::Hours(TimeReport::Days)),
+    ("weeks", Name::Hours(TimeReport::Weeks)),
+    ("totals", Name::Hours(TimeReport::Totals)),
 ];
 
 /// The command that a word names.
@@ -76,7 +82,8 @@ impl Name {
             | Name::Split
             | Name::Undo
             | Name::Export
-            | Name::Summary => false,
+            | Name::Summary
+            | Name::Hours(_) => false,
         }
     }
 }

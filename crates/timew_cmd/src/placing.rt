@@ -3,13 +3,14 @@ ghost use Rattle.std.specs.List.{insert as insert_at};
 ghost use Rattle.std.specs.Prelude.{[], ◌+◌, length, ◌++◌, ◌≡◌, take, IfOk, ◌≤◌};
 ghost use Rattle.timew_store.specs.Edit.{edited};
 ghost use Rattle.timew_store.specs.Placing.{placed, inserted};
-ghost use Rattle.timew_cmd.specs.Numbers.{numbered, without};
-ghost use Rattle.timew_cmd.specs.Placing.{overlapped, place};
+ghost use Rattle.timew_cmd.specs.Numbers.{numbered, without, rows_in};
+ghost use Rattle.timew_cmd.specs.Placing.{AllBefore, overlapped, place};
 ghost use Rattle.timew_cmd.specs.Planned.{Answers};
 
+use crate::chosen::Chosen;
 use crate::error::TimewError;
-use crate::neighbours::{count_before, count_behind};
-use crate::numbers::{is_among, rows_without};
+use crate::neighbours::{count_before, first_behind};
+use crate::numbers::others_within;
 use crate::outside::all_outside;
 use crate::rows::{copy_rows, overlaps};
 use std::alloc::Global;
@@ -47,71 +48,73 @@ pub fn placed(alloc: Global, new: Interval, rows: Vec<Interval>) -> Result<Vec<I
 }
 
 // The number of the last row that overlaps an interval, among those without these numbers.
-fn overlapped(rows: &[Interval], ids: &[u64], new: &Interval) -> Option<u64>
-    ensures { result ≡ overlapped new.now (without ids.now (numbered rows.now)) }
+fn overlapped(rows: &[Interval], ids: &Chosen, new: &Interval) -> Option<u64>
+    ensures { result ≡ overlapped new.now (without ids.now.given.now (numbered rows.now)) }
 {
     let mut found = None;
     for (k, row) in rows.iter().enumerate() {
         let id = (rows.len() - k) as u64;
-        if !is_among(ids, id) && overlaps(row, new) {
+        if !ids.has(id) && overlaps(row, new) {
             found = Some(id);
         }
     }
     found
 }
 
-/// The rows without those of these numbers, and with an interval placed among them. If none overlaps it, the others stay whole.
+// Places an interval among the rows without those of these numbers: the others that share no second with it stay.
+fn placed_edit(
+    alloc: Global,
+    new: Interval,
+    rows: &[Interval],
+    ids: &Chosen,
+) -> Result<Edit, Memory>
+    ensures placed { IfOk result (λ e. edited e rows.now ≡ placed new (rows_in (without ids.now.given.now (numbered rows.now)))) }
+    ensures inside { IfOk result (λ e. e.at + e.count ≤ length rows.now) }
+{
+    let at = count_before(&new, rows, ids);
+    let end = first_behind(&new, rows, ids, at);
+    let others = others_within(alloc, rows, ids, at, end)?;
+    let out = placed(alloc, new, others)?;
+    Ok(Edit {
+        at,
+        count: end - at,
+        rows: out,
+    })
+}
+
+// The same, unless it overlaps one of the others and may not push it aside.
+fn place_without(
+    alloc: Global,
+    adjust: bool,
+    new: Interval,
+    rows: &[Interval],
+    ids: &Chosen,
+) -> Result<Edit, TimewError>
+    ensures placed { Answers (λ e. edited e rows.now) result (place adjust new ids.now.given.now rows.now) }
+    ensures inside { IfOk result (λ e. e.at + e.count ≤ length rows.now) }
+{
+    if adjust {
+        return Ok(placed_edit(alloc, new, rows, ids)?);
+    }
+    if let Some(id) = overlapped(rows, ids, &new) {
+        return Err(TimewError::Overlap { id });
+    }
+    Ok(placed_edit(alloc, new, rows, ids)?)
+}
+
+/// The edit that places an interval among the rows without those of these numbers.
 pub fn place(
     alloc: Global,
     adjust: bool,
     new: Interval,
     rows: &[Interval],
     ids: &[u64],
-) -> Result<Vec<Interval>, TimewError>
-    ensures { Answers (λ v. v.items) result (place adjust new ids.now rows.now) }
-{
-    if adjust {
-        let others = rows_without(alloc, rows, ids)?;
-        return Ok(placed(alloc, new, others)?);
-    }
-    if let Some(id) = overlapped(rows, ids, &new) {
-        return Err(TimewError::Overlap { id });
-    }
-    let others = rows_without(alloc, rows, ids)?;
-    Ok(inserted(new, others)?)
-}
-
-// Places an interval among the rows: those before it or after it that share no second with it stay.
-fn placed_edit(alloc: Global, new: Interval, rows: &[Interval]) -> Result<Edit, Memory>
-    ensures placed { IfOk result (λ e. edited e rows.now ≡ placed new rows.now) }
-    ensures inside { IfOk result (λ e. e.at + e.count ≤ length rows.now) }
-{
-    let at = count_before(&new, rows);
-    let (_, rest) = rows.split_at(at);
-    let count = rest.len() - count_behind(&new, rest);
-    let (within, _) = rest.split_at(count);
-    let rows = placed(alloc, new, copy_rows(alloc, within)?)?;
-    Ok(Edit { at, count, rows })
-}
-
-/// The edit that places an interval among the rows.
-#[tactic(auto, using(crate::proofs::AllRows::all_rows))]
-pub fn place_within(
-    alloc: Global,
-    adjust: bool,
-    new: Interval,
-    rows: &[Interval],
 ) -> Result<Edit, TimewError>
-    ensures placed { Answers (λ e. edited e rows.now) result (place adjust new [] rows.now) }
+    ensures placed { Answers (λ e. edited e rows.now) result (place adjust new ids.now rows.now) }
     ensures inside { IfOk result (λ e. e.at + e.count ≤ length rows.now) }
 {
-    if adjust {
-        return Ok(placed_edit(alloc, new, rows)?);
-    }
-    if let Some(id) = overlapped(rows, &[], &new) {
-        return Err(TimewError::Overlap { id });
-    }
-    Ok(placed_edit(alloc, new, rows)?)
+    let chosen = Chosen::of(alloc, ids)?;
+    place_without(alloc, adjust, new, rows, &chosen)
 }
 
 // Rows, and others after them.
@@ -122,6 +125,15 @@ fn with_last(alloc: Global, rows: &[Interval], last: Vec<Interval>) -> Result<Ve
     let mut last = last;
     all.append(&mut last)?;
     Ok(all)
+}
+
+// How many rows at the front are before an interval and share no second with it.
+fn count_in_front(alloc: Global, new: &Interval, rows: &[Interval]) -> Result<usize, Memory>
+    ensures inside { IfOk result (λ at. at ≤ length rows.now) }
+    ensures before { IfOk result (λ at. AllBefore new.now (take at rows.now)) }
+{
+    let none = Chosen::of(alloc, &[])?;
+    Ok(count_before(new, rows, &none))
 }
 
 /// Places an interval among the first so many rows and these others after them. The rows before it stay.
@@ -138,7 +150,7 @@ pub fn place_behind(
     ensures inside { IfOk result (λ e. e.at + e.count ≤ length rows.now) }
 {
     let (front, _) = rows.split_at(kept);
-    let at = count_before(&new, front);
+    let at = count_in_front(alloc, &new, front)?;
     let (_, late) = front.split_at(at);
     let late = with_last(alloc, late, last)?;
     match place_among(alloc, adjust, new, late) {
@@ -164,7 +176,8 @@ pub fn place_among(
     if adjust {
         return Ok(placed(alloc, new, rows)?);
     }
-    if let Some(id) = overlapped(&rows, &[], &new) {
+    let none = Chosen::of(alloc, &[])?;
+    if let Some(id) = overlapped(&rows, &none, &new) {
         return Err(TimewError::Overlap { id });
     }
     Ok(inserted(new, rows)?)

@@ -1,11 +1,9 @@
 // The intervals after a command.
-ghost use Rattle.std.specs.Prelude.{List, ◌+◌, Result, length, ◌<◌, IfOk, ◌≤◌};
+ghost use Rattle.std.specs.Prelude.{◌+◌, length, ◌<◌, IfOk, ◌≤◌};
 ghost use Rattle.timew_store.specs.Edit.{edited, IsEditOf};
 ghost use Rattle.timew_store.specs.Interval.{limit, AreRows};
-ghost use Rattle.timew_store.specs.declared.interval.Interval.{Interval};
 ghost use Rattle.timew_cmd.specs.Given.{IsGivenChange};
 ghost use Rattle.timew_cmd.specs.Planned.{planned, Answers};
-ghost use Rattle.timew_cmd.specs.declared.error.TimewError.{TimewError};
 
 use crate::command::Changing;
 use crate::commands::annotate::annotate;
@@ -60,25 +58,14 @@ fn plan_rows(
         Changing::Cancel => cancel(alloc, rows),
         Changing::Continue(parts) => go_on(alloc, parts, rows, now),
         Changing::Track(parts) => track(alloc, parts, rows),
-        Changing::Tag(parts) => whole(rows, tag(alloc, parts, rows)),
-        Changing::Untag(parts) => whole(rows, untag(alloc, parts, rows)),
-        Changing::Annotate(parts) => whole(rows, annotate(alloc, parts, rows)),
-        Changing::Delete(ids) => whole(rows, delete(alloc, ids.as_slice(), rows)),
-        Changing::Split(ids) => whole(rows, split(alloc, ids.as_slice(), rows, now)),
-        Changing::Join(parts) => whole(rows, join(alloc, parts, rows)),
-        Changing::Move(parts) => whole(rows, move_to(alloc, parts, rows)),
-        Changing::Lengthen(parts) => whole(rows, lengthen(alloc, parts, rows)),
-        Changing::Shorten(parts) => whole(rows, shorten(alloc, parts, rows)),
-    }
-}
-
-// The edit that makes the rows that were answered of the ones before.
-fn whole(rows: &[Interval], next: Result<Vec<Interval>, TimewError>) -> Result<Edit, TimewError>
-    ensures next { (planned : Result (List Interval) TimewError) → Answers (λ v. v.items) next planned → Answers (λ e. edited e rows.now) result planned }
-    ensures inside { IfOk result (λ e. e.at + e.count ≤ length rows.now) }
-{
-    match next {
-        Ok(next) => Ok(Edit::between(rows, next)?),
-        Err(error) => Err(error),
+        Changing::Tag(parts) => tag(alloc, parts, rows),
+        Changing::Untag(parts) => untag(alloc, parts, rows),
+        Changing::Annotate(parts) => annotate(alloc, parts, rows),
+        Changing::Delete(ids) => delete(alloc, ids.as_slice(), rows),
+        Changing::Split(ids) => split(alloc, ids.as_slice(), rows, now),
+        Changing::Join(parts) => join(alloc, parts, rows),
+        Changing::Move(parts) => move_to(alloc, parts, rows),
+        Changing::Lengthen(parts) => lengthen(alloc, parts, rows),
+        Changing::Shorten(parts) => shorten(alloc, parts, rows),
     }
 }

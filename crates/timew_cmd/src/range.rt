@@ -18,10 +18,11 @@ pub enum Range {
     Between(u64, u64),
 }
 
-// The moment of a word, or another if it is out of range.
-fn word_or(word: &str, other: u64, now: u64, zone: &Zone) -> u64
+/// The moment of a word, or another if it is out of range. Both are in seconds since 1970.
+pub fn word_or(word: &str, other: u64, now: u64, zone: &Zone) -> u64
     requires { now < limit }
-    ensures { result ≡ or_else other (moment word.now now zone.now) }
+    ensures value { result ≡ or_else other (moment word.now now zone.now) }
+    ensures in_range { other < limit → result < limit }
 {
     match read_moment(word, now, zone) {
         Ok(at) => at,

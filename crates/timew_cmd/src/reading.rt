@@ -10,6 +10,7 @@ use crate::commands::annotate::annotate_in;
 use crate::commands::continue_::continue_in;
 use crate::commands::delete::delete_in;
 use crate::commands::export::export_in;
+use crate::commands::hours::hours_in;
 use crate::commands::join::join_in;
 use crate::commands::lengthen::lengthen_in;
 use crate::commands::move_to::move_in;
@@ -104,6 +105,7 @@ fn command_by(
         Name::Undo => alone(Command::Undo, words),
         Name::Export => as_words(export_in(words, now, zone)),
         Name::Summary => as_words(summary_in(words, now, zone)),
+        Name::Hours(report) => as_words(hours_in(report, words, now, zone)),
     }
 }
 

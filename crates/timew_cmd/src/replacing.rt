@@ -1,12 +1,13 @@
 // Placing an interval in the stead of one with a number.
-ghost use Rattle.std.specs.Prelude.{◌+◌, Err, ◌*◌, length, ◌≡◌, min, IfOk, IfErr};
+ghost use Rattle.std.specs.Prelude.{◌+◌, ◌≤◌, Err, ◌*◌, length, ◌≡◌, min, IfOk, IfErr};
+ghost use Rattle.timew_store.specs.Edit.{edited};
 ghost use Rattle.timew_cmd.specs.Planned.{Answers};
 ghost use Rattle.timew_cmd.specs.Replacing.{is_in_range, replaced, seconds_of, closed_end};
 
 use crate::error::TimewError;
 use crate::placing::place;
 use std::alloc::Global;
-use timew_store::Interval;
+use timew_store::{Edit, Interval};
 use tw_time::Length;
 use tw_world::MOMENT_LIMIT;
 
@@ -19,7 +20,7 @@ fn is_in_range(end: Option<u64>) -> bool
     }
 }
 
-/// Places an interval in the stead of the one with a number.
+/// The edit that places an interval in the stead of the one with a number.
 pub fn replace(
     alloc: Global,
     word: u64,
@@ -27,8 +28,9 @@ pub fn replace(
     adjust: bool,
     new: Interval,
     rows: &[Interval],
-) -> Result<Vec<Interval>, TimewError>
-    ensures { Answers (λ v. v.items) result (replaced word id adjust new rows.now) }
+) -> Result<Edit, TimewError>
+    ensures replaced { Answers (λ e. edited e rows.now) result (replaced word id adjust new rows.now) }
+    ensures inside { IfOk result (λ e. e.at + e.count ≤ length rows.now) }
 {
     if !is_in_range(new.end) {
         return Err(TimewError::Range { word });

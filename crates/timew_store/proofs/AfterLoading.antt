@@ -9,7 +9,7 @@ use Rattle.std.specs.FinMap.{get}
 use Rattle.tw_world.specs.Disk.{DiskModel}
 use Rattle.tw_world.specs.Disk as disk
 use Rattle.tw_world.proofs.Moments as moments
-use Rattle.tw_world.specs.Crash.{Tells, IsStable, LeavesOnly}
+use Rattle.tw_world.specs.Crash.{Tells, IsStable, LeavesOnly, FaultsRise}
 use Rattle.tw_world.specs.Turns.{InTurns, crash_of}
 use Rattle.tw_world.specs.Turns.InTurns.{second}
 use Rattle.tw_world.specs.Folder.{Files, FolderModel, same_bytes, bytes_cmp}
@@ -124,6 +124,21 @@ last_is (body ∷ next ∷ bodies) h g stands none = of_next (stepped h body) (�
 pub last_stands : (bodies : List (List ℕ)) (h : History) → Stands bodies h → last_of bodies ≡ Some h.last
 last_stands bodies h stands = last_is bodies start h stands (λ e. refl)
 
+pub same_last : (bodies : List (List ℕ)) (changes : List FileChange) (h : History) → last_of bodies ≡ Some changes → Stands bodies h → h.last ≡ changes
+same_last bodies changes h last stands = some_both (sym (last_stands bodies h stands) ∙ last)
+  where
+    some_both : Some h.last ≡ Some changes → h.last ≡ changes
+    some_both e = cc
+
+-- a change that is finished is finished up to its last file
+pub all_finished : (changes : List FileChange) (before after : Files) → after ≡ finished before changes → IsFinishedTo changes before after
+all_finished changes before after is = (length changes, omega arith, is ∙ ap (finished before) (sym (take_all (length changes) changes (omega arith))))
+
+-- and finishing it again changes nothing
+pub once_finished : (changes : List FileChange) (before after : Files) → AreApart changes → after ≡ finished before changes → finished after changes ≡ after
+once_finished changes before after apart is =
+    ap (λ (s : Files). finished s changes) (is ∙ ap (finished before) (sym (take_all (length changes) changes (omega arith)))) ∙ finished_again changes before (length changes) apart ∙ sym is
+
 -- ---- in turns
 
 module _ {F D : Type 0} (m : FolderModel F) (n : DiskModel D) (f0 : F) (d0 : D) (tells : disk.Tells n d0) (settled : IsStable m f0) (may_stay : n.leaves d0 (n.seen d0)) where
@@ -139,8 +154,8 @@ module _ {F D : Type 0} (m : FolderModel F) (n : DiskModel D) (f0 : F) (d0 : D) 
   }
 
   image_alike : (x : Files) (y : List ℕ) → x ≡ m.seen f0 → IsImageThen n d0 magic y → OpensAlike m n f0 d0 x y
-  image_alike x y same (inl left) = record { before = y; left = left; alike = λ held opens. subst (λ s. OpensTo s y held) (sym same) opens }
-  image_alike x y same (inr records) = record { before = n.seen d0; left = may_stay; alike = λ held opens. same_opens x y held same records opens }
+  image_alike x y same (inl left) = record { before = y; left = left; alike = λ held opens. subst (λ s. OpensTo s y held) (sym same) opens; files_stay = inl same; journal_stays = inl refl }
+  image_alike x y same (inr records) = record { before = n.seen d0; left = may_stay; alike = λ held opens. same_opens x y held same records opens; files_stay = inl same; journal_stays = inr records }
 
   -- while the journal is opened
   opening : (d1 : D) → disk.LeavesOnly n d0 d1 (IsImageThen n d0 magic) → LeavesOnly (crash_of n) d0 d1 (λ y. (x : Files) → m.leaves f0 x → OpensAlike m n f0 d0 x y)
@@ -151,16 +166,10 @@ module _ {F D : Type 0} (m : FolderModel F) (n : DiskModel D) (f0 : F) (d0 : D) 
 
   -- while the files are finished
   module _ (d1 : D) (journal : Journal) (bodies : List (List ℕ)) (changes : List FileChange) (records : Records magic (n.seen d0) bodies) (on : IsOpenOn n magic journal d1 bodies) (last : last_of bodies ≡ Some changes) (apart : AreApart changes) where
-    same_last : (opens : List (List ℕ)) (history : History) → bodies ≡ opens → Stands opens history → history.last ≡ changes
-    same_last opens history same stands = some_both (sym (last_stands opens history stands) ∙ ap last_of (sym same) ∙ last)
-      where
-        some_both : Some history.last ≡ Some changes → history.last ≡ changes
-        some_both e = cc
-
     pub finished_opens : (x : Files) (y : List ℕ) (held : Held) → IsFinishedTo changes (m.seen f0) x → Records magic y bodies → OpensTo (m.seen f0) (n.seen d0) held → OpensTo x y held
     finished_opens x y held (j, inside, same) has opens =
         let bodies_same = one_records magic (n.seen d0) bodies opens.bodies records opens.records in
-        let last_same = same_last opens.bodies opens.history bodies_same opens.stands in
+        let last_same = same_last bodies changes opens.history last (subst (λ b. Stands b opens.history) (sym bodies_same) opens.stands) in
         record {
           bodies = opens.bodies;
           records = subst (λ b. Records magic y b) bodies_same has;
@@ -174,24 +183,34 @@ module _ {F D : Type 0} (m : FolderModel F) (n : DiskModel D) (f0 : F) (d0 : D) 
     opening_then_files counts_now f1 run files = second f0 d0 d1 f1 d1 (opening d1 run)
         (ends_first m (crash_of n) counts_now (OpensAlike m n f0 d0) f0 f1 d1
         (weaker m f0 f1 (IsFinishedTo changes (m.seen f0)) (λ x. (y : List ℕ) → n.leaves d1 y → OpensAlike m n f0 d0 x y) files
-        (λ x partly y left. record { before = n.seen d0; left = may_stay; alike = λ held opens. finished_opens x y held partly (open_records n journal d1 bodies y on left) opens })))
+        (λ x partly y left. record {
+          before = n.seen d0;
+          left = may_stay;
+          alike = λ held opens. finished_opens x y held partly (open_records n journal d1 bodies y on left) opens;
+          files_stay = inr (record { bodies = bodies; records = records; last = changes; last_is = last; partly = partly });
+          journal_stays = inr (bodies, records, open_records n journal d1 bodies y on left);
+        })))
 
-    pub loaded : (f1 : F) → Tells m f1 → IsStable m f1 → m.seen f1 ≡ finished (m.seen f0) changes → StandAsBefore (n.seen d0) (n.seen d1) bodies → IsLoaded m n f0 f1 d0 d1 journal
-    loaded f1 tells_now settled_now seen places = record {
-      bodies = bodies;
-      records = records;
-      offsets = places;
+-- the journal was opened, and the files were finished
+module _ {F D : Type 0} (m : FolderModel F) (n : DiskModel D) (f0 f1 : F) (d0 d1 : D) (journal : Journal) (bodies : List (List ℕ)) (changes : List FileChange) (records : Records magic (n.seen d0) bodies) (on : IsOpenOn n magic journal d1 bodies)
+    (last : last_of bodies ≡ Some changes) (apart : AreApart changes) where
+  pub loaded : FaultsRise m f0 f1 → (Tells m f0 → IsStable m f0 → IsStable m f1) → (Tells m f0 → m.seen f1 ≡ finished (m.seen f0) changes) → StandAsBefore (n.seen d0) (n.seen d1) bodies → IsLoaded m n f0 f1 d0 d1 journal
+  loaded kept stable seen places = record {
+    bodies = bodies;
+    records = records;
+    offsets = places;
+    open_on = on;
+    last = changes;
+    last_is = last;
+    finished_now = seen;
+    rest = λ told settled history stands. record {
+      tells = kept.tells ∙ told;
+      stable = stable told settled;
       open_on = on;
-      rest = λ history stands. record {
-        tells = tells_now;
-        stable = settled_now;
-        open_on = on;
-        stands = stands;
-        whole = ap (finished (m.seen f1)) (same_last bodies history refl stands) ∙ ap (λ (s : Files). finished s changes) (seen ∙ ap (finished (m.seen f0)) (sym (take_all (length changes) changes (omega arith))))
-            ∙ finished_again changes (m.seen f0) (length changes) apart ∙ sym seen;
-      };
-      finished_now = λ history stands. seen ∙ ap (finished (m.seen f0)) (sym (same_last bodies history refl stands));
-    }
+      stands = stands;
+      whole = ap (finished (m.seen f1)) (same_last bodies changes history last stands) ∙ once_finished changes (m.seen f0) (m.seen f1) apart (seen told);
+    };
+  }
 
 -- the last record by its number
 pub last_by_number : (bodies : List (List ℕ)) (n : ℕ) → length bodies ≡ n + 1 → last_of bodies ≡ files_or (step_of (slice_index_or bodies n []))

@@ -45,6 +45,11 @@ module _ {F : Type 0} (m : FolderModel F) (only_now : OnlyNow m) where
         (λ same. (i, omega (arith, lt, length-map items change_of), same ∙ so_far.seen tells))
         (λ goes. (i + 1, omega (arith, lt, length-map items change_of), goes ∙ step_is tells)) has))
 
+    pub seen_so_far : (Tells m now → (m.seen later ≡ m.seen now) ⊎ (m.seen later ≡ finished_file (m.seen now) (change_of file))) → Tells m first → IsFinishedTo (changes_of items) (m.seen first) (m.seen later)
+    seen_so_far either tells = ⊎_elim
+        (λ same. (i, omega (arith, lt, length-map items change_of), same ∙ so_far.seen tells))
+        (λ goes. (i + 1, omega (arith, lt, length-map items change_of), goes ∙ step_is tells)) (either (told tells))
+
     pub kept_too : FaultsRise m first later
     kept_too = record { faults = omega (arith, so_far.faults.faults, kept.faults); tells = kept.tells ∙ so_far.faults.tells }
 

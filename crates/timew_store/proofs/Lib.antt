@@ -42,6 +42,7 @@ pub mod MonthsAfter
 pub mod Prepares
 pub mod LastChange
 pub mod Undoes
+pub mod Growth
 pub mod SplicedRows
 pub mod Edits
 pub mod RestoredStore

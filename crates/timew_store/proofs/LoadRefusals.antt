@@ -4,7 +4,7 @@ use Rattle.std.specs.Prelude.{slice_index_or, Result, Ok, Err, IsErrAnd, IfErr}
 use Rattle.std.proofs.lemmas.List.{length-append, length-take, take_all, take_more}
 use Rattle.tw_world.specs.Disk.{DiskModel}
 use Rattle.tw_world.specs.Disk as disk
-use Rattle.tw_world.specs.Crash.{Tells, IsStable, Reads, FaultsRise}
+use Rattle.tw_world.specs.Crash.{Tells, Reads, FaultsRise}
 use Rattle.tw_world.specs.Folder.{Files, FolderModel}
 use Rattle.tw_world.proofs.Crashes.{still_settled}
 use Rattle.tw_journal.specs.Form.{offset_in}
@@ -33,7 +33,7 @@ use Rattle.timew_store.specs.declared.error.StoreError.{StoreError}
 use Rattle.timew_store.specs.declared.error.StoreError.TheVariants as store
 use Rattle.timew_store.specs.declared.error.LoadError.{LoadError}
 use Rattle.timew_store.specs.declared.error.LoadError.TheVariants.{Folder, Journal as OfJournal, BadLine, Memory}
-use Rattle.timew_store.proofs.AfterLoading.{last_stands}
+use Rattle.timew_store.proofs.AfterLoading.{last_stands, same_last}
 use Rattle.timew_store.proofs.FilesRead.{judged_files}
 
 -- what holds of the error that is passed on
@@ -160,12 +160,12 @@ module _ {F D : Type 0} (m : FolderModel F) (n : DiskModel D) where
   finish_refused f0 f1 d0 d1 store.Memory r = tt
 
   -- what was loaded is what the folder and the journal open to
-  module _ (f0 f1 : F) (d0 d1 : D) (journal : Journal) (loaded : IsLoaded m n f0 f1 d0 d1 journal) (held : Held) (opens : OpensTo (m.seen f0) (n.seen d0) held) where
+  module _ (f0 f1 : F) (d0 d1 : D) (journal : Journal) (loaded : IsLoaded m n f0 f1 d0 d1 journal) (told : Tells m f0) (held : Held) (opens : OpensTo (m.seen f0) (n.seen d0) held) where
     pub stands : Stands loaded.bodies opens.history
     stands = subst (λ (b : List (List ℕ)). Stands b opens.history) (one_records magic (n.seen d0) opens.bodies loaded.bodies opens.records loaded.records) opens.stands
 
     loaded_files : m.seen f1 ≡ held.files
-    loaded_files = loaded.finished_now opens.history stands ∙ opens.files_are
+    loaded_files = loaded.finished_now told ∙ ap (finished (m.seen f0)) (sym (same_last loaded.bodies loaded.last opens.history loaded.last_is stands)) ∙ opens.files_are
 
     pub loaded_held : held_by m f1 opens.history ≡ held
     loaded_held =
@@ -186,33 +186,41 @@ module _ {F D : Type 0} (m : FolderModel F) (n : DiskModel D) where
     whole = ap (λ (s : Files). finished s history.last) (reads.seen rest.tells) ∙ rest.whole ∙ sym (reads.seen rest.tells);
   }
 
-  pub months_refused : (f0 f1 f2 : F) (d0 d1 : D) (journal : Journal) (e : LoadError) → FaultsRise m f0 f1 → Reads m f1 f2 → (Tells m f0 → IsStable m f0 → disk.Tells n d0 → IsLoaded m n f0 f1 d0 d1 journal) → MonthsRefused m f1 f2 e → LoadRefused m n f0 f2 d0 d1 e
+  pub months_refused : (f0 f1 f2 : F) (d0 d1 : D) (journal : Journal) (e : LoadError) → FaultsRise m f0 f1 → Reads m f1 f2 → (disk.Tells n d0 → IsLoaded m n f0 f1 d0 d1 journal) → MonthsRefused m f1 f2 e → LoadRefused m n f0 f2 d0 d1 e
   months_refused f0 f1 f2 d0 d1 journal Folder kept reads loaded r = omega (arith, kept.faults, r)
   months_refused f0 f1 f2 d0 d1 journal (OfJournal e) kept reads loaded r = absurd r
-  months_refused f0 f1 f2 d0 d1 journal (BadLine file line) kept reads loaded r = λ told settled tells held opens.
-      let is = loaded told settled tells in
-      let now = kept.tells ∙ told in (
-        ap rows_of (sym (loaded_files f0 f1 d0 d1 journal is held opens)) ∙ r now,
-        record {
-          bodies = is.bodies;
-          had = is.records;
-          journal = journal;
-          history = opens.history;
-          rest = rest_kept journal f1 f2 d1 is.bodies opens.history reads (is.rest opens.history (stands f0 f1 d0 d1 journal is held opens));
-          holds = ap (λ (s : Files). let h : Held = record { files = s; undoable = opens.history.undoable } in h) (reads.seen now) ∙ loaded_held f0 f1 d0 d1 journal is held opens;
-        },
-      )
+  months_refused f0 f1 f2 d0 d1 journal (BadLine file line) kept reads loaded r = (
+    λ told tells.
+        let is = loaded tells in
+        record { bodies = is.bodies; records = is.records; last = is.last; last_is = is.last_is; bad = ap rows_of (sym (is.finished_now told)) ∙ r (kept.tells ∙ told) },
+    λ told settled tells held opens.
+        let is = loaded tells in
+        let now = kept.tells ∙ told in (
+          ap rows_of (sym (loaded_files f0 f1 d0 d1 journal is told held opens)) ∙ r now,
+          record {
+            bodies = is.bodies;
+            had = is.records;
+            journal = journal;
+            history = opens.history;
+            rest = rest_kept journal f1 f2 d1 is.bodies opens.history reads (is.rest told settled opens.history (stands f0 f1 d0 d1 journal is told held opens));
+            holds = ap (λ (s : Files). let h : Held = record { files = s; undoable = opens.history.undoable } in h) (reads.seen now) ∙ loaded_held f0 f1 d0 d1 journal is told held opens;
+          },
+        ),
+  )
   months_refused f0 f1 f2 d0 d1 journal Memory kept reads loaded r = tt
 
-  pub store_loaded : (f0 f1 f2 : F) (d0 d1 : D) (store : Store) → Tells m f1 → Reads m f1 f2 → IsLoaded m n f0 f1 d0 d1 store.journal → HoldMonths (m.seen f1) store.months → IsLoadedStore m n f0 f2 d0 d1 store
-  store_loaded f0 f1 f2 d0 d1 store told reads loaded months =
-      let months_now : HoldMonths (m.seen f2) store.months = subst (λ (s : Files). HoldMonths s store.months) (sym (reads.seen told)) months in
-      record {
-        bodies = loaded.bodies;
-        records = loaded.records;
-        offsets = loaded.offsets;
-        open_on = loaded.open_on;
-        on = λ history stands. record { rest = rest_kept store.journal f1 f2 d1 loaded.bodies history reads (loaded.rest history stands); months = months_now };
-        finished_now = λ history stands. reads.seen told ∙ loaded.finished_now history stands;
-        months = months_now;
-      }
+  pub store_loaded : (f0 f1 f2 : F) (d0 d1 : D) (store : Store) → FaultsRise m f0 f1 → Reads m f1 f2 → IsLoaded m n f0 f1 d0 d1 store.journal → (Tells m f1 → HoldMonths (m.seen f1) store.months) → IsLoadedStore m n f0 f2 d0 d1 store
+  store_loaded f0 f1 f2 d0 d1 store kept reads loaded months = record {
+    bodies = loaded.bodies;
+    records = loaded.records;
+    offsets = loaded.offsets;
+    open_on = loaded.open_on;
+    last = loaded.last;
+    last_is = loaded.last_is;
+    finished_now = λ told. reads.seen (kept.tells ∙ told) ∙ loaded.finished_now told;
+    months = months_now;
+    on = λ told settled history stands. record { rest = rest_kept store.journal f1 f2 d1 loaded.bodies history reads (loaded.rest told settled history stands); months = months_now told };
+  }
+    where
+      months_now : Tells m f0 → HoldMonths (m.seen f2) store.months
+      months_now told = subst (λ (s : Files). HoldMonths s store.months) (sym (reads.seen (kept.tells ∙ told))) (months (kept.tells ∙ told))

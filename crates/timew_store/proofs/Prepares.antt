@@ -9,6 +9,7 @@ use Rattle.tw_world.specs.Turns.{InTurns, crash_of}
 use Rattle.tw_world.specs.Turns.InTurns.{at_rest}
 use Rattle.tw_world.specs.Folder.{Files, FolderModel, same_bytes}
 use Rattle.tw_journal.specs.declared.journal.Journal.{Journal}
+use Rattle.tw_journal.specs.declared.error.JournalError.TheVariants as cause
 use Rattle.timew_store.specs.declared.interval.Interval.{Interval}
 use Rattle.timew_store.specs.declared.write.change.NewFile.{NewFile}
 use Rattle.timew_store.specs.declared.store.Store.{Store}
@@ -151,3 +152,10 @@ module _ {F D : Type 0} (m : FolderModel F) (n : DiskModel D) where
   change_refused old new f0 f1 d0 d1 next body write.Folder is same r = (r.0, (body, is, r.1))
   change_refused old new f0 f1 d0 d1 next body (write.Journal e) is same r = (r.1, (body, is, record { refused = r.0; months = same }))
   change_refused old new f0 f1 d0 d1 next body write.Memory is same r = absurd r
+
+  -- a closed store is not open on any records
+  pub change_closed : (store : Store) (f : F) (d : D) (next : List Interval) → store.journal.closed ≡ true → ChangeRefused m n store store f f d d next (write.Journal cause.Closed)
+  change_closed store f d next closed = (refl, ([], λ bodies history on. absurd (apart on.rest.open_on.open_now), record { refused = (closed, refl, refl); months = refl }))
+    where
+      apart : store.journal.closed ≡ false → ⊥
+      apart live = cc

@@ -1,6 +1,6 @@
 -- A store that has taken its last change back.
 use Rattle.std.specs.Prelude.{cond, slice_get, option_map, IfSome}
-use Rattle.std.proofs.Common.{◌≡◌, inl, ℕ, ◌+◌, ◌<◌, ◌^◌, Bool, true, false, ◌&&◌, List, [], ◌∷◌, ◌++◌, length, Option, Some, None, Result, Ok, Err, refl, sym, ap, subst, ◌∙◌, arith}
+use Rattle.std.proofs.Common.{◌≡◌, inl, inr, ℕ, ◌+◌, ◌<◌, ◌^◌, Bool, true, false, ◌&&◌, List, [], ◌∷◌, ◌++◌, length, Option, Some, None, Result, Ok, Err, refl, sym, ap, subst, ◌∙◌, arith}
 use Rattle.tw_world.specs.Disk.{DiskModel}
 use Rattle.tw_world.specs.Disk as disk
 use Rattle.tw_world.proofs.Moments as moments
@@ -235,6 +235,10 @@ module _ {F D : Type 0} (m : FolderModel F) (n : DiskModel D) where
       let P = OpensToEitherOf (held_by m f0 history) (undone_held (held_by m f0 history)) in
       ends_second m (crash_of n) counts_now P f0 d0 d1 (read_turns m n store.journal f0 d0 d1 bodies history P untouched on.rest (λ x y opens. stays_among (held_by m f0 history) (undone_held (held_by m f0 history)) x y opens))
 
+  -- a closed store is not read
+  pub undo_closed : (store : Store) (f0 : F) (d0 : D) → disk.Untouched n d0 d0 → store.journal.closed ≡ true → UndoRefused m n store store f0 f0 d0 d0 (undo.Journal cause.Closed)
+  undo_closed store f0 d0 untouched closed = (refl, refl, ((refl, untouched), closed))
+
   -- one that writes
   pub undo_writes : (store : Store) (f0 f1 : F) (d0 d1 d2 : D) (bodies : List (List ℕ)) (history : History) (on : IsStoreOn m n store f0 d0 bodies history) (change : List FileChange) (top : Some change ≡ slice_get history.undoable 0)
       (rows : List Interval) (changes : List FileChange) → changes ≡ exchanged change → first_edited (m.seen f0) change ≡ None → rows_of (replaced (m.seen f0) changes) ≡ Ok rows → disk.Untouched n d0 d1
@@ -247,10 +251,10 @@ module _ {F D : Type 0} (m : FolderModel F) (n : DiskModel D) where
       (λ x y has. either_back m n store f0 d0 bodies history on change top x y rows changes are none good has) f0 d1 f1 d2 run)
 
   pub walk_undo_refused : (old new : Store) (f0 : F) (d0 d1 : D) (e : ReadError) → JournalRead n old new d0 d1 → WalkRefused n d0 d1 old.journal e → UndoJournalRefused m n old new f0 d0 d1 (read_in_all e)
-  walk_undo_refused old new f0 d0 d1 reads.Disk read r = r
+  walk_undo_refused old new f0 d0 d1 reads.Disk read r = (r, inl read)
   walk_undo_refused old new f0 d0 d1 reads.Memory read r = read
-  walk_undo_refused old new f0 d0 d1 (reads.Damaged offset) read r = r
-  walk_undo_refused old new f0 d0 d1 reads.Closed read r = r
+  walk_undo_refused old new f0 d0 d1 (reads.Damaged offset) read r = (read, r)
+  walk_undo_refused old new f0 d0 d1 reads.Closed read r = (read, r)
 
   -- nothing but the journal may differ
   abbrev pub Keeps : (old new : Store) → Type 0
@@ -265,7 +269,10 @@ module _ {F D : Type 0} (m : FolderModel F) (n : DiskModel D) where
 
   append_undo_refused : (old new : Store) (f0 : F) (d0 d1 d2 : D) (body : List ℕ) (e : JournalError) → disk.Untouched n d0 d1 → IsUndoBody m n old f0 d0 body → Leads old f0 d0 → Keeps old new
       → RecordRefused n old.journal new.journal d1 d2 (length body + 5) e → UndoJournalRefused m n old new f0 d0 d2 e
-  append_undo_refused old new f0 d0 d1 d2 body cause.Disk untouched is leads same r = omega (arith, untouched.kept.faults, r.0)
+  append_undo_refused old new f0 d0 d1 d2 body cause.Disk untouched is leads same r = (
+    omega (arith, untouched.kept.faults, r.0),
+    inr (record { body = body; is = is; size = r.3; was_open = r.2; closed = r.1 }),
+  )
   append_undo_refused old new f0 d0 d1 d2 body cause.Memory untouched is leads same r = absurd r
   append_undo_refused old new f0 d0 d1 d2 body (cause.Damaged offset) untouched is leads same r = absurd r
   append_undo_refused old new f0 d0 d1 d2 body (cause.TooLong bytes) untouched is leads same r = (
@@ -273,7 +280,7 @@ module _ {F D : Type 0} (m : FolderModel F) (n : DiskModel D) where
     (same_store old new r.3 same, subst (λ (d : D). disk.Untouched n d0 d) (sym r.4) untouched),
     λ bodies history on. let to = leads bodies history on in record { back = to.0; is = to.1; body = body; one = is bodies history on; size = r.0 },
   )
-  append_undo_refused old new f0 d0 d1 d2 body cause.Closed untouched is leads same r = r.0
+  append_undo_refused old new f0 d0 d1 d2 body cause.Closed untouched is leads same r = ((same_store old new r.1 same, subst (λ (d : D). disk.Untouched n d0 d) (sym r.2) untouched), r.0)
 
   pub write_undo_refused : (old new : Store) (f0 f1 : F) (d0 d1 d2 : D) (body : List ℕ) (e : StoreError) → disk.Untouched n d0 d1 → IsUndoBody m n old f0 d0 body → Leads old f0 d0 → Keeps old new
       → WriteRefused m n old.journal new.journal f0 f1 d1 d2 body e → UndoRefused m n old new f0 f1 d0 d2 (not_written e)

@@ -13,6 +13,7 @@ pub mod Tail
 pub mod History
 pub mod Held
 pub mod Writing
+pub mod Growth
 pub mod ReadBack
 pub mod Store
 pub mod StoreUndo
@@ -21,4 +22,5 @@ pub mod Known
 pub mod Few
 pub mod Edit
 pub mod MonthTexts
+pub mod MonthOfYear
 pub mod Day

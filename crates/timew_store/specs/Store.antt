@@ -1,9 +1,11 @@
 -- A store: month files with their intervals, over a journal.
-use Rattle.std.specs.Prelude.{◌≡◌, ℕ, ◌+◌, Bool, List, [], ◌∷◌, ◌++◌, length, Ok, Err}
+use Rattle.std.specs.Prelude.{◌≡◌, ℕ, ◌+◌, ◌^◌, Bool, List, [], ◌∷◌, ◌++◌, length, Some, Ok, Err}
 use Rattle.tw_world.specs.Disk.{DiskModel, Rose}
-use Rattle.tw_world.specs.Crash.{Tells}
+use Rattle.tw_world.specs.Disk as disk
+use Rattle.tw_world.specs.Crash.{Tells, IsStable}
 use Rattle.tw_world.specs.Folder.{Files, FolderModel}
 use Rattle.tw_world.specs.Turns.{InTurns, crash_of}
+use Rattle.tw_journal.specs.Record.{rows as row_of_records}
 use Rattle.tw_journal.specs.Open.{Records}
 use Rattle.tw_journal.specs.Journal.{is_closed, journal_end, IsOpenOn}
 use Rattle.tw_journal.specs.declared.journal.Journal.{Journal}
@@ -14,7 +16,8 @@ use Rattle.timew_store.specs.History.{History, Stands}
 use Rattle.timew_store.specs.Held.{magic, Bodies, Held, OpensTo, OpensToEither, OnStable, IsAtRest, finished, held_by}
 use Rattle.timew_store.specs.Changes.{changes_to, changed_files}
 use Rattle.timew_store.specs.Gathered.{files_of, months_in}
-use Rattle.timew_store.specs.Loading.{OpeningRefused, IsJournalFault, StandAsBefore, SparesDisk}
+use Rattle.timew_store.specs.Loading.{OpeningRefused, IsJournalFault, StandAsBefore, SparesDisk, last_of}
+use Rattle.timew_store.specs.Growth.{JournalGrowsBy}
 use Rattle.timew_store.specs.Writing.{changes_of, RestsOn, LeavesWritten, HasRecordMore, RecordRefused, WriteRefused}
 use Rattle.timew_store.specs.Rows.{rows_of}
 use Rattle.timew_store.specs.declared.interval.Interval.{Interval}
@@ -66,20 +69,22 @@ store_end store = journal_end store.journal
 
 -- ---- loading
 
--- A store was loaded: it is open on the records of the journal, whose last change is finished.
+-- A store was loaded: it is open on the records of the journal, and the change of the last one is finished.
 pub record IsLoadedStore {F D : Type 0} (m : FolderModel F) (n : DiskModel D) (f0 f1 : F) (d0 d1 : D) (store : Store) : Type 0 where
   pub bodies : List (List ℕ)
   pub records : Records magic (n.seen d0) bodies
   pub offsets : StandAsBefore (n.seen d0) (n.seen d1) bodies
-  pub on : (history : History) → Stands bodies history → IsStoreOn m n store f1 d1 bodies history
-  pub finished_now : (history : History) → Stands bodies history → m.seen f1 ≡ finished (m.seen f0) history.last
-  -- whatever the records lead to
   pub open_on : IsOpenOn n magic store.journal d1 bodies
-  pub months : HoldMonths (m.seen f1) store.months
+  pub last : List FileChange
+  pub last_is : last_of bodies ≡ Some last
+  -- whatever the records lead to
+  pub finished_now : Tells m f0 → m.seen f1 ≡ finished (m.seen f0) last
+  pub months : Tells m f0 → HoldMonths (m.seen f1) store.months
+  pub on : Tells m f0 → IsStable m f0 → (history : History) → Stands bodies history → IsStoreOn m n store f1 d1 bodies history
 
--- a store is so loaded, if the folder and the disk tell what they hold and the folder is stable
+-- a store is so loaded, if the disk tells what it holds
 abbrev pub LoadsStore : {F D : Type 0} → FolderModel F → DiskModel D → (f0 f1 : F) (d0 d1 : D) → Store → Type 0
-LoadsStore m n f0 f1 d0 d1 store = OnStable m n f0 d0 (IsLoadedStore m n f0 f1 d0 d1 store)
+LoadsStore m n f0 f1 d0 d1 store = disk.Tells n d0 → IsLoadedStore m n f0 f1 d0 d1 store
 
 abbrev pub not_loaded : StoreError → LoadError
 not_loaded store.Folder = Folder
@@ -110,11 +115,23 @@ pub record RestHolding {F D : Type 0} (m : FolderModel F) (n : DiskModel D) (bef
 abbrev pub IsBadLine : {F D : Type 0} → FolderModel F → DiskModel D → (f0 f1 : F) (d0 d1 : D) → List ℕ × ℕ → Type 0
 IsBadLine m n f0 f1 d0 d1 line = (held : Held) → OpensTo (m.seen f0) (n.seen d0) held → (rows_of held.files ≡ Err line) × RestHolding m n (n.seen d0) f1 d1 held
 
--- why a store is not loaded
+-- whatever the records of the journal lead to, this is the first bad line of the files once the change of the last one is finished
+pub record HasBadLine (files : Files) (journal : List ℕ) (line : List ℕ × ℕ) : Type 0 where
+  pub bodies : Bodies
+  pub records : Records magic journal bodies
+  pub last : List FileChange
+  pub last_is : last_of bodies ≡ Some last
+  pub bad : rows_of (finished files last) ≡ Err line
+
+-- a line is so bad, if the folder and the disk tell what they hold
+abbrev pub FindsBadLine : {F D : Type 0} → FolderModel F → DiskModel D → F → D → List ℕ × ℕ → Type 0
+FindsBadLine m n folder journal line = Tells m folder → disk.Tells n journal → HasBadLine (m.seen folder) (n.seen journal) line
+
+-- why a store is not loaded; if the journal refuses, the folder was not used
 abbrev pub LoadRefused : {F D : Type 0} → FolderModel F → DiskModel D → (f0 f1 : F) (d0 d1 : D) → LoadError → Type 0
 LoadRefused m n f0 f1 d0 d1 Folder = Rose (m.faults f0) (m.faults f1)
-LoadRefused m n f0 f1 d0 d1 (OfJournal e) = OpeningRefused n d0 d1 e
-LoadRefused m n f0 f1 d0 d1 (BadLine file line) = OnStable m n f0 d0 (IsBadLine m n f0 f1 d0 d1 (file, line))
+LoadRefused m n f0 f1 d0 d1 (OfJournal e) = (f1 ≡ f0) × OpeningRefused n d0 d1 e
+LoadRefused m n f0 f1 d0 d1 (BadLine file line) = FindsBadLine m n f0 d0 (file, line) × OnStable m n f0 d0 (IsBadLine m n f0 f1 d0 d1 (file, line))
 LoadRefused m n f0 f1 d0 d1 Memory = Unit {0}
 
 -- a refusal that has nothing to do with the bytes of the journal
@@ -166,6 +183,13 @@ OpensToChanged held rows = OpensToEither held (changed held rows)
 -- a crash of such a change leaves one of the two
 abbrev pub LeavesChange : {F D : Type 0} → FolderModel F → DiskModel D → Store → (f0 f1 : F) (d0 d1 : D) → List Interval → Type 0
 LeavesChange m n s f0 f1 d0 d1 rows = OnStore m n s f0 d0 (λ bodies h. InTurns m (crash_of n) (OpensToChanged (held_by m f0 h) rows) f0 d0 f1 d1)
+
+-- No file that a crash of a change to these intervals leaves is longer by more than 2^30 bytes, nor, if these are the months of a
+-- folder, by more than the record of the change.
+abbrev pub ChangeGrows : {D : Type 0} → DiskModel D → Store → (d0 d1 : D) → List Interval → Type 0
+ChangeGrows n store d0 d1 next =
+    JournalGrowsBy n store.journal d0 d1 (2 ^ 30)
+    × OnFolders store.months (λ files. JournalGrowsBy n store.journal d0 d1 (length (row_of_records (change_bodies (changes_to files next)))))
 
 -- the journal refused this body, and the folder was not used
 pub record IsRefusedBody {D : Type 0} (n : DiskModel D) (old new : Store) (d0 d1 : D) (body : List ℕ) (e : JournalError) : Type 0 where

@@ -1,9 +1,10 @@
 -- An undo, and why it is refused.
-use Rattle.std.specs.Prelude.{◌≡◌, true, ◌<◌, ◌+◌, ◌^◌, ℕ, List, [], ◌∷◌, ◌++◌, length, Some, None, Result, Ok, Err}
+use Rattle.std.specs.Prelude.{◌≡◌, ◌⊎◌, true, false, ◌<◌, ◌≤◌, ◌+◌, ◌^◌, ℕ, List, [], ◌∷◌, ◌++◌, length, Some, None, Result, Ok, Err}
 use Rattle.tw_world.specs.Disk.{DiskModel, Rose, Untouched}
 use Rattle.tw_world.specs.Disk as disk
 use Rattle.tw_world.specs.Folder.{Files, FolderModel}
 use Rattle.tw_world.specs.Turns.{InTurns, crash_of}
+use Rattle.tw_journal.specs.Record.{rows as row_of_records, IsLongerBy}
 use Rattle.tw_journal.specs.declared.journal.Journal.{Journal}
 use Rattle.tw_journal.specs.declared.error.ReadError.{ReadError}
 use Rattle.tw_journal.specs.declared.error.ReadError.TheVariants as reads
@@ -12,10 +13,11 @@ use Rattle.tw_journal.specs.declared.error.JournalError.TheVariants as cause
 use Rattle.timew_store.specs.Body.{FileChange, body_of}
 use Rattle.timew_store.specs.Body.Step.{Undo}
 use Rattle.timew_store.specs.History.{History, exchanged}
-use Rattle.timew_store.specs.Held.{Bodies, Held, OpensTo, OpensToEither, OnRecords, held_by, replaced}
+use Rattle.timew_store.specs.Held.{Bodies, Held, OpensTo, OpensToEither, OnRecords, OnHistory, held_by, replaced}
+use Rattle.timew_store.specs.Growth.{JournalGrowsBy}
 use Rattle.timew_store.specs.Loading.{IsNoStep}
 use Rattle.timew_store.specs.Rows.{rows_of}
-use Rattle.timew_store.specs.Store.{OnFolders, OnStore, IsMovedTo, StandsMore}
+use Rattle.timew_store.specs.Store.{OnFolders, OnStore, IsMovedTo, StandsMore, is_store_closed}
 use Rattle.timew_store.specs.declared.months.Months.{Months}
 use Rattle.timew_store.specs.Undo.{NoUndo, first_edited, undone_held}
 use Rattle.timew_store.specs.Undo.NoUndo.{Nothing, EditedFile, Bad}
@@ -90,6 +92,13 @@ OpensToUndone held = OpensToEitherOf held (undone_held held)
 abbrev pub LeavesUndo : {F D : Type 0} → FolderModel F → DiskModel D → Store → (f0 f1 : F) (d0 d1 : D) → Type 0
 LeavesUndo m n s f0 f1 d0 d1 = OnStore m n s f0 d0 (λ bodies h. InTurns m (crash_of n) (OpensToUndone (held_by m f0 h)) f0 d0 f1 d1)
 
+-- No file that a crash of an undo leaves is longer by more than 2^30 bytes, nor, if the records lead to a history, by more than the
+-- record of the undo.
+abbrev pub UndoGrows : {D : Type 0} → DiskModel D → Store → (d0 d1 : D) → Type 0
+UndoGrows n store d0 d1 =
+    JournalGrowsBy n store.journal d0 d1 (2 ^ 30)
+    × OnHistory n store.journal d0 (λ history. disk.LeavesOnly n d0 d1 (IsLongerBy n d0 (length (row_of_records (undo_bodies history.undoable)))))
+
 -- an open store has no undo for this reason
 abbrev pub HasNoUndo : {F D : Type 0} → FolderModel F → DiskModel D → Store → F → D → NoUndo → Type 0
 HasNoUndo m n store folder disk why = OnStore m n store folder disk (λ bodies history. undone_held (held_by m folder history) ≡ Err why)
@@ -122,13 +131,25 @@ UndoWrites m n store folder disk bytes = OnStore m n store folder disk (λ bodie
 abbrev pub JournalRead : {D : Type 0} → DiskModel D → (old new : Store) (d0 d1 : D) → Type 0
 JournalRead n old new d0 d1 = (new ≡ old) × Untouched n d0 d1
 
--- why the journal is not read, or refuses the body of an undo
+-- the record of the undo was not written well, which has closed the store
+pub record UndoFailed {F D : Type 0} (m : FolderModel F) (n : DiskModel D) (old new : Store) (f0 : F) (d0 : D) : Type 0 where
+  pub body : List ℕ
+  pub is : IsUndoBody m n old f0 d0 body
+  pub size : length body + 5 ≤ 2 ^ 30
+  pub was_open : is_store_closed old ≡ false
+  pub closed : is_store_closed new ≡ true
+
+-- a record of the store holds no step, and is at this offset
+abbrev pub IsDamagedIn : {D : Type 0} → DiskModel D → Store → D → (offset : ℕ) → Type 0
+IsDamagedIn n store d0 offset = disk.Tells n d0 → OnRecords n store.journal d0 (λ bodies. HasNoStep (n.seen d0) bodies offset)
+
+-- why the journal is not read, or refuses the body of an undo: a read leaves all as it was
 abbrev pub UndoJournalRefused : {F D : Type 0} → FolderModel F → DiskModel D → (old new : Store) (f0 : F) (d0 d1 : D) → JournalError → Type 0
-UndoJournalRefused m n old new f0 d0 d1 cause.Disk = Rose (n.faults d0) (n.faults d1)
+UndoJournalRefused m n old new f0 d0 d1 cause.Disk = Rose (n.faults d0) (n.faults d1) × (JournalRead n old new d0 d1 ⊎ UndoFailed m n old new f0 d0)
 UndoJournalRefused m n old new f0 d0 d1 cause.Memory = JournalRead n old new d0 d1
-UndoJournalRefused m n old new f0 d0 d1 (cause.Damaged offset) = disk.Tells n d0 → OnRecords n old.journal d0 (λ bodies. HasNoStep (n.seen d0) bodies offset)
+UndoJournalRefused m n old new f0 d0 d1 (cause.Damaged offset) = JournalRead n old new d0 d1 × IsDamagedIn n old d0 offset
 UndoJournalRefused m n old new f0 d0 d1 (cause.TooLong bytes) = (2 ^ 30 < bytes) × JournalRead n old new d0 d1 × UndoWrites m n old f0 d0 bytes
-UndoJournalRefused m n old new f0 d0 d1 cause.Closed = old.journal.closed ≡ true
+UndoJournalRefused m n old new f0 d0 d1 cause.Closed = JournalRead n old new d0 d1 × (is_store_closed old ≡ true)
 
 -- Why a change is not taken back. If the journal refuses, the folder is not used; if the folder fails, the record is written.
 abbrev pub UndoRefused : {F D : Type 0} → FolderModel F → DiskModel D → (old new : Store) (f0 f1 : F) (d0 d1 : D) → UndoError → Type 0

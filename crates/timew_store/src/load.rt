@@ -1,14 +1,15 @@
 // Loading a store: the last change is finished.
-ghost use Rattle.std.specs.Prelude.{◌≡◌, ◌<◌, [], slice_index_or, OnOk, IfOk, IfErr, IsErrOf, true, false, Some};
+ghost use Rattle.std.specs.Prelude.{◌≡◌, ◌<◌, [], slice_index_or, OnOk, OnErr, IfOk, IfErr, IsErrOf, true, false, Some};
 ghost use Rattle.tw_world.specs.Disk.{Rose, Untouched};
 ghost use Rattle.tw_world.specs.Disk as tells;
+ghost use Rattle.tw_journal.specs.Record.{IsLongerBy};
 ghost use Rattle.tw_journal.specs.Journal.{is_closed, journal_end, journal_count};
 ghost use Rattle.timew_store.specs.Body.{AreMonths, names_rise, step_of};
 ghost use Rattle.tw_world.specs.Crash.{Tells, IsStable, FaultsRise, Reads};
 ghost use Rattle.tw_world.specs.Folder.{same_bytes, is_file_name};
 ghost use Rattle.timew_store.specs.Held.{bytes_of, finished_file, finished, IfTheyOpen, OnRecords, LeavesFiles};
 ghost use Rattle.timew_store.specs.Loading.{IsFinishedTo, last_of, StepRefused, LastRefused, FinishRefused, IsStoreFault};
-ghost use Rattle.timew_store.specs.Loading.{StoreSparesDisk, StillOpen, IsFinishedOrNot, Loads, LeavesAlike};
+ghost use Rattle.timew_store.specs.Loading.{StoreSparesDisk, Stays, IsFinishedOrNot, Loads, LeavesAlike};
 ghost use Rattle.timew_store.specs.Writing.{change_of, changes_of, step_in, files_held, AreFileNames};
 
 use crate::body::{Record, read_record};
@@ -42,6 +43,7 @@ fn finish_file<F: Folder>(alloc: Global, folder: &mut F, file: &NewFile) -> Resu
     requires { is_file_name file.now.name ≡ true }
     ensures done { OnOk result (Tells F.model folder.old → F.model.seen folder.new ≡ finished_file (F.model.seen folder.old) (change_of file.now)) }
     ensures stable { OnOk result (Tells F.model folder.old → IsStable F.model folder.old → IsStable F.model folder.new) }
+    ensures partly { OnErr result (Tells F.model folder.old → IsFinishedOrNot (F.model.seen folder.old) (change_of file.now) (F.model.seen folder.new)) }
     ensures any_moment { LeavesFiles F.model folder.old folder.new (IsFinishedOrNot (F.model.seen folder.old) (change_of file.now)) }
     ensures faults { FaultsRise F.model folder.old folder.new }
     ensures failed { IsErrOf result FolderError.Failed → Rose (F.model.faults folder.old) (F.model.faults folder.new) }
@@ -57,6 +59,7 @@ fn finish<F: Folder>(alloc: Global, folder: &mut F, files: &Vec<NewFile>) -> Res
     requires { AreFileNames files.now.items }
     ensures done { OnOk result (Tells F.model folder.old → F.model.seen folder.new ≡ finished (F.model.seen folder.old) (changes_of files.now.items)) }
     ensures stable { OnOk result (Tells F.model folder.old → IsStable F.model folder.old → IsStable F.model folder.new) }
+    ensures partly { OnErr result (Tells F.model folder.old → IsFinishedTo (changes_of files.now.items) (F.model.seen folder.old) (F.model.seen folder.new)) }
     ensures any_moment { LeavesFiles F.model folder.old folder.new (IsFinishedTo (changes_of files.now.items) (F.model.seen folder.old)) }
     ensures faults { FaultsRise F.model folder.old folder.new }
     ensures failed { IsErrOf result FolderError.Failed → Rose (F.model.faults folder.old) (F.model.faults folder.new) }
@@ -121,10 +124,11 @@ pub(crate) fn open_and_finish<F: Folder, D: Disk>(
     disk: &mut D,
 ) -> Result<Journal, StoreError>
     ensures loaded { IfOk result (Loads F.model D.model folder.old folder.new disk.old disk.new) }
+    ensures growth { tells.Tells D.model disk.old → tells.LeavesOnly D.model disk.old disk.new (IsLongerBy D.model disk.old 29) }
     ensures length { IfOk result (λ journal. (D.model.len disk.new ≡ journal_end journal) × (is_closed journal ≡ false)) }
     ensures any_moment { LeavesAlike F.model D.model folder.old folder.new disk.old disk.new }
     ensures refused { IfErr result (λ e. FinishRefused F.model D.model folder.old folder.new disk.old disk.new e) }
-    ensures stays { IfErr result (λ e. StoreSparesDisk e → StillOpen F.model D.model folder.old folder.new disk.old disk.new) }
+    ensures stays { IfErr result (λ e. StoreSparesDisk e → Stays F.model D.model folder.old folder.new disk.old disk.new) }
     ensures sound { IfTheyOpen F.model D.model folder.old disk.old (IfErr result IsStoreFault) }
     ensures folder { FaultsRise F.model folder.old folder.new }
     ensures disk { tells.FaultsRise D.model disk.old disk.new }

@@ -1,17 +1,19 @@
 // A store of intervals.
-ghost use Rattle.std.specs.Prelude.{◌≡◌, ◌≤◌, ◌+◌, IfOk, IfErr, OnOk, OnErr, true, false};
+ghost use Rattle.std.specs.Prelude.{◌≡◌, ◌≤◌, ◌+◌, IfOk, IfErr, OnOk, OnErr, Err as AnErr, true, false};
 ghost use Rattle.std.specs.Vec.{vec_len, vec_capacity};
 ghost use Rattle.tw_world.specs.Disk as tells;
 ghost use Rattle.tw_world.specs.Crash.{FaultsRise};
+ghost use Rattle.tw_journal.specs.Record.{IsLongerBy};
 ghost use Rattle.timew_store.specs.Body.{AreMonths};
 ghost use Rattle.timew_store.specs.Edit.{edited, IsEditOf};
 ghost use Rattle.timew_store.specs.Held.{replaced, IfTheyOpen, Replaces};
 ghost use Rattle.timew_store.specs.NamedFiles.{are_named};
-ghost use Rattle.timew_store.specs.Loading.{StillOpen, LeavesAlike};
+ghost use Rattle.timew_store.specs.Loading.{Stays, LeavesAlike};
 ghost use Rattle.timew_store.specs.Store.{LoadRefused, IsLoadFault, LoadSparesDisk, intervals_of, is_store_closed, store_end, ChangeRefused};
-ghost use Rattle.timew_store.specs.Store.{LoadsStore, rows_after, IsChangedTo, LeavesChange, RestsOnPrepared, LeavesPrepared, PreparedRefused};
-ghost use Rattle.timew_store.specs.StoreUndo.{UndoRefused, IsUndone, LeavesUndo};
+ghost use Rattle.timew_store.specs.Store.{LoadsStore, rows_after, IsChangedTo, LeavesChange, ChangeGrows, RestsOnPrepared, LeavesPrepared, PreparedRefused};
+ghost use Rattle.timew_store.specs.StoreUndo.{UndoRefused, IsUndone, LeavesUndo, UndoGrows};
 ghost use Rattle.timew_store.specs.Writing.{changes_of};
+ghost use Rattle.timew_store.specs.Growth.{record_size, JournalGrowsBy};
 
 use crate::edit::Edit;
 use crate::error::{LoadError, StoreError, UndoError};
@@ -25,7 +27,7 @@ use crate::write::change::write_change;
 use crate::write::prepared::{Prepared, prepared_edit};
 use std::alloc::Global;
 use std::mem::replace;
-use tw_journal::Journal;
+use tw_journal::{Journal, JournalError};
 use tw_world::{Disk, Folder};
 
 /// The intervals of a folder's month files, over a journal of their changes.
@@ -53,18 +55,20 @@ impl Drop for Store {
 impl Store {
     /// Loads the store that a folder and a journal hold: the last change is finished, and every file named `YYYY-MM.data` is read.
     ///
-    /// Of the journal's records only the last one is read. A refusal may leave the last change finished; unless the disk failed, folder
-    /// and journal open to what they did.
+    /// Of the journal's records only the last one is read. If the journal refuses, the folder is not used. Any other refusal leaves the
+    /// files as they were, or those of the last change finished, or some of them. Unless the disk failed, the journal has the records
+    /// that it had, and folder and journal open to what they did.
     pub fn load<F: Folder, D: Disk>(
         alloc: Global,
         folder: &mut F,
         disk: &mut D,
     ) -> Result<Store, LoadError>
         ensures loaded { IfOk result (LoadsStore F.model D.model folder.old folder.new disk.old disk.new) }
+        ensures growth { tells.Tells D.model disk.old → tells.LeavesOnly D.model disk.old disk.new (IsLongerBy D.model disk.old 29) }
         ensures length { IfOk result (λ store. (D.model.len disk.new ≡ store_end store) × (is_store_closed store ≡ false)) }
         ensures any_moment { LeavesAlike F.model D.model folder.old folder.new disk.old disk.new }
         ensures refused { IfErr result (λ e. LoadRefused F.model D.model folder.old folder.new disk.old disk.new e) }
-        ensures stays { IfErr result (λ e. LoadSparesDisk e → StillOpen F.model D.model folder.old folder.new disk.old disk.new) }
+        ensures stays { IfErr result (λ e. LoadSparesDisk e → Stays F.model D.model folder.old folder.new disk.old disk.new) }
         ensures sound { IfTheyOpen F.model D.model folder.old disk.old (IfErr result IsLoadFault) }
         ensures folder { FaultsRise F.model folder.old folder.new }
         ensures disk { tells.FaultsRise D.model disk.old disk.new }
@@ -100,11 +104,17 @@ impl Store {
         ensures changed { OnOk result (IsChangedTo F.model D.model self.old self.new folder.old folder.new disk.old disk.new (rows_after edit self.old)) }
         ensures rows { OnOk result (intervals_of self.new ≡ rows_after edit self.old) }
         ensures any_moment { LeavesChange F.model D.model self.old folder.old folder.new disk.old disk.new (rows_after edit self.old) }
+        ensures growth { ChangeGrows D.model self.old disk.old disk.new (rows_after edit self.old) }
+        ensures closed { is_store_closed self.old ≡ true → result ≡ AnErr (StoreError.Journal JournalError.Closed) }
+        ensures live { OnOk result (is_store_closed self.new ≡ false) }
         ensures length { is_store_closed self.new ≡ false → D.model.len disk.new ≡ store_end self.new }
         ensures refused { IfErr result (ChangeRefused F.model D.model self.old self.new folder.old folder.new disk.old disk.new (rows_after edit self.old)) }
         ensures folder { FaultsRise F.model folder.old folder.new }
         ensures disk { tells.FaultsRise D.model disk.old disk.new }
     {
+        if self.journal.is_closed() {
+            return Err(StoreError::Journal(JournalError::Closed));
+        }
         let prepared = prepared_edit(alloc, &self.months, &edit)?;
         let Months { files, rows, known } = replace(&mut self.months, Months::none(alloc));
         let rows = match rows.with_room(edit.rows.len()) {
@@ -139,7 +149,8 @@ impl Store {
 
     /// Takes back the last change that is not undone: its files get their old bytes back.
     ///
-    /// Nothing is written if a file of it was edited since, or if a line would be no interval without the change.
+    /// Nothing is written if a file of it was edited since, or if a line would be no interval without the change, nor if the journal
+    /// is damaged or there is no memory.
     pub fn undo<F: Folder, D: Disk>(
         &mut self,
         alloc: Global,
@@ -149,11 +160,17 @@ impl Store {
         requires length { is_store_closed self.old ≡ false → D.model.len disk.old ≡ store_end self.old }
         ensures undone { OnOk result (IsUndone F.model D.model self.old self.new folder.old folder.new disk.old disk.new) }
         ensures any_moment { LeavesUndo F.model D.model self.old folder.old folder.new disk.old disk.new }
+        ensures growth { UndoGrows D.model self.old disk.old disk.new }
+        ensures closed { is_store_closed self.old ≡ true → result ≡ AnErr (UndoError.Journal JournalError.Closed) }
+        ensures live { OnOk result (is_store_closed self.new ≡ false) }
         ensures length { is_store_closed self.new ≡ false → D.model.len disk.new ≡ store_end self.new }
         ensures refused { IfErr result (λ e. UndoRefused F.model D.model self.old self.new folder.old folder.new disk.old disk.new e) }
         ensures folder { FaultsRise F.model folder.old folder.new }
         ensures disk { tells.FaultsRise D.model disk.old disk.new }
     {
+        if self.journal.is_closed() {
+            return Err(UndoError::Journal(JournalError::Closed));
+        }
         let Some(change) = last_change(alloc, &self.journal, disk)? else {
             return Err(UndoError::NothingToUndo);
         };
@@ -175,6 +192,8 @@ impl Store {
         ensures replaced { OnOk result (Replaces F.model folder.old folder.new (changes_of prepared.changes.items)) }
         ensures months { OnOk result (self.new.months ≡ prepared.months) }
         ensures any_moment { LeavesPrepared F.model D.model self.old folder.old folder.new disk.old disk.new prepared }
+        ensures growth { JournalGrowsBy D.model self.old.journal disk.old disk.new (record_size prepared.body.items) }
+        ensures live { OnOk result (is_store_closed self.new ≡ false) }
         ensures length { is_store_closed self.new ≡ false → D.model.len disk.new ≡ store_end self.new }
         ensures refused { IfErr result (PreparedRefused F.model D.model self.old self.new folder.old folder.new disk.old disk.new prepared) }
         ensures stays { OnErr result (self.new.months ≡ self.old.months) }

@@ -37,10 +37,12 @@ is_ahead now r = is_ahead_of now r.start r.end
 abbrev pub some_ahead : List ℕ → List Interval → ℕ → Bool
 some_ahead ids rows now = list_any (λ r. is_among ids r.0 && is_ahead now r.1) (numbered rows)
 
+-- those of these numbers are cut in the middle
+abbrev pub halved : List ℕ → ℕ → List Interval → List Interval
+halved ids now rows = flat_map (λ r. cond (is_among ids r.0) (halves now r.1) (r.1 ∷ [])) (numbered rows)
+
 abbrev pub split : List ℕ → List Interval → ℕ → Result (List Interval) TimewError
-split ids rows now =
-    if some_ahead ids rows now then Err (Range 0)
-    else Ok (flat_map (λ r. cond (is_among ids r.0) (halves now r.1) (r.1 ∷ [])) (numbered rows))
+split ids rows now = if some_ahead ids rows now then Err (Range 0) else Ok (halved ids now rows)
 
 -- each second has what it had
 abbrev pub SameSeconds : List Interval → List Interval → Type 0

@@ -1,5 +1,6 @@
 // `annotate`: sets the annotation of an interval.
-ghost use Rattle.std.specs.Prelude.{IfOk};
+ghost use Rattle.std.specs.Prelude.{◌+◌, ◌≤◌, length, IfOk};
+ghost use Rattle.timew_store.specs.Edit.{edited};
 ghost use Rattle.timew_cmd.specs.Commands.Annotate.{annotation_of, annotate_in, as_ids, annotated};
 ghost use Rattle.timew_cmd.specs.Given.{IsGiven};
 ghost use Rattle.timew_cmd.specs.Parts.{words_of};
@@ -12,7 +13,7 @@ use crate::labels::{Label, labelled};
 use crate::parts::{MISSING, id_of, spaced};
 use crate::word::Word;
 use std::alloc::Global;
-use timew_store::Interval;
+use timew_store::{Edit, Interval};
 
 fn annotation_of(alloc: Global, id: Option<u64>, words: &[Word]) -> Result<Command, WordsError>
     ensures value { Gives (λ command. command) result (annotation_of id (words_of words.now)) }
@@ -39,13 +40,10 @@ pub fn annotate_in(alloc: Global, words: &[Word]) -> Result<Command, WordsError>
     }
 }
 
-/// The intervals after `annotate`.
-pub fn annotate(
-    alloc: Global,
-    parts: &Annotate,
-    rows: &[Interval],
-) -> Result<Vec<Interval>, TimewError>
-    ensures { Answers (λ v. v.items) result (annotated (as_ids parts.now.id) parts.now.text rows.now) }
+/// What `annotate` makes of intervals.
+pub fn annotate(alloc: Global, parts: &Annotate, rows: &[Interval]) -> Result<Edit, TimewError>
+    ensures annotated { Answers (λ e. edited e rows.now) result (annotated (as_ids parts.now.id) parts.now.text rows.now) }
+    ensures inside { IfOk result (λ e. e.at + e.count ≤ length rows.now) }
 {
     match parts.id {
         Some(id) => labelled(alloc, &[id], Label::Annotation(&parts.text), rows),

@@ -1,5 +1,6 @@
 // `delete`: drops intervals.
-ghost use Rattle.std.specs.Prelude.{IfOk};
+ghost use Rattle.std.specs.Prelude.{◌+◌, ◌≤◌, length, IfOk};
+ghost use Rattle.timew_store.specs.Edit.{edited};
 ghost use Rattle.timew_cmd.specs.Commands.Delete.{delete_in, deleted};
 ghost use Rattle.timew_cmd.specs.Given.{IsGiven};
 ghost use Rattle.timew_cmd.specs.Parts.{words_of};
@@ -8,11 +9,11 @@ ghost use Rattle.timew_cmd.specs.Reading.{Gives};
 
 use crate::command::{Changing, Command};
 use crate::error::{TimewError, WordsError};
-use crate::numbers::{checked, rows_without};
+use crate::numbers::{checked, left_out};
 use crate::parts::some_ids;
 use crate::word::Word;
 use std::alloc::Global;
-use timew_store::Interval;
+use timew_store::{Edit, Interval};
 
 /// One id or more.
 pub fn delete_in(alloc: Global, words: &[Word]) -> Result<Command, WordsError>
@@ -23,10 +24,11 @@ pub fn delete_in(alloc: Global, words: &[Word]) -> Result<Command, WordsError>
     Ok(Command::Change(Changing::Delete(ids)))
 }
 
-/// The intervals after `delete`.
-pub fn delete(alloc: Global, ids: &[u64], rows: &[Interval]) -> Result<Vec<Interval>, TimewError>
-    ensures { Answers (λ v. v.items) result (deleted ids.now rows.now) }
+/// What `delete` makes of intervals.
+pub fn delete(alloc: Global, ids: &[u64], rows: &[Interval]) -> Result<Edit, TimewError>
+    ensures deleted { Answers (λ e. edited e rows.now) result (deleted ids.now rows.now) }
+    ensures inside { IfOk result (λ e. e.at + e.count ≤ length rows.now) }
 {
     checked(rows.len() as u64, ids)?;
-    Ok(rows_without(alloc, rows, ids)?)
+    Ok(left_out(alloc, rows, ids)?)
 }

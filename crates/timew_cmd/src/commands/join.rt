@@ -1,5 +1,6 @@
 // `join`: makes one interval of two.
-ghost use Rattle.std.specs.Prelude.{◌≡◌, IfOk};
+ghost use Rattle.std.specs.Prelude.{◌+◌, ◌≤◌, length, ◌≡◌, IfOk};
+ghost use Rattle.timew_store.specs.Edit.{edited};
 ghost use Rattle.timew_cmd.specs.Commands.Join.{join_in, later_end, first_text, joined, joined_both};
 ghost use Rattle.timew_cmd.specs.Given.{IsGiven};
 ghost use Rattle.timew_cmd.specs.Parts.{words_of};
@@ -12,7 +13,7 @@ use crate::parts::{MISSING, ended, id_in};
 use crate::placing::place;
 use crate::word::Word;
 use std::alloc::Global;
-use timew_store::Interval;
+use timew_store::{Edit, Interval};
 use tw_world::{Memory, Text};
 
 /// Two ids.
@@ -38,9 +39,10 @@ pub fn join_in(adjust: bool, words: &[Word]) -> Result<Command, BadWord>
     )
 }
 
-/// The intervals after `join`.
-pub fn join(alloc: Global, parts: &Join, rows: &[Interval]) -> Result<Vec<Interval>, TimewError>
-    ensures { Answers (λ v. v.items) result (joined_both parts.now.first parts.now.second parts.now.adjust rows.now) }
+/// What `join` makes of intervals.
+pub fn join(alloc: Global, parts: &Join, rows: &[Interval]) -> Result<Edit, TimewError>
+    ensures joined { Answers (λ e. edited e rows.now) result (joined_both parts.now.first parts.now.second parts.now.adjust rows.now) }
+    ensures inside { IfOk result (λ e. e.at + e.count ≤ length rows.now) }
 {
     let ids = [parts.first, parts.second];
     checked(rows.len() as u64, &ids)?;

@@ -1,5 +1,6 @@
 // `lengthen`: moves the end of a closed interval to a later moment.
-ghost use Rattle.std.specs.Prelude.{◌≡◌, IfOk};
+ghost use Rattle.std.specs.Prelude.{◌+◌, ◌≤◌, length, ◌≡◌, IfOk};
+ghost use Rattle.timew_store.specs.Edit.{edited};
 ghost use Rattle.timew_cmd.specs.Commands.Lengthen.{lengthen_in, lengthened};
 ghost use Rattle.timew_cmd.specs.Given.{IsGiven};
 ghost use Rattle.timew_cmd.specs.Parts.{words_of};
@@ -13,7 +14,7 @@ use crate::rows::spanning;
 use crate::stretch::resize_in;
 use crate::word::Word;
 use std::alloc::Global;
-use timew_store::Interval;
+use timew_store::{Edit, Interval};
 
 /// An id and a length.
 pub fn lengthen_in(adjust: bool, words: &[Word]) -> Result<Command, BadWord>
@@ -24,13 +25,10 @@ pub fn lengthen_in(adjust: bool, words: &[Word]) -> Result<Command, BadWord>
     Ok(Command::Change(Changing::Lengthen(parts)))
 }
 
-/// The intervals after `lengthen`.
-pub fn lengthen(
-    alloc: Global,
-    parts: &Resize,
-    rows: &[Interval],
-) -> Result<Vec<Interval>, TimewError>
-    ensures { Answers (λ v. v.items) result (lengthened parts.now.id parts.now.word parts.now.length parts.now.adjust rows.now) }
+/// What `lengthen` makes of intervals.
+pub fn lengthen(alloc: Global, parts: &Resize, rows: &[Interval]) -> Result<Edit, TimewError>
+    ensures lengthened { Answers (λ e. edited e rows.now) result (lengthened parts.now.id parts.now.word parts.now.length parts.now.adjust rows.now) }
+    ensures inside { IfOk result (λ e. e.at + e.count ≤ length rows.now) }
 {
     let row = row_at(parts.id, rows)?;
     let end = closed_end(parts.word, row.end)?;

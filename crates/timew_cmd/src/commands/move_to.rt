@@ -1,6 +1,7 @@
 // `move`: moves an interval to another start.
-ghost use Rattle.std.specs.Prelude.{◌≡◌, ◌<◌, IfSome, IfOk};
+ghost use Rattle.std.specs.Prelude.{◌+◌, ◌≤◌, length, ◌≡◌, ◌<◌, IfSome, IfOk};
 ghost use Rattle.tw_time.specs.Civil.{limit};
+ghost use Rattle.timew_store.specs.Edit.{edited};
 ghost use Rattle.timew_store.specs.Interval.{AreRows};
 ghost use Rattle.timew_cmd.specs.Commands.Move.{move_in, moved_end, moved_to};
 ghost use Rattle.timew_cmd.specs.Given.{IsGiven};
@@ -15,7 +16,7 @@ use crate::replacing::replace;
 use crate::rows::spanning;
 use crate::word::Word;
 use std::alloc::Global;
-use timew_store::Interval;
+use timew_store::{Edit, Interval};
 use tw_time::Zone;
 
 /// An id and a moment.
@@ -43,11 +44,12 @@ pub fn move_in(adjust: bool, words: &[Word], now: u64, zone: &Zone) -> Result<Co
     )
 }
 
-/// The intervals after `move`.
-pub fn move_to(alloc: Global, parts: &Move, rows: &[Interval]) -> Result<Vec<Interval>, TimewError>
+/// What `move` makes of intervals.
+pub fn move_to(alloc: Global, parts: &Move, rows: &[Interval]) -> Result<Edit, TimewError>
     requires start { parts.now.start < limit }
     requires rows { AreRows rows.now }
-    ensures { Answers (λ v. v.items) result (moved_to parts.now.id parts.now.word parts.now.start parts.now.adjust rows.now) }
+    ensures moved { Answers (λ e. edited e rows.now) result (moved_to parts.now.id parts.now.word parts.now.start parts.now.adjust rows.now) }
+    ensures inside { IfOk result (λ e. e.at + e.count ≤ length rows.now) }
 {
     let row = row_at(parts.id, rows)?;
     let end = moved_end(parts.start, row.start, row.end);

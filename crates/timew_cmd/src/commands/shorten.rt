@@ -1,5 +1,6 @@
 // `shorten`: moves the end of a closed interval to an earlier moment.
-ghost use Rattle.std.specs.Prelude.{◌≡◌, ◌<◌, IfOk};
+ghost use Rattle.std.specs.Prelude.{◌+◌, ◌≤◌, length, ◌≡◌, ◌<◌, IfOk};
+ghost use Rattle.timew_store.specs.Edit.{edited};
 ghost use Rattle.timew_store.specs.Interval.{limit, AreRows};
 ghost use Rattle.timew_cmd.specs.Commands.Shorten.{shorten_in, shorter, shortened};
 ghost use Rattle.timew_cmd.specs.Given.{IsGiven};
@@ -14,7 +15,7 @@ use crate::rows::spanning;
 use crate::stretch::resize_in;
 use crate::word::Word;
 use std::alloc::Global;
-use timew_store::Interval;
+use timew_store::{Edit, Interval};
 
 /// An id and a length.
 pub fn shorten_in(adjust: bool, words: &[Word]) -> Result<Command, BadWord>
@@ -25,14 +26,11 @@ pub fn shorten_in(adjust: bool, words: &[Word]) -> Result<Command, BadWord>
     Ok(Command::Change(Changing::Shorten(parts)))
 }
 
-/// The intervals after `shorten`.
-pub fn shorten(
-    alloc: Global,
-    parts: &Resize,
-    rows: &[Interval],
-) -> Result<Vec<Interval>, TimewError>
+/// What `shorten` makes of intervals.
+pub fn shorten(alloc: Global, parts: &Resize, rows: &[Interval]) -> Result<Edit, TimewError>
     requires { AreRows rows.now }
-    ensures { Answers (λ v. v.items) result (shortened parts.now.id parts.now.word parts.now.length parts.now.adjust rows.now) }
+    ensures shortened { Answers (λ e. edited e rows.now) result (shortened parts.now.id parts.now.word parts.now.length parts.now.adjust rows.now) }
+    ensures inside { IfOk result (λ e. e.at + e.count ≤ length rows.now) }
 {
     let row = row_at(parts.id, rows)?;
     let end = closed_end(parts.word, row.end)?;

@@ -1,22 +1,22 @@
 // `split`: cuts intervals in the middle.
-ghost use Rattle.std.specs.List.{flat_map};
-ghost use Rattle.std.specs.Prelude.{[], ◌∷◌, ◌++◌, cond, ◌≡◌, IfOk, OnOk};
-ghost use Rattle.timew_cmd.specs.Commands.Split.{split_in, middle, halves, is_ahead, some_ahead, split_all};
+ghost use Rattle.std.specs.Prelude.{[], ◌∷◌, ◌++◌, ◌+◌, ◌≤◌, length, drop, cond, ◌≡◌, IfOk, OnOk};
+ghost use Rattle.timew_store.specs.Edit.{edited};
+ghost use Rattle.timew_cmd.specs.Commands.Split.{split_in, middle, halves, is_ahead, some_ahead, halved, split, split_all};
 ghost use Rattle.timew_cmd.specs.Given.{IsGiven};
-ghost use Rattle.timew_cmd.specs.Numbers.{numbered, is_among};
 ghost use Rattle.timew_cmd.specs.Parts.{words_of};
 ghost use Rattle.timew_cmd.specs.Planned.{Answers};
 ghost use Rattle.timew_cmd.specs.Reading.{Gives};
 
+use crate::chosen::Chosen;
 use crate::command::{Changing, Command};
 use crate::error::{TimewError, WordsError};
-use crate::numbers::{checked, is_among};
+use crate::numbers::checked;
 use crate::open::moment_or;
 use crate::parts::some_ids;
 use crate::rows::{copy_row, spanning};
 use crate::word::Word;
 use std::alloc::Global;
-use timew_store::Interval;
+use timew_store::{Edit, Interval};
 use tw_world::Memory;
 
 /// One id or more.
@@ -28,16 +28,25 @@ pub fn split_in(alloc: Global, words: &[Word]) -> Result<Command, WordsError>
     Ok(Command::Change(Changing::Split(ids)))
 }
 
-/// The intervals after `split`.
-pub fn split(
-    alloc: Global,
-    ids: &[u64],
-    rows: &[Interval],
-    now: u64,
-) -> Result<Vec<Interval>, TimewError>
-    ensures { Answers (λ v. v.items) result (split_all ids.now rows.now now) }
+/// What `split` makes of intervals.
+pub fn split(alloc: Global, ids: &[u64], rows: &[Interval], now: u64) -> Result<Edit, TimewError>
+    ensures split { Answers (λ e. edited e rows.now) result (split_all ids.now rows.now now) }
+    ensures inside { IfOk result (λ e. e.at + e.count ≤ length rows.now) }
 {
     checked(rows.len() as u64, ids)?;
+    let chosen = Chosen::of(alloc, ids)?;
+    split_chosen(alloc, &chosen, rows, now)
+}
+
+fn split_chosen(
+    alloc: Global,
+    ids: &Chosen,
+    rows: &[Interval],
+    now: u64,
+) -> Result<Edit, TimewError>
+    ensures split { Answers (λ e. edited e rows.now) result (split ids.now.given.now rows.now now) }
+    ensures inside { IfOk result (λ e. e.at + e.count ≤ length rows.now) }
+{
     if some_ahead(ids, rows, now) {
         return Err(TimewError::Range { word: 0 });
     }
@@ -59,11 +68,11 @@ fn middle(now: u64, row: &Interval) -> u64
     row.start + moment_or(now, row.end).saturating_sub(row.start) / 2
 }
 
-fn some_ahead(ids: &[u64], rows: &[Interval], now: u64) -> bool
-    ensures { result ≡ some_ahead ids.now rows.now now }
+fn some_ahead(ids: &Chosen, rows: &[Interval], now: u64) -> bool
+    ensures { result ≡ some_ahead ids.now.given.now rows.now now }
 {
     for (k, row) in rows.iter().enumerate() {
-        if is_among(ids, (rows.len() - k) as u64) && is_ahead(now, row) {
+        if ids.has((rows.len() - k) as u64) && is_ahead(now, row) {
             return true;
         }
     }
@@ -86,22 +95,40 @@ fn push_halves(
     Ok(())
 }
 
-// Cuts the rows of these numbers.
-fn split_each(
+// The rows from an index up to another, those of these numbers cut in two.
+fn halved_within(
     alloc: Global,
-    ids: &[u64],
+    ids: &Chosen,
     rows: &[Interval],
     now: u64,
+    at: usize,
+    end: usize,
 ) -> Result<Vec<Interval>, Memory>
-    ensures { IfOk result (λ v. v.items ≡ flat_map (λ r. cond (is_among ids.now r.0) (halves now r.1) (r.1 ∷ [])) (numbered rows.now)) }
+    requires order { at ≤ end }
+    requires inside { end ≤ length rows.now }
+    ensures { IfOk result (λ v. v.items ++ halved ids.now.given.now now (drop end rows.now) ≡ halved ids.now.given.now now (drop at rows.now)) }
 {
-    let mut out = Vec::with_capacity(alloc, rows.len())?;
-    for (k, row) in rows.iter().enumerate() {
-        if is_among(ids, (rows.len() - k) as u64) {
-            push_halves(alloc, &mut out, now, row)?;
+    let mut out = Vec::with_capacity(alloc, end - at)?;
+    for k in at..end {
+        if ids.has((rows.len() - k) as u64) {
+            push_halves(alloc, &mut out, now, &rows[k])?;
         } else {
-            out.push(copy_row(alloc, row)?)?;
+            out.push(copy_row(alloc, &rows[k])?)?;
         }
     }
     Ok(out)
+}
+
+// The edit that cuts the rows of these numbers.
+fn split_each(alloc: Global, ids: &Chosen, rows: &[Interval], now: u64) -> Result<Edit, Memory>
+    ensures halved { IfOk result (λ e. edited e rows.now ≡ halved ids.now.given.now now rows.now) }
+    ensures inside { IfOk result (λ e. e.at + e.count ≤ length rows.now) }
+{
+    let (at, end) = ids.window(rows.len());
+    let out = halved_within(alloc, ids, rows, now, at, end)?;
+    Ok(Edit {
+        at,
+        count: end - at,
+        rows: out,
+    })
 }

@@ -11,7 +11,7 @@ ghost use Rattle.timew_cmd.specs.Reading.{Gives};
 use crate::command::{Changing, Command, Track};
 use crate::error::{TimewError, WordsError};
 use crate::parts::tags_in;
-use crate::placing::place_within;
+use crate::placing::place;
 use crate::rows::new_row;
 use crate::stretch::span_in;
 use crate::word::Word;
@@ -52,5 +52,5 @@ pub fn track(alloc: Global, parts: &Track, rows: &[Interval]) -> Result<Edit, Ti
         return Err(TimewError::Range { word: parts.word });
     }
     let new = new_row(alloc, parts.start, Some(parts.end), &parts.tags)?;
-    place_within(alloc, parts.adjust, new, rows)
+    place(alloc, parts.adjust, new, rows, &[])
 }

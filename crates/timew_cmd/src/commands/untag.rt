@@ -1,5 +1,6 @@
 // `untag`: takes tags from intervals.
-ghost use Rattle.std.specs.Prelude.{IfOk};
+ghost use Rattle.std.specs.Prelude.{◌+◌, ◌≤◌, length, IfOk};
+ghost use Rattle.timew_store.specs.Edit.{edited};
 ghost use Rattle.timew_cmd.specs.Commands.Untag.{untag_in, untagged};
 ghost use Rattle.timew_cmd.specs.Given.{IsGiven};
 ghost use Rattle.timew_cmd.specs.Parts.{words_of};
@@ -11,7 +12,7 @@ use crate::error::{TimewError, WordsError};
 use crate::labels::{Label, labelled, tagging_in};
 use crate::word::Word;
 use std::alloc::Global;
-use timew_store::Interval;
+use timew_store::{Edit, Interval};
 
 /// Ids, or none, and one tag or more.
 pub fn untag_in(alloc: Global, words: &[Word]) -> Result<Command, WordsError>
@@ -22,9 +23,10 @@ pub fn untag_in(alloc: Global, words: &[Word]) -> Result<Command, WordsError>
     Ok(Command::Change(Changing::Untag(parts)))
 }
 
-/// The intervals after `untag`.
-pub fn untag(alloc: Global, parts: &Tagging, rows: &[Interval]) -> Result<Vec<Interval>, TimewError>
-    ensures { Answers (λ v. v.items) result (untagged parts.now.ids parts.now.tags rows.now) }
+/// What `untag` makes of intervals.
+pub fn untag(alloc: Global, parts: &Tagging, rows: &[Interval]) -> Result<Edit, TimewError>
+    ensures untagged { Answers (λ e. edited e rows.now) result (untagged parts.now.ids parts.now.tags rows.now) }
+    ensures inside { IfOk result (λ e. e.at + e.count ≤ length rows.now) }
 {
     labelled(
         alloc,

@@ -6,6 +6,7 @@ ghost use Rattle.tw_world.specs.Crash.{Tells, IsStable, FaultsRise};
 ghost use Rattle.tw_journal.specs.Journal.{is_closed, journal_end};
 ghost use Rattle.timew_store.specs.Held.{replaced, IsPartly, Replaces, LeavesFiles};
 ghost use Rattle.timew_store.specs.Writing.{changes_of, AreFileNames, WriteRefused, RestsOn, LeavesWritten};
+ghost use Rattle.timew_store.specs.Growth.{record_size, JournalGrowsBy};
 
 use crate::error::StoreError;
 use tw_journal::{Journal, JournalError};
@@ -47,6 +48,8 @@ pub(crate) fn write_change<F: Folder, D: Disk>(
     ensures done { OnOk result (RestsOn F.model D.model journal.old journal.new folder.old folder.new disk.old disk.new body.now (changes_of files.now.items)) }
     ensures replaced { OnOk result (Replaces F.model folder.old folder.new (changes_of files.now.items)) }
     ensures any_moment { LeavesWritten F.model D.model journal.old folder.old folder.new disk.old disk.new body.now (changes_of files.now.items) }
+    ensures growth { JournalGrowsBy D.model journal.old disk.old disk.new (record_size body.now) }
+    ensures live { OnOk result (is_closed journal.new ≡ false) }
     ensures length { is_closed journal.new ≡ false → D.model.len disk.new ≡ journal_end journal.new }
     ensures refused { IfErr result (λ e. WriteRefused F.model D.model journal.old journal.new folder.old folder.new disk.old disk.new body.now e) }
     ensures folder { FaultsRise F.model folder.old folder.new }

@@ -1,7 +1,8 @@
 // The month files of intervals.
-ghost use Rattle.std.specs.Prelude.{◌≡◌, ◌<◌, ◌++◌, unsigned_abs, IfOk, OnOk};
+ghost use Rattle.std.specs.Prelude.{◌≡◌, ◌<◌, ◌++◌, IfOk, OnOk};
 ghost use Rattle.timew_store.specs.Interval.{IsRow, AreRows};
-ghost use Rattle.timew_store.specs.Changes.{month_name, month_text, name_of, row_text};
+ghost use Rattle.timew_store.specs.Changes.{month_name, month_text, row_text};
+ghost use Rattle.timew_store.specs.MonthOfYear.{text_of_month};
 
 use crate::interval::Interval;
 use crate::interval::list::Intervals;
@@ -35,10 +36,13 @@ fn month_text(alloc: Global, rows: &[Interval], name: &[u8]) -> Result<Vec<u8>, 
 }
 
 /// The text of the month file of a year and a month: the lines of the intervals that start in that month of UTC,
-/// in their order.
+/// in their order. There are none in a year below 0 or above 9999, nor in a month below 1 or above 12.
 pub fn write_month(alloc: Global, rows: &Intervals, year: i16, month: u8) -> Result<Vec<u8>, Memory>
-    ensures { IfOk result (λ text. text.items ≡ month_text (name_of (unsigned_abs year) month) rows.now) }
+    ensures { IfOk result (λ text. text.items ≡ text_of_month year month rows.now) }
 {
+    if !(0 <= year && year <= 9999 && 1 <= month && month <= 12) {
+        return Ok(Vec::new(alloc));
+    }
     let name = name_of(year.unsigned_abs(), month);
     month_text(alloc, rows.as_slice(), &name)
 }

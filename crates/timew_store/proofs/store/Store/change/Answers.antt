@@ -1,12 +1,52 @@
-use Rattle.std.proofs.Common.{◌≡◌, length, rules, refl, ap, ◌∙◌}
+use Rattle.std.proofs.Common.{◌≡◌, true, ◌^◌, length, rules, refl, ap, ◌∙◌, arith}
+use Rattle.tw_journal.specs.Record.{rows}
+use Rattle.timew_store.specs.Changes.{changes_to}
 use Rattle.timew_store.specs.Edit.{edited}
-use Rattle.timew_store.specs.Store.{intervals_of}
+use Rattle.timew_store.specs.Store.{intervals_of, change_bodies, rows_after}
+use Rattle.timew_store.specs.Growth.{record_size}
 use Rattle.timew_store.specs.Writing.{changes_of}
 use Rattle.timew_store.specs.declared.months.Months.{Months}
 use Rattle.timew_store.specs.declared.store.Store.{Store}
-use Rattle.timew_store.proofs.Prepares.{file_names, stays_here, change_ready, moved_nowhere, moved_on, either_on, none_changed, some_changed, one_body, change_refused}
+use Rattle.timew_store.proofs.Growth.{nothing_grown, grows_within, change_size}
+use Rattle.timew_store.proofs.Prepares.{file_names, stays_here, change_closed, change_ready, moved_nowhere, moved_on, either_on, none_changed, some_changed, one_body, change_refused}
 use Rattle.timew_store.proofs.RestoredStore.{restored, edit_holds}
 use Rattle.timew_store.proofs.store.Store.change.Goals as goal
+
+-- a closed store refuses first of all
+
+pub returns-then-is_closed-clause-any_moment : goal.returns-then-is_closed-clause-any_moment
+returns-then-is_closed-clause-any_moment g c = λ bodies history on. stays_here g.F.Folder.model g.D.Disk.model c.args.self.now.journal c.args.folder.now c.args.disk.now bodies history _ on.rest
+
+pub returns-then-is_closed-clause-growth : goal.returns-then-is_closed-clause-growth
+returns-then-is_closed-clause-growth g c = (
+  λ bodies on. nothing_grown g.D.Disk.model g.met.D.Disk.only_now c.args.disk.now (2 ^ 30),
+  λ files hold bodies on. nothing_grown g.D.Disk.model g.met.D.Disk.only_now c.args.disk.now _,
+)
+
+pub returns-then-is_closed-clause-refused : goal.returns-then-is_closed-clause-refused
+returns-then-is_closed-clause-refused g c =
+    let closed : c.args.self.now.journal.closed ≡ true = search rules in
+    change_closed g.F.Folder.model g.D.Disk.model c.args.self.now c.args.folder.now c.args.disk.now (rows_after c.args.edit c.args.self.now) closed
+
+-- ---- what is prepared
+
+pub returns-in_err-prepared-clause-growth : goal.returns-in_err-prepared-clause-growth
+returns-in_err-prepared-clause-growth g c = (
+  λ bodies on. nothing_grown g.D.Disk.model g.met.D.Disk.only_now c.args.disk.now (2 ^ 30),
+  λ files hold bodies on. nothing_grown g.D.Disk.model g.met.D.Disk.only_now c.args.disk.now _,
+)
+
+pub returns-in-Err-clause-growth : goal.returns-in-Err-clause-growth
+returns-in-Err-clause-growth g c = (
+  λ bodies on. nothing_grown g.D.Disk.model g.met.D.Disk.only_now c.args.disk.now (2 ^ 30),
+  λ files hold bodies on. nothing_grown g.D.Disk.model g.met.D.Disk.only_now c.args.disk.now _,
+)
+
+pub returns-then-len-eq0-clause-growth : goal.returns-then-len-eq0-clause-growth
+returns-then-len-eq0-clause-growth g c = (
+  λ bodies on. nothing_grown g.D.Disk.model g.met.D.Disk.only_now c.args.disk.now (2 ^ 30),
+  λ files hold bodies on. nothing_grown g.D.Disk.model g.met.D.Disk.only_now c.args.disk.now _,
+)
 
 pub returns-in_err-prepared-clause-any_moment : goal.returns-in_err-prepared-clause-any_moment
 returns-in_err-prepared-clause-any_moment g c = λ bodies history on. stays_here g.F.Folder.model g.D.Disk.model c.args.self.now.journal c.args.folder.now c.args.disk.now bodies history _ on.rest
@@ -91,3 +131,31 @@ returns-in-Err-write_change-clause-refused g c =
     change_refused m n old _ c.args.folder.now c.write_change.new.folder c.args.disk.now c.write_change.new.disk next c.deref.result.now c.in-Err-write_change.error
     (λ bodies history on. one_body m n old c.args.folder.now c.args.disk.now bodies history on next changes (c.in_ok-prepared.ensures.changes (m.seen c.args.folder.now) on.months) c.deref.result.now (some_changed c.in_ok-prepared.prepared.changes.items some) body_is)
     (restored old.months c.replace-files.result c.from_rows-rows.result c.replace-files.ensures.value (c.from_rows-rows.ensures ∙ c.in-Ok.ensures.rows) _ _) c.in-Err-write_change.ensures.refused
+
+pub returns-in-Ok-write_change-clause-growth : goal.returns-in-Ok-write_change-clause-growth
+returns-in-Ok-write_change-clause-growth g c =
+    let n = g.D.Disk.model in
+    let body = c.deref.result.now in
+    let changes = changes_of c.in_ok-prepared.prepared.changes.items in
+    let next = edited c.args.edit (intervals_of c.args.self.now) in
+    let some : length c.in_ok-prepared.prepared.changes.items ≡ 0 → ⊥ = search rules in
+    let size = change_size changes body (some_changed c.in_ok-prepared.prepared.changes.items some) (c.deref.ensures.value ∙ c.in_ok-prepared.ensures.body) in (
+      λ bodies on. grows_within n c.args.disk.now c.write_change.new.disk (record_size body) (2 ^ 30) (omega arith) (c.write_change.ensures.growth bodies on),
+      λ files hold bodies on.
+          let is = size files next (c.in_ok-prepared.ensures.changes files hold) in
+          grows_within n c.args.disk.now c.write_change.new.disk (record_size body) (length (rows (change_bodies (changes_to files next)))) (omega (arith, is)) (c.write_change.ensures.growth bodies on),
+    )
+
+pub returns-in-Err-write_change-clause-growth : goal.returns-in-Err-write_change-clause-growth
+returns-in-Err-write_change-clause-growth g c =
+    let n = g.D.Disk.model in
+    let body = c.deref.result.now in
+    let changes = changes_of c.in_ok-prepared.prepared.changes.items in
+    let next = edited c.args.edit (intervals_of c.args.self.now) in
+    let some : length c.in_ok-prepared.prepared.changes.items ≡ 0 → ⊥ = search rules in
+    let size = change_size changes body (some_changed c.in_ok-prepared.prepared.changes.items some) (c.deref.ensures.value ∙ c.in_ok-prepared.ensures.body) in (
+      λ bodies on. grows_within n c.args.disk.now c.write_change.new.disk (record_size body) (2 ^ 30) (omega arith) (c.write_change.ensures.growth bodies on),
+      λ files hold bodies on.
+          let is = size files next (c.in_ok-prepared.ensures.changes files hold) in
+          grows_within n c.args.disk.now c.write_change.new.disk (record_size body) (length (rows (change_bodies (changes_to files next)))) (omega (arith, is)) (c.write_change.ensures.growth bodies on),
+    )

@@ -36,9 +36,9 @@ returns-clause-any_moment g c = λ told settled tells.
     c.args.folder.now c.args.disk.now c.open_and_finish.new.folder c.open_and_finish.new.disk c.read_months.new.folder (c.open_and_finish.ensures.any_moment told settled tells) (c.open_and_finish.ensures.folder.tells ∙ told) c.read_months.ensures.reads.steps
 
 pub returns-clause-loaded : goal.returns-clause-loaded
-returns-clause-loaded g c = λ told settled tells.
-    store_loaded g.F.Folder.model g.D.Disk.model c.args.folder.now c.open_and_finish.new.folder c.read_months.new.folder c.args.disk.now c.open_and_finish.new.disk _ (c.open_and_finish.ensures.folder.tells ∙ told) c.read_months.ensures.reads
-    (c.in_ok-journal.ensures.loaded told settled tells) (c.in_ok-months.ensures.months (c.open_and_finish.ensures.folder.tells ∙ told))
+returns-clause-loaded g c = λ tells.
+    store_loaded g.F.Folder.model g.D.Disk.model c.args.folder.now c.open_and_finish.new.folder c.read_months.new.folder c.args.disk.now c.open_and_finish.new.disk _ c.open_and_finish.ensures.folder c.read_months.ensures.reads
+    (c.in_ok-journal.ensures.loaded tells) c.in_ok-months.ensures.months
 
 pub returns-in_err-journal-clause-stays : goal.returns-in_err-journal-clause-stays
 returns-in_err-journal-clause-stays g c =

@@ -1,6 +1,0 @@
-use Rattle.std.proofs.Common.{◌≡◌, ◌++◌, drop}
-use Rattle.timew_cmd.specs.Numbers.{numbered, without, rows_in}
-use Rattle.timew_cmd.proofs.numbers.rows_without.Given as goal
-
-abbrev pub invariant-loop-k : goal.invariant-loop-k
-invariant-loop-k l = l.others.items ++ rows_in (without l.ids (numbered (drop l.k l.rows))) ≡ rows_in (without l.ids (numbered l.rows))
