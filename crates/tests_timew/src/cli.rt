@@ -160,8 +160,11 @@ impl Machine {
     }
 }
 
+const CODE_AND_CALL: &str =
+    "inc 20260105T090000Z - 20260105T090005Z # code\ninc 20260105T090010Z - 20260105T090012Z # call\n";
+
 // Lines, one after another, the status of each and what it writes, and then the file of January.
-const LINES: [(&str, &str, &str); 14] = [
+const LINES: [(&str, &str, &str); 18] = [
     ("stop", "1 timew: no interval is open\n", ""),
     ("undo", "1 timew: nothing to undo\n", ""),
     ("", "1 timew: no active tracking\n", ""),
@@ -193,6 +196,22 @@ const LINES: [(&str, &str, &str); 14] = [
         "",
         "0 Tracking code since 20260105T100000Z.\n",
         "inc 20260105T090000Z - 20260105T090005Z # code\ninc 20260105T100000Z # code\n",
+    ),
+    ("undo", "0 Stored 1 interval.\n", ONE),
+    (
+        "track 2026-01-05T09:00:10 - 2026-01-05T09:00:12 call",
+        "0 Stored 2 intervals.\n",
+        CODE_AND_CALL,
+    ),
+    (
+        "gaps 2026-01-05T09:00:00 - 2026-01-05T09:00:12",
+        "0 Start               End                 Time\n2026-01-05 09:00:05 2026-01-05 09:00:10 0:00:05\n\nTotal 0:00:05\n",
+        CODE_AND_CALL,
+    ),
+    (
+        "totals :all",
+        "0 call 0:00:02\ncode 0:00:05\n\nTotal 0:00:07\n",
+        CODE_AND_CALL,
     ),
     ("undo", "0 Stored 1 interval.\n", ONE),
     (

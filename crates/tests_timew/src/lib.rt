@@ -1,4 +1,5 @@
-//! Tests of hours: the store of intervals, the commands and their top call, over the public calls of timew_store, timew_cmd and timew_cli.
+//! Tests of hours: the store of intervals, the commands, their reports and the top call, over the public calls of timew_store, timew_cmd,
+//! timew_report and timew_cli.
 //! A module is named after the crate that it tests.
 #![tactic(auto)]
 
@@ -6,5 +7,7 @@
 mod cli;
 #[cfg(test)]
 mod cmd;
+#[cfg(test)]
+mod report;
 #[cfg(test)]
 mod store;

@@ -38,7 +38,7 @@ use Rattle.timew_cmd.specs.Texts.{stored}
 use Rattle.timew_cli.specs.Cause.{plan_cause, change_cause, undo_cause}
 use Rattle.timew_cli.specs.Carried.{Carried, changes, takes_back, count_of, shows, view_of, shows_any, carried_by}
 use Rattle.timew_cli.specs.Run.{Outside, went}
-use Rattle.timew_cli.specs.Step.{Rests, EndsBadly, EndsWith, IsFaultOf, Among, IsTooLong}
+use Rattle.timew_cli.specs.Step.{Rests, EndsBadly, EndsWith, IsFaultOf, IsOnlyRead, Among, IsTooLong}
 use Rattle.timew_cli.specs.declared.cause.Cause.{Cause}
 use Rattle.timew_cli.specs.declared.cause.Cause.TheVariants.{NotTracking}
 
@@ -81,13 +81,13 @@ module _ {F D : Type 0} (m : FolderModel F) (n : DiskModel D) where
   plan_ends w held bodies planned_is (plan.Range word) is rest = (ap (changes held) is, rest)
   plan_ends w held bodies planned_is plan.Memory is rest = rest
 
-  pub plan_fault : (w : Outside F D) (store : Store) (e : TimewError) → IsFaultOf m n w store (plan_cause e)
-  plan_fault w store (plan.Overlap id) = tt
-  plan_fault w store plan.NoOpen = tt
-  plan_fault w store (plan.AlreadyOpen id) = tt
-  plan_fault w store (plan.NoInterval id) = tt
-  plan_fault w store (plan.Range word) = tt
-  plan_fault w store plan.Memory = tt
+  pub plan_fault : (w : Outside F D) (store : Store) (e : TimewError) → IsOnlyRead m n w → IsFaultOf m n w store (plan_cause e)
+  plan_fault w store (plan.Overlap id) rests = tt
+  plan_fault w store plan.NoOpen rests = tt
+  plan_fault w store (plan.AlreadyOpen id) rests = tt
+  plan_fault w store (plan.NoInterval id) rests = tt
+  plan_fault w store (plan.Range word) rests = tt
+  plan_fault w store plan.Memory rests = rests
 
   -- ---- a change
 
@@ -115,17 +115,17 @@ module _ {F D : Type 0} (m : FolderModel F) (n : DiskModel D) where
     change_ends (write.Journal fault.Memory) r bodies history on = absurd r.1.2.refused
     change_ends write.Memory r bodies history on = stays_whole bodies history on r.1 r.2
 
-    pub change_fault : is_closed old.journal ≡ false → (e : StoreError) → ChangeRefused m n old new f0 f1 d0 d1 next e → IsFaultOf m n (went f0 f1 d0 d1) old (change_cause e)
-    change_fault live write.Folder r = r.0
-    change_fault live (write.Journal fault.Disk) r = r.1.2.refused.0
-    change_fault live (write.Journal fault.Closed) r = absurd (apart r.1.2.refused.0)
+    pub change_fault : disk.Untouched n d0 d0 → is_closed old.journal ≡ false → (e : StoreError) → ChangeRefused m n old new f0 f1 d0 d1 next e → IsFaultOf m n (went f0 f1 d0 d1) old (change_cause e)
+    change_fault same live write.Folder r = r.0
+    change_fault same live (write.Journal fault.Disk) r = r.1.2.refused.0
+    change_fault same live (write.Journal fault.Closed) r = absurd (apart r.1.2.refused.0)
       where
         apart : old.journal.closed ≡ true → ⊥
         apart closed = cc
-    change_fault live (write.Journal (fault.Damaged offset)) r = absurd r.1.2.refused
-    change_fault live (write.Journal (fault.TooLong bytes)) r = omega (arith, r.1.2.refused.0, r.1.2.refused.1)
-    change_fault live (write.Journal fault.Memory) r = tt
-    change_fault live write.Memory r = tt
+    change_fault same live (write.Journal (fault.Damaged offset)) r = absurd r.1.2.refused
+    change_fault same live (write.Journal (fault.TooLong bytes)) r = omega (arith, r.1.2.refused.0, r.1.2.refused.1)
+    change_fault same live (write.Journal fault.Memory) r = absurd r.1.2.refused
+    change_fault same live write.Memory r = (r.1, subst (λ (d : D). disk.Untouched n d0 d) (sym r.2) same)
 
     pub change_done : (bodies : List (List ℕ)) (history : History) (count : ℕ) → count ≡ length next → IsMovedTo m n new f1 d1 (bodies ++ change_bodies (changes_to (m.seen f0) next)) (changed (held_by m f0 history) next)
         → EndsWith m n (went f0 f1 d0 d1) (changes (held_by m f0 history) (Ok next)) bodies (stored count)
@@ -169,18 +169,18 @@ module _ {F D : Type 0} (m : FolderModel F) (n : DiskModel D) where
 
     pub undo_fault : is_closed old.journal ≡ false → (e : UndoError) → UndoRefused m n old new f0 f1 d0 d1 e → IsFaultOf m n (went f0 f1 d0 d1) old (undo_cause e)
     undo_fault live undo.Folder r = r.0
-    undo_fault live (undo.Journal fault.Disk) r = r.2
-    undo_fault live (undo.Journal fault.Closed) r = absurd (apart r.2)
+    undo_fault live (undo.Journal fault.Disk) r = r.2.0
+    undo_fault live (undo.Journal fault.Closed) r = absurd (apart r.2.1)
       where
         apart : old.journal.closed ≡ true → ⊥
         apart closed = cc
-    undo_fault live (undo.Journal (fault.Damaged offset)) r = r.2
+    undo_fault live (undo.Journal (fault.Damaged offset)) r = (r.2.1, (r.0, r.2.0.1))
     undo_fault live (undo.Journal (fault.TooLong bytes)) r = r.2.0
-    undo_fault live (undo.Journal fault.Memory) r = tt
+    undo_fault live (undo.Journal fault.Memory) r = (r.0, r.2.1)
     undo_fault live (undo.BadLine file line) r = tt
     undo_fault live (undo.Edited file) r = tt
     undo_fault live undo.NothingToUndo r = tt
-    undo_fault live undo.Memory r = tt
+    undo_fault live undo.Memory r = (r.1, r.2)
 
     pub undo_done : (bodies : List (List ℕ)) (history : History) (count : ℕ) → count ≡ length (intervals_of new) → IsTakenBack m n new f0 f1 d1 bodies history
         → EndsWith m n (went f0 f1 d0 d1) (takes_back (held_by m f0 history) (undone_held (held_by m f0 history))) bodies (stored count)

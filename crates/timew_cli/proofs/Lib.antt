@@ -2,3 +2,4 @@ pub mod Ending
 pub mod Loaded
 pub mod Runs
 pub mod Unnamed
+pub mod Growth

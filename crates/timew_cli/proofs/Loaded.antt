@@ -5,30 +5,36 @@ use Rattle.std.proofs.lemmas.List.{append-nil, length-append}
 use Rattle.tw_time.specs.Moments.{TimeZone}
 use Rattle.tw_world.specs.Disk.{DiskModel, Rose}
 use Rattle.tw_world.specs.Disk as disk
-use Rattle.tw_world.specs.Crash.{Tells, IsStable, FaultsRise}
+use Rattle.tw_world.specs.Crash.{CrashModel, Tells, IsStable, LeavesOnly, FaultsRise}
 use Rattle.tw_world.specs.Folder.{Files, FolderModel}
 use Rattle.tw_world.specs.Turns.{InTurns, crash_of}
-use Rattle.tw_world.proofs.TurnRules.{turns_weaker, turns_joined}
+use Rattle.tw_world.specs.Turns.InTurns.{at_rest, first, second}
+use Rattle.tw_world.proofs.Crashes.{CountsNow, weaker}
+use Rattle.tw_world.proofs.TurnRules.{disk_run, ends_second, turns_weaker, turns_joined}
+use Rattle.tw_journal.specs.Form.{offset_in}
+use Rattle.tw_journal.proofs.Offsets.{still_open, open_records}
 use Rattle.tw_journal.specs.Open.{IsDamagedAt}
 use Rattle.tw_journal.specs.declared.error.JournalError.TheVariants as fault
 use Rattle.tw_journal.proofs.Unique.{one_records}
 use Rattle.timew_store.specs.Body.{FileChange, step_of}
 use Rattle.timew_store.specs.History.{History, Stands, start}
-use Rattle.timew_store.specs.Held.{magic, Held, OpensTo, IsAtRest, held_by}
-use Rattle.timew_store.specs.Loading.{OpensAlike, HoldsNoStep, StillOpen}
+use Rattle.timew_store.specs.Held.{magic, Held, OpensTo, IsAtRest, held_by, finished}
+use Rattle.timew_store.specs.Loading.{OpensAlike, LeavesAlike, HoldsNoStep, Stays}
 use Rattle.timew_store.specs.Rows.{rows_of}
 use Rattle.timew_store.specs.Store.{IsStoreOn, IsLoadedStore, LoadRefused, IsLoadFault, LoadSparesDisk, intervals_of}
 use Rattle.timew_store.specs.declared.interval.Interval.{Interval}
 use Rattle.timew_store.specs.declared.store.Store.{Store}
 use Rattle.timew_store.specs.declared.error.LoadError.{LoadError}
 use Rattle.timew_store.specs.declared.error.LoadError.TheVariants as load
+use Rattle.timew_store.proofs.AfterLoading.{same_last, all_finished}
 use Rattle.timew_store.proofs.Prepares.{opens_here}
+use Rattle.timew_store.proofs.Undoes.{rest_read}
 use Rattle.timew_store.proofs.Stays.{MayStay, DiskMayStay}
 use Rattle.timew_cmd.specs.declared.command.Command.{Command}
 use Rattle.timew_cli.specs.Cause.{load_cause, carry_cause}
 use Rattle.timew_cli.specs.Carried.{Carried, carried_by, carried_out, with_rows}
-use Rattle.timew_cli.specs.Run.{Outside, went, HasSize, HoldsNoStepAt, Opens, HoldsMore, Does, CarriedOut, Refused, PassesLimit, Because, NotCarried, CanBeCarriedOut, LeavesOf, LeavesStates}
-use Rattle.timew_cli.specs.Step.{shown_text, shown_of, Rests, EndsBadly, EndsWith, EndsOn, IsFaultOf, Among, IsTooLong}
+use Rattle.timew_cli.specs.Run.{Outside, went, HasSize, HoldsNoStepAt, IsLeft, Opens, HoldsMore, Does, CarriedOut, Refused, PassesLimit, Because, NotCarried, CanBeCarriedOut, LeavesOf, LeavesStates}
+use Rattle.timew_cli.specs.Step.{shown_text, shown_of, Rests, EndsBadly, EndsWith, EndsOn, IsFaultOf, IsOnlyRead, Among, IsTooLong}
 use Rattle.timew_cli.specs.declared.carry.CarryError.{CarryError}
 use Rattle.timew_cli.specs.declared.carry.Shown.{Shown}
 use Rattle.timew_cli.specs.declared.cause.Cause.{Cause}
@@ -52,6 +58,12 @@ ends_at file offset holds = record {
     last_of [] body = refl
     last_of (b ∷ front) body = last_of front body
 
+-- a run of two objects, and then calls that only read the second of them
+turns_then_reads : {A B X Y : Type 0} (m : CrashModel A X) (n : CrashModel B Y) → CountsNow n → (P : X → Y → Type 0) (a : A) (b : B) (c : A) (d : B) (e : B) → InTurns m n P a b c d → LeavesOnly n d e (n.leaves d) → InTurns m n P a b c e
+turns_then_reads {X = X} m n counts_now P _ _ _ _ e (at_rest a b here) run = ends_second m n counts_now P a b e (weaker n b e (n.leaves b) (λ y. (x : X) → m.leaves a x → P x y) run (λ y left x left'. here x y left' left))
+turns_then_reads m n counts_now P _ _ _ _ e (first a mid b c d moves rest) run = first a mid b c e moves (turns_then_reads m n counts_now P mid b c d e rest run)
+turns_then_reads m n counts_now P _ _ _ _ e (second a b mid c d moves rest) run = second a b mid c e moves (turns_then_reads m n counts_now P a mid c d e rest run)
+
 module _ {F D : Type 0} (m : FolderModel F) (n : DiskModel D) (command : Command) (now : ℕ) (zone : TimeZone) where
   pub still_among : (w : Outside F D) (held : Held) (r : Result Carried Cause) (x : Files) (y : List ℕ) → OpensAlike m n w.f0 w.d0 x y → LeavesOf m n command now zone w held r x y
   still_among w held (Ok carried) x y alike = inl alike
@@ -60,19 +72,19 @@ module _ {F D : Type 0} (m : FolderModel F) (n : DiskModel D) (command : Command
   -- ---- where nothing was loaded
 
   module _ (f0 f1 : F) (d0 d1 : D) where
-    pub load_ends : (e : LoadError) → LoadRefused m n f0 f1 d0 d1 e → (LoadSparesDisk e → StillOpen m n f0 f1 d0 d1) → Because m n command now zone (went f0 f1 d0 d1) (load_cause e)
-    load_ends load.Folder r still = r
-    load_ends (load.Journal fault.Disk) r still = r
-    load_ends (load.Journal fault.Memory) r still = λ held opens. still tt opens.told opens.settled opens.tells held opens.opens
-    load_ends (load.Journal (fault.Damaged offset)) r still = λ told settled tells. of_either (r tells)
+    pub load_ends : (e : LoadError) → LoadRefused m n f0 f1 d0 d1 e → (LoadSparesDisk e → Stays m n f0 f1 d0 d1) → LeavesAlike m n f0 f1 d0 d1 → Because m n command now zone (went f0 f1 d0 d1) (load_cause e)
+    load_ends load.Folder r stays alike = r
+    load_ends (load.Journal fault.Disk) r stays alike = r.1
+    load_ends (load.Journal fault.Memory) r stays alike = record { stays = stays tt; any_moment = alike }
+    load_ends (load.Journal (fault.Damaged offset)) r stays alike = (λ tells. of_either (r.1 tells), record { stays = stays tt; any_moment = alike })
       where
         of_either : IsDamagedAt magic (n.seen d0) offset ⊎ HoldsNoStep (n.seen d0) offset → IsDamagedAt magic (n.seen d0) offset ⊎ HoldsNoStepAt (n.seen d0) offset
         of_either (inl damaged) = inl damaged
         of_either (inr none) = inr (ends_at (n.seen d0) offset none)
-    load_ends (load.Journal (fault.TooLong bytes)) r still = absurd r
-    load_ends (load.Journal fault.Closed) r still = absurd r
-    load_ends (load.BadLine file line) r still = λ held opens.
-        let bad = r opens.told opens.settled opens.tells held opens.opens in (
+    load_ends (load.Journal (fault.TooLong bytes)) r stays alike = absurd r.1
+    load_ends (load.Journal fault.Closed) r stays alike = absurd r.1
+    load_ends (load.BadLine file line) r stays alike = λ held opens.
+        let bad = r.1 opens.told opens.settled opens.tells held opens.opens in (
           ap (λ (found : Result (List Interval) (List ℕ × ℕ)). with_rows command held found now zone) bad.0,
           record {
             bodies = bad.1.bodies;
@@ -83,17 +95,17 @@ module _ {F D : Type 0} (m : FolderModel F) (n : DiskModel D) (command : Command
             holds = bad.1.holds;
           },
         )
-    load_ends load.Memory r still = λ held opens. still tt opens.told opens.settled opens.tells held opens.opens
+    load_ends load.Memory r stays alike = record { stays = stays tt; any_moment = alike }
 
     pub load_wants : (e : LoadError) → LoadRefused m n f0 f1 d0 d1 e → ((held : Held) → disk.Tells n d0 → OpensTo (m.seen f0) (n.seen d0) held → IsLoadFault e) → CanBeCarriedOut m n command now zone (went f0 f1 d0 d1) → load_cause e ≡ causes.Memory
     load_wants load.Folder r sound can = absurd (can.folder_well r)
-    load_wants (load.Journal fault.Disk) r sound can = absurd (can.disk_well r)
+    load_wants (load.Journal fault.Disk) r sound can = absurd (can.disk_well r.1)
     load_wants (load.Journal fault.Memory) r sound can = refl
     load_wants (load.Journal (fault.Damaged offset)) r sound can = absurd (sound can.held can.opens.tells can.opens.opens)
-    load_wants (load.Journal (fault.TooLong bytes)) r sound can = absurd r
-    load_wants (load.Journal fault.Closed) r sound can = absurd r
+    load_wants (load.Journal (fault.TooLong bytes)) r sound can = absurd r.1
+    load_wants (load.Journal fault.Closed) r sound can = absurd r.1
     load_wants (load.BadLine file line) r sound can =
-        let bad = r can.opens.told can.opens.settled can.opens.tells can.held can.opens.opens in
+        let bad = r.1 can.opens.told can.opens.settled can.opens.tells can.held can.opens.opens in
         absurd (apart (sym can.is ∙ ap (λ (found : Result (List Interval) (List ℕ × ℕ)). with_rows command can.held found now zone) bad.0))
       where
         apart : Ok can.carried ≡ Err (causes.BadLine file line) → ⊥
@@ -106,18 +118,18 @@ module _ {F D : Type 0} (m : FolderModel F) (n : DiskModel D) (command : Command
 
   -- ---- where a store was loaded
 
-  module _ (store : Store) (f0 f1 f2 : F) (d0 d1 d2 : D) (loaded : Tells m f0 → IsStable m f0 → disk.Tells n d0 → IsLoadedStore m n f0 f1 d0 d1 store) (held : Held) (opens : Opens m n f0 d0 held) where
+  module _ (store : Store) (f0 f1 f2 : F) (d0 d1 d2 : D) (loaded : disk.Tells n d0 → IsLoadedStore m n f0 f1 d0 d1 store) (held : Held) (opens : Opens m n f0 d0 held) where
     abbrev pub is_loaded : IsLoadedStore m n f0 f1 d0 d1 store
-    is_loaded = loaded opens.told opens.settled opens.tells
+    is_loaded = loaded opens.tells
 
     stands : Stands is_loaded.bodies opens.opens.history
     stands = subst (λ (b : List (List ℕ)). Stands b opens.opens.history) (one_records magic (n.seen d0) opens.opens.bodies is_loaded.bodies opens.opens.records is_loaded.records) opens.opens.stands
 
     on : IsStoreOn m n store f1 d1 is_loaded.bodies opens.opens.history
-    on = is_loaded.on opens.opens.history stands
+    on = is_loaded.on opens.told opens.settled opens.opens.history stands
 
     files_same : m.seen f1 ≡ held.files
-    files_same = is_loaded.finished_now opens.opens.history stands ∙ opens.opens.files_are
+    files_same = is_loaded.finished_now opens.told ∙ ap (finished (m.seen f0)) (sym (same_last is_loaded.bodies is_loaded.last opens.opens.history is_loaded.last_is stands)) ∙ opens.opens.files_are
 
     held_same : held_by m f1 opens.opens.history ≡ held
     held_same =
@@ -138,9 +150,12 @@ module _ {F D : Type 0} (m : FolderModel F) (n : DiskModel D) (command : Command
     stays : Rests m n f2 d2 is_loaded.bodies (held_by m f1 opens.opens.history) → HoldsMore m n w [] held
     stays rest = more [] held (subst (λ (b : List (List ℕ)). Rests m n f2 d2 b held) (sym (append-nil is_loaded.bodies)) (subst (λ (h : Held). Rests m n f2 d2 is_loaded.bodies h) held_same rest))
 
-    still : MayStay m → DiskMayStay n → HoldsMore m n w [] held → OpensTo (m.seen f2) (n.seen d2) held
-    still folder_stays disk_stays h =
-        subst (OpensTo (m.seen f2) (n.seen d2)) h.holds (opens_here m n h.journal f2 d2 (h.bodies ++ []) h.history (m.seen f2) (n.seen d2) h.rest (folder_stays f2 h.rest.tells) (disk_stays d2 h.rest.open_on.rest.tells))
+    -- where it was only read since, folder and disk open to what they did
+    opens_read : MayStay m → DiskMayStay n → f2 ≡ f1 → disk.Untouched n d1 d2 → OpensTo (m.seen f2) (n.seen d2) held
+    opens_read folder_stays disk_stays same read =
+        let rest = rest_read m n store.journal f1 d1 d2 is_loaded.bodies opens.opens.history read on.rest in
+        subst (λ (f : F). OpensTo (m.seen f) (n.seen d2) held) (sym same)
+        (subst (OpensTo (m.seen f1) (n.seen d2)) held_same (opens_here m n store.journal f1 d2 is_loaded.bodies opens.opens.history (m.seen f1) (n.seen d2) rest (folder_stays f1 rest.tells) (disk_stays d2 rest.open_on.rest.tells)))
 
     pub does : (text : List ℕ) → EndsWith m n (went f1 f2 d1 d2) (carried_by command (held_by m f1 opens.opens.history) (intervals_of store) now zone) is_loaded.bodies text → Does m n command now zone w held text
     does text ends = record { carried = ends.carried; is = sym expected_same ∙ ends.is; text_is = ends.text_is; after = more ends.carried.adds ends.carried.held ends.after }
@@ -158,7 +173,7 @@ module _ {F D : Type 0} (m : FolderModel F) (n : DiskModel D) (command : Command
   among_leaves w held (Ok carried) x y among = inr among
   among_leaves w held (Err cause) x y among = inr among
 
-  module _ (store : Store) (f0 f1 f2 : F) (d0 d1 d2 : D) (loaded : Tells m f0 → IsStable m f0 → disk.Tells n d0 → IsLoadedStore m n f0 f1 d0 d1 store) where
+  module _ (store : Store) (f0 f1 f2 : F) (d0 d1 d2 : D) (loaded : disk.Tells n d0 → IsLoadedStore m n f0 f1 d0 d1 store) where
     step_done : (text : List ℕ)
         → ((bodies : List (List ℕ)) (history : History) → IsStoreOn m n store f1 d1 bodies history → EndsWith m n (went f1 f2 d1 d2) (carried_by command (held_by m f1 history) (intervals_of store) now zone) bodies text)
         → CarriedOut m n command now zone (went f0 f2 d0 d2) text
@@ -192,29 +207,54 @@ module _ {F D : Type 0} (m : FolderModel F) (n : DiskModel D) (command : Command
     refuses cause ends held opens =
         refused store f0 f1 f2 d0 d1 d2 loaded held opens cause (ends (is_loaded store f0 f1 f2 d0 d1 d2 loaded held opens).bodies opens.opens.history (on store f0 f1 f2 d0 d1 d2 loaded held opens))
 
-    step_ends : MayStay m → DiskMayStay n → FaultsRise m f0 f1 → disk.FaultsRise n d0 d1 → (cause : Cause)
+    -- where nothing was written since, folder and disk are left as the loading left them
+    left : MayStay m → DiskMayStay n → CountsNow (crash_of n) → FaultsRise m f0 f1 → disk.FaultsRise n d0 d1 → LeavesAlike m n f0 f1 d0 d1 → IsOnlyRead m n (went f1 f2 d1 d2) → IsLeft m n (went f0 f2 d0 d2)
+    left folder_stays disk_stays counts_now folder kept alike rests = record {
+      stays = record {
+        opens = λ told settled tells held opens. opens_read store f0 f1 f2 d0 d1 d2 loaded held (record { told = told; settled = settled; tells = tells; opens = opens }) folder_stays disk_stays rests.0 rests.1;
+        files = λ told tells.
+            let is = loaded tells in
+            inr (record { bodies = is.bodies; records = is.records; last = is.last; last_is = is.last_is; partly = all_finished is.last (m.seen f0) (m.seen f2) (ap (λ (f : F). m.seen f) rests.0 ∙ is.finished_now told) });
+        journal = λ tells.
+            let is = loaded tells in
+            inr (record {
+              bodies = is.bodies;
+              had = is.records;
+              has = open_records n magic store.journal d2 is.bodies (still_open n magic store.journal d1 d2 is.bodies rests.1 is.open_on);
+              offsets = λ k inside. ap (λ (s : List ℕ). offset_in magic s is.bodies k) (rests.1.seen (kept.tells ∙ tells)) ∙ is.offsets k inside;
+            });
+      };
+      any_moment = λ told settled tells.
+          subst (λ (f : F). InTurns m (crash_of n) (OpensAlike m n f0 d0) f0 d0 f d2) (sym rests.0)
+          (turns_then_reads m (crash_of n) counts_now (OpensAlike m n f0 d0) f0 d0 f1 d1 d2 (alike told settled tells) (disk_run n d1 d2 (n.leaves d1) (rests.1.run (kept.tells ∙ tells))));
+    }
+
+    step_ends : (IsOnlyRead m n (went f1 f2 d1 d2) → IsLeft m n (went f0 f2 d0 d2)) → FaultsRise m f0 f1 → disk.FaultsRise n d0 d1 → (cause : Cause)
         → ((bodies : List (List ℕ)) (history : History) → IsStoreOn m n store f1 d1 bodies history → EndsBadly m n (went f1 f2 d1 d2) (carried_by command (held_by m f1 history) (intervals_of store) now zone) bodies (held_by m f1 history) cause)
         → IsFaultOf m n (went f1 f2 d1 d2) store cause → Because m n command now zone (went f0 f2 d0 d2) cause
-    step_ends folder_stays disk_stays folder kept causes.DiskFault ends is = omega (arith, kept.faults, is)
-    step_ends folder_stays disk_stays folder kept causes.FolderFault ends is = omega (arith, folder.faults, is)
-    step_ends folder_stays disk_stays folder kept causes.Memory ends is = λ held opens. still store f0 f1 f2 d0 d1 d2 loaded held opens folder_stays disk_stays (stays store f0 f1 f2 d0 d1 d2 loaded held opens (here causes.Memory ends held opens))
-    step_ends folder_stays disk_stays folder kept (causes.RecordTooLong bytes) ends is = (is, λ held opens. passes store f0 f1 f2 d0 d1 d2 loaded held opens bytes (here (causes.RecordTooLong bytes) ends held opens))
-    step_ends folder_stays disk_stays folder kept (causes.Damaged offset) ends is = λ told settled tells.
-        let has = loaded told settled tells in
-        let at = is (kept.tells ∙ tells) has.bodies has.open_on in
-        inr (record { bodies = has.bodies; records = has.records; number = at.0; inside = at.1; none = (at.2.0, at.2.1 ∙ has.offsets at.0 at.1) })
-    step_ends folder_stays disk_stays folder kept causes.Done ends is = refuses causes.Done ends
-    step_ends folder_stays disk_stays folder kept causes.OutFault ends is = refuses causes.OutFault ends
-    step_ends folder_stays disk_stays folder kept causes.NotTracking ends is = refuses causes.NotTracking ends
-    step_ends folder_stays disk_stays folder kept causes.NothingToUndo ends is = refuses causes.NothingToUndo ends
-    step_ends folder_stays disk_stays folder kept (causes.Edited file) ends is = refuses (causes.Edited file) ends
-    step_ends folder_stays disk_stays folder kept (causes.BadWords word kind) ends is = refuses (causes.BadWords word kind) ends
-    step_ends folder_stays disk_stays folder kept (causes.NoInterval id) ends is = refuses (causes.NoInterval id) ends
-    step_ends folder_stays disk_stays folder kept causes.NoOpen ends is = refuses causes.NoOpen ends
-    step_ends folder_stays disk_stays folder kept (causes.AlreadyOpen id) ends is = refuses (causes.AlreadyOpen id) ends
-    step_ends folder_stays disk_stays folder kept (causes.Range word) ends is = refuses (causes.Range word) ends
-    step_ends folder_stays disk_stays folder kept (causes.Overlap id) ends is = refuses (causes.Overlap id) ends
-    step_ends folder_stays disk_stays folder kept (causes.BadLine file line) ends is = refuses (causes.BadLine file line) ends
+    step_ends leaves folder kept causes.DiskFault ends is = omega (arith, kept.faults, is)
+    step_ends leaves folder kept causes.FolderFault ends is = omega (arith, folder.faults, is)
+    step_ends leaves folder kept causes.Memory ends is = leaves is
+    step_ends leaves folder kept (causes.RecordTooLong bytes) ends is = (is, λ held opens. passes store f0 f1 f2 d0 d1 d2 loaded held opens bytes (here (causes.RecordTooLong bytes) ends held opens))
+    step_ends leaves folder kept (causes.Damaged offset) ends is = (
+      λ tells.
+          let has = loaded tells in
+          let at = is.0 (kept.tells ∙ tells) has.bodies has.open_on in
+          inr (record { bodies = has.bodies; records = has.records; number = at.0; inside = at.1; none = (at.2.0, at.2.1 ∙ has.offsets at.0 at.1) }),
+      leaves is.1,
+    )
+    step_ends leaves folder kept causes.Done ends is = refuses causes.Done ends
+    step_ends leaves folder kept causes.OutFault ends is = refuses causes.OutFault ends
+    step_ends leaves folder kept causes.NotTracking ends is = refuses causes.NotTracking ends
+    step_ends leaves folder kept causes.NothingToUndo ends is = refuses causes.NothingToUndo ends
+    step_ends leaves folder kept (causes.Edited file) ends is = refuses (causes.Edited file) ends
+    step_ends leaves folder kept (causes.BadWords word kind) ends is = refuses (causes.BadWords word kind) ends
+    step_ends leaves folder kept (causes.NoInterval id) ends is = refuses (causes.NoInterval id) ends
+    step_ends leaves folder kept causes.NoOpen ends is = refuses causes.NoOpen ends
+    step_ends leaves folder kept (causes.AlreadyOpen id) ends is = refuses (causes.AlreadyOpen id) ends
+    step_ends leaves folder kept (causes.Range word) ends is = refuses (causes.Range word) ends
+    step_ends leaves folder kept (causes.Overlap id) ends is = refuses (causes.Overlap id) ends
+    step_ends leaves folder kept (causes.BadLine file line) ends is = refuses (causes.BadLine file line) ends
 
     same_carried : (a b : Carried) (r : Result Carried Cause) → r ≡ Ok a → r ≡ Ok b → a ≡ b
     same_carried a b r is that = cc
@@ -237,8 +277,8 @@ module _ {F D : Type 0} (m : FolderModel F) (n : DiskModel D) (command : Command
         let same = same_carried long.carried can.carried (carried_out command can.held now zone) long.is can.is in
         absurd (omega (arith, is, can.fits bytes (subst (λ (c : Carried). HasSize c.adds bytes) same long.size)))
     step_wants folder kept (causes.Damaged offset) ends is can =
-        let has = loaded can.opens.told can.opens.settled can.opens.tells in
-        let at = is (kept.tells ∙ can.opens.tells) has.bodies has.open_on in
+        let has = loaded can.opens.tells in
+        let at = is.0 (kept.tells ∙ can.opens.tells) has.bodies has.open_on in
         absurd (no_step has.bodies start can.opens.opens.history (stands store f0 f1 f2 d0 d1 d2 loaded can.held can.opens) at.0 at.1 at.2.0)
     step_wants folder kept causes.Done ends is can = no_refusal causes.Done ends can
     step_wants folder kept causes.OutFault ends is can = no_refusal causes.OutFault ends can
@@ -265,9 +305,9 @@ module _ {F D : Type 0} (m : FolderModel F) (n : DiskModel D) (command : Command
     ended_done (Ok shown) ends = step_done (shown_text shown) ends
     ended_done (Err e) ends = tt
 
-    pub ended_badly : MayStay m → DiskMayStay n → FaultsRise m f0 f1 → disk.FaultsRise n d0 d1 → (r : Result Shown CarryError) → HasEnded r → HasFaults r → IfErr r (NotCarried m n command now zone (went f0 f2 d0 d2))
-    ended_badly folder_stays disk_stays folder kept (Ok shown) ends faults = tt
-    ended_badly folder_stays disk_stays folder kept (Err e) ends faults = step_ends folder_stays disk_stays folder kept (carry_cause e) ends faults
+    pub ended_badly : MayStay m → DiskMayStay n → CountsNow (crash_of n) → FaultsRise m f0 f1 → disk.FaultsRise n d0 d1 → LeavesAlike m n f0 f1 d0 d1 → (r : Result Shown CarryError) → HasEnded r → HasFaults r → IfErr r (NotCarried m n command now zone (went f0 f2 d0 d2))
+    ended_badly folder_stays disk_stays counts_now folder kept alike (Ok shown) ends faults = tt
+    ended_badly folder_stays disk_stays counts_now folder kept alike (Err e) ends faults = step_ends (left folder_stays disk_stays counts_now folder kept alike) folder kept (carry_cause e) ends faults
 
     pub ended_wants : FaultsRise m f0 f1 → disk.FaultsRise n d0 d1 → (r : Result Shown CarryError) → HasEnded r → HasFaults r → IfErr r (λ e. CanBeCarriedOut m n command now zone (went f0 f2 d0 d2) → carry_cause e ≡ causes.Memory)
     ended_wants folder kept (Ok shown) ends faults = tt

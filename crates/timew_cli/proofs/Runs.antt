@@ -1,9 +1,10 @@
 -- What is known of a run of words.
-use Rattle.std.proofs.Common.{◌≡◌, ◌⊎◌, inl, inr, ℕ, List, Result, Ok, Err, refl, sym, subst, arith}
+use Rattle.std.proofs.Common.{◌≡◌, ◌⊎◌, inl, inr, ℕ, ◌+◌, ◌^◌, List, Result, Ok, Err, refl, sym, subst, arith}
 use Rattle.tw_time.specs.Moments.{TimeZone}
 use Rattle.tw_world.specs.Disk.{DiskModel, Rose}
 use Rattle.tw_world.specs.Disk as disk
-use Rattle.tw_world.specs.Crash.{FaultsRise}
+use Rattle.tw_world.specs.Crash.{IsStable, FaultsRise}
+use Rattle.tw_world.proofs.Moments.{OnlyNow}
 use Rattle.tw_world.specs.Folder.{Files, FolderModel}
 use Rattle.tw_world.specs.Turns.InTurns.{at_rest}
 use Rattle.tw_ending.specs.Ending.{EndsPrinting}
@@ -11,6 +12,7 @@ use Rattle.tw_ending.specs.Ending.End.{Failed}
 use Rattle.tw_journal.specs.declared.error.JournalError.{JournalError}
 use Rattle.tw_journal.specs.declared.error.JournalError.TheVariants as journal
 use Rattle.timew_store.specs.Held.{OpensTo}
+use Rattle.timew_store.specs.Loading.{OpensAlike}
 use Rattle.timew_store.specs.declared.error.LoadError.{LoadError}
 use Rattle.timew_store.specs.declared.error.LoadError.TheVariants as load
 use Rattle.timew_store.specs.declared.error.StoreError.{StoreError}
@@ -18,6 +20,7 @@ use Rattle.timew_store.specs.declared.error.StoreError.TheVariants as store
 use Rattle.timew_store.specs.declared.error.UndoError.{UndoError}
 use Rattle.timew_store.specs.declared.error.UndoError.TheVariants as undo
 use Rattle.timew_cli.specs.Carried.{carried_out}
+use Rattle.timew_cli.proofs.Growth.{nothing_grown}
 use Rattle.timew_cli.proofs.Loaded.{still_among}
 use Rattle.tw_world.specs.Sink.{SinkModel}
 use Rattle.timew_cmd.specs.declared.command.Command.{Command}
@@ -28,7 +31,7 @@ use Rattle.timew_cmd.specs.declared.error.WordsError.{WordsError}
 use Rattle.timew_cmd.specs.declared.error.WordsError.TheVariants as words
 use Rattle.timew_cmd.specs.Reading.{Refuses}
 use Rattle.timew_cli.specs.Cause.{end_of, word_cause, words_cause, journal_cause, load_cause, plan_cause, change_cause, undo_cause, carry_cause}
-use Rattle.timew_cli.specs.Run.{Outside, went, CarriedOut, NotCarried, GivesBy, Gives, CanEnd, IsDoneOrWant, LeavesStates, IsRun}
+use Rattle.timew_cli.specs.Run.{Outside, went, CarriedOut, NotCarried, GivesBy, Gives, CanEnd, IsDoneOrWant, LeavesStates, GrowsByRecord, IsRun}
 use Rattle.timew_cli.specs.declared.carry.CarryError.{CarryError}
 use Rattle.timew_cli.specs.declared.carry.CarryError.TheVariants as carry
 use Rattle.timew_cli.specs.declared.cause.Cause.{Cause}
@@ -95,12 +98,12 @@ module _ {F D O : Type 0} (m : FolderModel F) (n : DiskModel D) (s : SinkModel O
 
   -- words that ask for a command, and words that do not
   pub command_is_run : (asked : Result Command BadWord) (command : Command) (now : ℕ) (zone : TimeZone) (w : Outside F D) (o0 o1 : O) (cause : Cause) → asked ≡ Ok command → Gives m n command now zone w s o0 o1 cause
-      → (CanEnd m n command now zone w s o0 o1 → IsDoneOrWant cause) → LeavesStates m n command now zone w → FaultsRise m w.f0 w.f1 → disk.FaultsRise n w.d0 w.d1 → IsRun m n s asked now zone w o0 o1 cause
-  command_is_run asked command now zone w o0 o1 cause is gives ends leaves folder kept = subst (λ (a : Result Command BadWord). IsRun m n s a now zone w o0 o1 cause) (sym is)
-      (record { gives = gives; complete = ends; any_moment = leaves; folder = folder; disk = kept })
+      → (CanEnd m n command now zone w s o0 o1 → IsDoneOrWant cause) → LeavesStates m n command now zone w → GrowsByRecord n w.d0 w.d1 → FaultsRise m w.f0 w.f1 → disk.FaultsRise n w.d0 w.d1 → IsRun m n s asked now zone w o0 o1 cause
+  command_is_run asked command now zone w o0 o1 cause is gives ends leaves grows folder kept = subst (λ (a : Result Command BadWord). IsRun m n s a now zone w o0 o1 cause) (sym is)
+      (record { gives = gives; complete = ends; any_moment = leaves; growth = grows; folder = folder; disk = kept })
 
-  refused_is_run : (bad : BadWord) (now : ℕ) (zone : TimeZone) (f : F) (d : D) (o : O) (cause : Cause) → (cause ≡ word_cause bad) ⊎ (cause ≡ causes.Memory) → FaultsRise m f f → disk.FaultsRise n d d → IsRun m n s (Err bad) now zone (went f f d d) o o cause
-  refused_is_run bad now zone f d o cause is folder kept = record { gives = (is, refl, refl, refl); complete = tt; any_moment = (refl, refl); folder = folder; disk = kept }
+  refused_is_run : OnlyNow n → (bad : BadWord) (now : ℕ) (zone : TimeZone) (f : F) (d : D) (o : O) (cause : Cause) → (cause ≡ word_cause bad) ⊎ (cause ≡ causes.Memory) → FaultsRise m f f → disk.FaultsRise n d d → IsRun m n s (Err bad) now zone (went f f d d) o o cause
+  refused_is_run only_now bad now zone f d o cause is folder kept = record { gives = (is, refl, refl, refl); complete = tt; any_moment = (refl, refl); growth = λ tells. nothing_grown n only_now d (2 ^ 30 + 29); folder = folder; disk = kept }
 
   folder_kept : (f : F) → FaultsRise m f f
   folder_kept f = record { faults = omega arith; tells = refl }
@@ -109,18 +112,33 @@ module _ {F D O : Type 0} (m : FolderModel F) (n : DiskModel D) (s : SinkModel O
   disk_kept d = record { faults = omega arith; tells = refl }
 
   -- nothing was done for want of memory
-  want_is_run : (asked : Result Command BadWord) (now : ℕ) (zone : TimeZone) (f : F) (d : D) (o : O) → IsRun m n s asked now zone (went f f d d) o o causes.Memory
-  want_is_run (Ok command) now zone f d o = record {
-    gives = (λ held opens. opens.opens, refl);
+  alike_here : (f : F) (d : D) (settled : IsStable m f) (x : Files) (y : List ℕ) → m.leaves f x → n.leaves d y → OpensAlike m n f d x y
+  alike_here f d settled x y left left' = record {
+    before = y;
+    left = left';
+    alike = λ h o. subst (λ (files : Files). OpensTo files y h) (sym (settled x left)) o;
+    files_stay = inl (settled x left);
+    journal_stays = inl refl;
+  }
+
+  want_is_run : OnlyNow n → (asked : Result Command BadWord) (now : ℕ) (zone : TimeZone) (f : F) (d : D) (o : O) → IsRun m n s asked now zone (went f f d d) o o causes.Memory
+  want_is_run only_now (Ok command) now zone f d o = record {
+    gives = (
+      record {
+        stays = record { opens = λ told settled tells held opens. opens; files = λ told tells. inl refl; journal = λ tells. inl refl };
+        any_moment = λ told settled tells. at_rest f d (λ x y left left'. alike_here f d settled x y left left');
+      },
+      refl,
+    );
     complete = λ can. inr refl;
-    any_moment = λ held opens. at_rest f d (λ x y left left'. still_among m n command now zone (went f f d d) held (carried_out command held now zone) x y
-        (record { before = y; left = left'; alike = λ h o. subst (λ (files : Files). OpensTo files y h) (sym (opens.settled x left)) o }));
+    any_moment = λ held opens. at_rest f d (λ x y left left'. still_among m n command now zone (went f f d d) held (carried_out command held now zone) x y (alike_here f d opens.settled x y left left'));
+    growth = λ tells. nothing_grown n only_now d (2 ^ 30 + 29);
     folder = folder_kept f;
     disk = disk_kept d;
   }
-  want_is_run (Err bad) now zone f d o = refused_is_run bad now zone f d o causes.Memory (inr refl) (folder_kept f) (disk_kept d)
+  want_is_run only_now (Err bad) now zone f d o = refused_is_run only_now bad now zone f d o causes.Memory (inr refl) (folder_kept f) (disk_kept d)
 
-  pub error_is_run : (asked : Result Command BadWord) (error : WordsError) (now : ℕ) (zone : TimeZone) (f : F) (d : D) (o : O) (cause : Cause) → Refuses error asked → cause ≡ words_cause error → IsRun m n s asked now zone (went f f d d) o o cause
-  error_is_run asked (words.Bad bad) now zone f d o cause is same =
-      subst (λ (a : Result Command BadWord). IsRun m n s a now zone (went f f d d) o o cause) (sym is) (refused_is_run bad now zone f d o cause (inl same) (folder_kept f) (disk_kept d))
-  error_is_run asked words.Memory now zone f d o cause is same = subst (λ (c : Cause). IsRun m n s asked now zone (went f f d d) o o c) (sym same) (want_is_run asked now zone f d o)
+  pub error_is_run : OnlyNow n → (asked : Result Command BadWord) (error : WordsError) (now : ℕ) (zone : TimeZone) (f : F) (d : D) (o : O) (cause : Cause) → Refuses error asked → cause ≡ words_cause error → IsRun m n s asked now zone (went f f d d) o o cause
+  error_is_run only_now asked (words.Bad bad) now zone f d o cause is same =
+      subst (λ (a : Result Command BadWord). IsRun m n s a now zone (went f f d d) o o cause) (sym is) (refused_is_run only_now bad now zone f d o cause (inl same) (folder_kept f) (disk_kept d))
+  error_is_run only_now asked words.Memory now zone f d o cause is same = subst (λ (c : Cause). IsRun m n s asked now zone (went f f d d) o o c) (sym same) (want_is_run only_now asked now zone f d o)

@@ -11,7 +11,7 @@ use Rattle.timew_store.specs.Undo.{NoUndo, undone_held}
 use Rattle.timew_cmd.specs.declared.command.Command.{Command}
 use Rattle.timew_cmd.specs.declared.command.Command.TheVariants.{Change, Undo, Show}
 use Rattle.timew_cmd.specs.declared.command.Showing.{Showing}
-use Rattle.timew_cmd.specs.declared.command.Showing.TheVariants.{Tracked, Export, Summary}
+use Rattle.timew_cmd.specs.declared.command.Showing.TheVariants.{Tracked, Export, Summary, Hours}
 use Rattle.timew_cmd.specs.declared.error.TimewError.{TimewError}
 use Rattle.timew_cmd.specs.Planned.{planned}
 use Rattle.timew_cmd.specs.Ranges.{bounds}
@@ -19,6 +19,8 @@ use Rattle.timew_cmd.specs.Texts.{stored}
 use Rattle.timew_cmd.specs.Commands.Export.{export}
 use Rattle.timew_cmd.specs.Commands.Show.{tracking}
 use Rattle.timew_cmd.specs.Commands.Summary.{summary}
+use Rattle.timew_report.specs.Bounds.{hours_of}
+use Rattle.timew_report.specs.Texts.{time_text}
 use Rattle.timew_cli.specs.Cause.{plan_cause, no_undo_cause}
 use Rattle.timew_cli.specs.declared.cause.Cause.{Cause}
 use Rattle.timew_cli.specs.declared.cause.Cause.TheVariants.{NotTracking, BadLine}
@@ -57,6 +59,7 @@ abbrev pub view_of : Showing → List Interval → (now : ℕ) → TimeZone → 
 view_of Tracked rows now zone = tracking rows
 view_of (Export range) rows now zone = Some (export rows (bounds range now zone).0 (bounds range now zone).1 now)
 view_of (Summary range) rows now zone = Some (summary rows (bounds range now zone).0 (bounds range now zone).1 now zone)
+view_of (Hours report range) rows now zone = Some (time_text report rows (hours_of range rows now zone).0 (hours_of range rows now zone).1 now zone)
 
 -- what a command does, where the month files hold these intervals
 abbrev pub carried_by : Command → Held → List Interval → (now : ℕ) → TimeZone → Result Carried Cause

@@ -11,7 +11,7 @@ use Rattle.tw_journal.specs.Open.{Records, IsDamagedAt}
 use Rattle.tw_journal.specs.declared.journal.Journal.{Journal}
 use Rattle.timew_store.specs.History.{History}
 use Rattle.timew_store.specs.Held.{magic, Held, OpensTo, IsAtRest, held_by}
-use Rattle.timew_store.specs.Loading.{OpensAlike, IsNoStep}
+use Rattle.timew_store.specs.Loading.{OpensAlike, LeavesAlike, Stays, IsNoStep}
 use Rattle.timew_cmd.specs.declared.command.Command.{Command}
 use Rattle.timew_cmd.specs.declared.error.BadWord.{BadWord}
 use Rattle.tw_ending.specs.Ending.{End, HasNotFailed}
@@ -32,6 +32,14 @@ pub record Outside (F D : Type 0) : Type 0 where
 abbrev pub went : {F D : Type 0} → (f0 f1 : F) (d0 d1 : D) → Outside F D
 went f0 f1 d0 d1 = record { f0 = f0; f1 = f1; d0 = d0; d1 = d1 }
 
+-- a file that is at most so many bytes longer than one that a crash could leave before
+abbrev pub IsGrownBy : {D : Type 0} → DiskModel D → D → ℕ → List ℕ → Type 0
+IsGrownBy n before bytes file = (other : List ℕ) × n.leaves before other × (length file ≤ length other + bytes)
+
+-- no file that a crash leaves is longer by more than a record and the front of a new file
+abbrev pub GrowsByRecord : {D : Type 0} → DiskModel D → (before after : D) → Type 0
+GrowsByRecord n before after = disk.Tells n before → disk.LeavesOnly n before after (IsGrownBy n before (2 ^ 30 + 29))
+
 -- the one record among these has so many bytes, with its gate and its length
 abbrev pub HasSize : List (List ℕ) → ℕ → Type 0
 HasSize bodies size = (body : List ℕ) × (bodies ≡ body ∷ []) × (size ≡ length body + 5)
@@ -51,6 +59,12 @@ module _ {F D : Type 0} (m : FolderModel F) (n : DiskModel D) where
     pub settled : IsStable m f
     pub tells : disk.Tells n d
     pub opens : OpensTo (m.seen f) (n.seen d) held
+
+  -- Damage and want of memory leave what folder and disk hold, whatever the records lead to; the last change may be finished, or
+  -- some of its files. A crash leaves the same.
+  pub record IsLeft (w : Outside F D) : Type 0 where
+    pub stays : Stays m n w.f0 w.f1 w.d0 w.d1
+    pub any_moment : LeavesAlike m n w.f0 w.f1 w.d0 w.d1
 
   -- these records come after those of before, and folder and disk rest and hold this
   pub record HoldsMore (w : Outside F D) (adds : List (List ℕ)) (held : Held) : Type 0 where
@@ -83,13 +97,13 @@ module _ {F D : Type 0} (m : FolderModel F) (n : DiskModel D) (command : Command
     pub size : HasSize carried.adds bytes
     pub stays : HoldsMore m n w [] held
 
-  -- Why a command is not carried out, by the cause. If memory runs out, folder and disk open to what they did.
+  -- why a command is not carried out, by the cause
   abbrev pub Because : Cause → Type 0
   Because DiskFault = Rose (n.faults w.d0) (n.faults w.d1)
   Because FolderFault = Rose (m.faults w.f0) (m.faults w.f1)
-  Because Memory = (held : Held) → Opens m n w.f0 w.d0 held → OpensTo (m.seen w.f1) (n.seen w.d1) held
+  Because Memory = IsLeft m n w
   Because (RecordTooLong bytes) = (2 ^ 30 < bytes) × ((held : Held) → Opens m n w.f0 w.d0 held → PassesLimit held bytes)
-  Because (Damaged offset) = Tells m w.f0 → IsStable m w.f0 → disk.Tells n w.d0 → IsDamagedAt magic (n.seen w.d0) offset ⊎ HoldsNoStepAt (n.seen w.d0) offset
+  Because (Damaged offset) = (disk.Tells n w.d0 → IsDamagedAt magic (n.seen w.d0) offset ⊎ HoldsNoStepAt (n.seen w.d0) offset) × IsLeft m n w
   Because cause = Refused cause
 
   -- why a command is not carried out
@@ -157,5 +171,6 @@ module _ {F D O : Type 0} (m : FolderModel F) (n : DiskModel D) (s : SinkModel O
     pub gives : RunGives m n s asked now zone w o0 o1 cause
     pub complete : EndsWell m n s asked now zone w o0 o1 cause
     pub any_moment : RunLeaves m n asked now zone w
+    pub growth : GrowsByRecord n w.d0 w.d1
     pub folder : FaultsRise m w.f0 w.f1
     pub disk : disk.FaultsRise n w.d0 w.d1

@@ -87,10 +87,15 @@ module _ {F D : Type 0} (m : FolderModel F) (n : DiskModel D) (w : Outside F D) 
   abbrev pub IsDamagedIn : Store → (offset : ℕ) → Type 0
   IsDamagedIn store offset = disk.Tells n w.d0 → (bodies : List (List ℕ)) → IsOpenOn n magic store.journal w.d0 bodies → HasNoStep (n.seen w.d0) bodies offset
 
+  -- nothing was written
+  abbrev pub IsOnlyRead : Type 0
+  IsOnlyRead = (w.f1 ≡ w.f0) × disk.Untouched n w.d0 w.d1
+
   -- what is known of a cause, whatever the records stand for
   abbrev pub IsFaultOf : Store → Cause → Type 0
   IsFaultOf store DiskFault = Rose (n.faults w.d0) (n.faults w.d1)
   IsFaultOf store FolderFault = Rose (m.faults w.f0) (m.faults w.f1)
   IsFaultOf store (RecordTooLong bytes) = 2 ^ 30 < bytes
-  IsFaultOf store (Damaged offset) = IsDamagedIn store offset
+  IsFaultOf store (Damaged offset) = IsDamagedIn store offset × IsOnlyRead
+  IsFaultOf store Memory = IsOnlyRead
   IsFaultOf store cause = Unit {0}

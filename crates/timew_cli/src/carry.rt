@@ -1,18 +1,19 @@
 // Carrying a command out.
-ghost use Rattle.std.specs.Prelude.{◌≡◌, ◌<◌, length, option_map, true, false, not, IfOk, IfErr};
+ghost use Rattle.std.specs.Prelude.{◌≡◌, ◌<◌, ◌^◌, length, option_map, true, false, not, IfOk, IfErr};
 ghost use Rattle.tw_world.specs.Disk as tells;
 ghost use Rattle.tw_world.specs.Crash.{FaultsRise};
 ghost use Rattle.tw_ending.specs.Ending.{EndsPrinting};
 ghost use Rattle.timew_store.specs.Interval.{limit};
 ghost use Rattle.timew_store.specs.Store.{intervals_of, is_store_closed, store_end};
 ghost use Rattle.timew_store.specs.Undo.{undone_held};
+ghost use Rattle.timew_store.specs.Growth.{JournalGrowsBy};
 ghost use Rattle.timew_cmd.specs.Given.{IsGiven, IsGivenChange};
 ghost use Rattle.timew_cmd.specs.Planned.{planned};
 ghost use Rattle.timew_cmd.specs.Texts.{stored};
 ghost use Rattle.timew_cli.specs.Cause.{carry_cause};
 ghost use Rattle.timew_cli.specs.Carried.{view_of, carried_by, takes_back, changes};
 ghost use Rattle.timew_cli.specs.Step.{shown_text, shown_of, EndsOn, LeavesOn, IsFaultOf};
-ghost use Rattle.timew_cli.specs.Run.{went, CarriedOut, NotCarried, CanBeCarriedOut, LeavesStates, Gives, CanEnd, IsDoneOrWant};
+ghost use Rattle.timew_cli.specs.Run.{went, CarriedOut, NotCarried, CanBeCarriedOut, LeavesStates, GrowsByRecord, Gives, CanEnd, IsDoneOrWant};
 
 use crate::cause::Cause;
 use crate::text::stored_text;
@@ -21,6 +22,7 @@ use std::mem::forget;
 use timew_cmd::{
     Changing, Command, Showing, TimewError, export_text, plan, summary_text, tracking_text,
 };
+use timew_report::{hours_of, time_text};
 use timew_store::{Intervals, LoadError, Store, StoreError, UndoError};
 use tw_ending::print;
 use tw_time::Zone;
@@ -71,6 +73,10 @@ fn view(
             let (from, to) = range.bounds(now, zone);
             Ok(Some(summary_text(alloc, rows, from, to, now, zone)?))
         }
+        Showing::Hours(report, range) => {
+            let (from, to) = hours_of(*range, rows, now, zone);
+            Ok(Some(time_text(alloc, *report, rows, from, to, now, zone)?))
+        }
     }
 }
 
@@ -100,6 +106,7 @@ fn take_back<F: Folder, D: Disk>(
     ensures ends { EndsOn F.model D.model (went folder.old folder.new disk.old disk.new) store (λ held. takes_back held (undone_held held)) (shown_of result) }
     ensures faults { IfErr result (λ e. IsFaultOf F.model D.model (went folder.old folder.new disk.old disk.new) store (carry_cause e)) }
     ensures any_moment { LeavesOn F.model D.model (went folder.old folder.new disk.old disk.new) store (λ held. takes_back held (undone_held held)) }
+    ensures growth { JournalGrowsBy D.model store.journal disk.old disk.new (2 ^ 30) }
     ensures folder { FaultsRise F.model folder.old folder.new }
     ensures disk { tells.FaultsRise D.model disk.old disk.new }
 {
@@ -128,6 +135,7 @@ fn change<F: Folder, D: Disk>(
     ensures faults { IfErr result (λ e. IsFaultOf F.model D.model (went folder.old folder.new disk.old disk.new) store (carry_cause e)) }
     ensures any_moment { LeavesOn F.model D.model (went folder.old folder.new disk.old disk.new) store
         (λ held. changes held (planned command.now (intervals_of store) now)) }
+    ensures growth { JournalGrowsBy D.model store.journal disk.old disk.new (2 ^ 30) }
     ensures folder { FaultsRise F.model folder.old folder.new }
     ensures disk { tells.FaultsRise D.model disk.old disk.new }
 {
@@ -161,6 +169,7 @@ fn carry_on<F: Folder, D: Disk>(
     ensures faults { IfErr result (λ e. IsFaultOf F.model D.model (went folder.old folder.new disk.old disk.new) store (carry_cause e)) }
     ensures any_moment { LeavesOn F.model D.model (went folder.old folder.new disk.old disk.new) store
         (λ held. carried_by command.now held (intervals_of store) now zone.now) }
+    ensures growth { JournalGrowsBy D.model store.journal disk.old disk.new (2 ^ 30) }
     ensures folder { FaultsRise F.model folder.old folder.new }
     ensures disk { tells.FaultsRise D.model disk.old disk.new }
 {
@@ -198,6 +207,7 @@ fn carry_out<F: Folder, D: Disk>(
     ensures complete { IfErr result (λ e. CanBeCarriedOut F.model D.model command.now now zone.now (went folder.old folder.new disk.old disk.new)
         → carry_cause e ≡ Cause.Memory) }
     ensures any_moment { LeavesStates F.model D.model command.now now zone.now (went folder.old folder.new disk.old disk.new) }
+    ensures growth { GrowsByRecord D.model disk.old disk.new }
     ensures folder { FaultsRise F.model folder.old folder.new }
     ensures disk { tells.FaultsRise D.model disk.old disk.new }
 {
@@ -238,6 +248,7 @@ pub(crate) fn run_command<F: Folder, D: Disk, O: Sink>(
     ensures complete { CanEnd F.model D.model command.now now zone.now (went folder.old folder.new disk.old disk.new)
         O.model out.old out.new → IsDoneOrWant result }
     ensures any_moment { LeavesStates F.model D.model command.now now zone.now (went folder.old folder.new disk.old disk.new) }
+    ensures growth { GrowsByRecord D.model disk.old disk.new }
     ensures folder { FaultsRise F.model folder.old folder.new }
     ensures disk { tells.FaultsRise D.model disk.old disk.new }
 {

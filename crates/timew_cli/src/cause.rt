@@ -38,11 +38,11 @@ pub enum Cause {
     DiskFault,
     /// The record, with its gate and length, would have so many bytes, which are too many. Nothing was written.
     RecordTooLong { bytes: u64 },
-    /// The journal is damaged at this offset. Nothing was written.
+    /// The journal is damaged at this offset. No record was written, and of the month files only the last change may be finished.
     Damaged { offset: u64 },
     /// The folder failed. If the record is written, the next command finishes the change.
     FolderFault,
-    /// There was no memory. No record was written.
+    /// There was no memory. No record was written, and of the month files only the last change may be finished.
     Memory,
     /// The output failed. The record is written.
     OutFault,

@@ -4,7 +4,7 @@ ghost use Rattle.tw_world.specs.Disk as tells;
 ghost use Rattle.tw_world.specs.Crash.{FaultsRise};
 ghost use Rattle.timew_cmd.specs.Reading.{command_of};
 ghost use Rattle.timew_cli.specs.Fault.{GotFault, status_of};
-ghost use Rattle.timew_cli.specs.Run.{went, RunGives, EndsWell, RunLeaves, IsRun};
+ghost use Rattle.timew_cli.specs.Run.{went, RunGives, EndsWell, RunLeaves, GrowsByRecord, IsRun};
 
 use crate::carry::run_command;
 use crate::cause::{Cause, Outcome, status_of};
@@ -36,6 +36,7 @@ fn run_words<F: Folder, D: Disk, O: Sink>(
 /// Does what `tw timew` does with these words, at this moment in this zone: judges the words, opens the journal, finishes the last
 /// change and reads the month files, writes at most one record and then the files that it changes, prints to `out`, and writes a
 /// line on `err` for any other end than `Done`. The record is written before any file is replaced, and before anything is printed.
+/// Damage and want of memory leave the month files as they were, or those of the last change finished, or some of them.
 pub fn timew_run<F: Folder, D: Disk, O: Sink, E: Sink>(
     alloc: Global,
     words: &Vec<String>,
@@ -52,6 +53,7 @@ pub fn timew_run<F: Folder, D: Disk, O: Sink, E: Sink>(
         (went folder.old folder.new journal.old journal.new) out.old out.new result.cause }
     ensures any_moment { RunLeaves F.model D.model (command_of (map string_bytes words.now.items) now.seconds zone.now) now.seconds zone.now
         (went folder.old folder.new journal.old journal.new) }
+    ensures growth { GrowsByRecord D.model journal.old journal.new }
     ensures told { GotFault E.model err.old err.new result.cause }
     ensures status { result.status ≡ status_of result.cause }
     ensures folder { FaultsRise F.model folder.old folder.new }

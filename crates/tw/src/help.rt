@@ -74,6 +74,10 @@ commands of working hours, after tw timew:
   undo                  undo the last change
   summary [RANGE]       show intervals and their length, today's without a range
   export [RANGE]        print them as JSON, all without a range
+  gaps [RANGE]          show what is free between them, today without a range
+  days [RANGE]          show the time of each day, today's without a range
+  weeks [RANGE]         show the time of each week, likewise
+  totals [RANGE]        show the time of each tag, likewise
 
 @1 is the last interval. A range is :day, :week, :all or START - END. With
 :adjust other intervals make room for the one that is placed.

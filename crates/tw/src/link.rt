@@ -2,7 +2,7 @@
 ghost use Rattle.std.specs.Prelude.{◌≡◌, None, Err, OnOk, IsErrOf, IsSomeAnd};
 ghost use Rattle.tw_world.specs.Disk.{Rose};
 ghost use Rattle.tw_http.specs.Link.{IsExchange, IsAnswered};
-ghost use Rattle.tw_files.specs.Asked.{Asked};
+ghost use Rattle.tw_files.specs.Asked.{Asked, OpensOne};
 
 use tw_cli::Address;
 use tw_files::{AskError, Dialer, Timer, ask};
@@ -47,9 +47,10 @@ impl<S: Dialer + Timer + Copy> Link for TcpLink<S> {
         ensures failed { IsErrOf result LinkError.Failed → Rose self.old.faults self.new.faults }
 
         ensures unaddressed { self.old.address ≡ None → result ≡ Err LinkError.Failed }
-        // A connection to the server's address got the request, and gave the reply.
+        // A connection to the server's address got the request, and gave the reply. It is the one that this value of the system opened.
         ensures asked { OnOk result (IsSomeAnd self.old.address (λ address. Asked (S.is_of address.host address.port) S.leads_to S.has_shown
             S.Stream.contents S.Stream.remaining request.now reply.new.items)) }
+        ensures opened { OpensOne S.has_opened self.old.system self.new.system result }
         ensures well { OnOk result (self.new.faults ≡ self.old.faults) }
     {
         self.exchanges = self.exchanges.saturating_add(1);
@@ -58,14 +59,8 @@ impl<S: Dialer + Timer + Copy> Link for TcpLink<S> {
             return Err(LinkError::Failed);
         };
         let host = address.host.as_str();
-        match ask(
-            &self.system,
-            self.system,
-            host,
-            address.port,
-            request,
-            reply,
-        ) {
+        let clock = self.system;
+        match ask(&mut self.system, clock, host, address.port, request, reply) {
             Ok(()) => Ok(()),
             Err(AskError::Memory) => Err(LinkError::Memory),
             Err(AskError::Failed) => {

@@ -1,4 +1,6 @@
-use Rattle.std.proofs.Common.{List, Result, ap, sym, subst, ◌∙◌}
+use Rattle.std.proofs.Common.{◌^◌, List, Result, refl, ap, sym, subst, ◌∙◌}
+use Rattle.tw_world.proofs.Moments.{untouched}
+use Rattle.timew_store.proofs.Growth.{nothing_grown}
 use Rattle.tw_world.specs.Turns.{InTurns, crash_of}
 use Rattle.timew_store.specs.Held.{held_by}
 use Rattle.timew_store.specs.Store.{intervals_of}
@@ -66,3 +68,17 @@ returns-in-Err-clause-ends g c = λ bodies history on. rests g.F.Folder.model g.
 
 pub returns-in-Err-clause-any_moment : goal.returns-in-Err-clause-any_moment
 returns-in-Err-clause-any_moment g c = λ bodies history on. among_here g.F.Folder.model g.D.Disk.model c.args.store c.args.folder.now c.args.disk.now bodies history _ on
+
+pub returns-in-Err-clause-faults : goal.returns-in-Err-clause-faults
+returns-in-Err-clause-faults g c = (refl, untouched g.D.Disk.model g.met.D.Disk.only_now c.args.disk.now)
+
+-- ---- growth
+
+pub returns-in-Some-clause-growth : goal.returns-in-Some-clause-growth
+returns-in-Some-clause-growth g c = λ bodies on. nothing_grown g.D.Disk.model g.met.D.Disk.only_now c.args.disk.now (2 ^ 30)
+
+pub returns-in-None-clause-growth : goal.returns-in-None-clause-growth
+returns-in-None-clause-growth g c = λ bodies on. nothing_grown g.D.Disk.model g.met.D.Disk.only_now c.args.disk.now (2 ^ 30)
+
+pub returns-in-Err-clause-growth : goal.returns-in-Err-clause-growth
+returns-in-Err-clause-growth g c = λ bodies on. nothing_grown g.D.Disk.model g.met.D.Disk.only_now c.args.disk.now (2 ^ 30)

@@ -1,4 +1,6 @@
-use Rattle.std.proofs.Common.{ℕ, List, Result, length, ap, sym, subst}
+use Rattle.std.proofs.Common.{ℕ, ◌^◌, List, Result, length, refl, ap, sym, subst}
+use Rattle.tw_world.proofs.Moments.{untouched}
+use Rattle.timew_store.proofs.Growth.{nothing_grown as no_growth}
 use Rattle.tw_world.specs.Turns.{InTurns, crash_of}
 use Rattle.timew_store.specs.Edit.{edited}
 use Rattle.timew_store.specs.Held.{held_by}
@@ -23,7 +25,10 @@ returns-in-Err-clause-ends g c = λ bodies history on.
     plan_ends m n (went c.args.folder.now c.args.folder.now c.args.disk.now c.args.disk.now) held bodies (planned c.args.command.now (intervals_of c.args.store) c.args.now) c.in-Err.error fails (rests m n c.args.store c.args.folder.now c.args.disk.now bodies history on)
 
 pub returns-in-Err-clause-faults : goal.returns-in-Err-clause-faults
-returns-in-Err-clause-faults g c = plan_fault g.F.Folder.model g.D.Disk.model (went c.args.folder.now c.args.folder.now c.args.disk.now c.args.disk.now) c.args.store c.in-Err.error
+returns-in-Err-clause-faults g c = plan_fault g.F.Folder.model g.D.Disk.model (went c.args.folder.now c.args.folder.now c.args.disk.now c.args.disk.now) c.args.store c.in-Err.error (refl, untouched g.D.Disk.model g.met.D.Disk.only_now c.args.disk.now)
+
+pub returns-in-Err-clause-growth : goal.returns-in-Err-clause-growth
+returns-in-Err-clause-growth g c = λ bodies on. no_growth g.D.Disk.model g.met.D.Disk.only_now c.args.disk.now (2 ^ 30)
 
 pub returns-in-Err-clause-any_moment : goal.returns-in-Err-clause-any_moment
 returns-in-Err-clause-any_moment g c = λ bodies history on. among_here g.F.Folder.model g.D.Disk.model c.args.store c.args.folder.now c.args.disk.now bodies history _ on
@@ -41,7 +46,7 @@ returns-in-Err-change-clause-ends g c = λ bodies history on.
 
 pub returns-in-Err-change-clause-faults : goal.returns-in-Err-change-clause-faults
 returns-in-Err-change-clause-faults g c =
-    change_fault g.F.Folder.model g.D.Disk.model c.args.store c.change.new.self c.args.folder.now c.change.new.folder c.args.disk.now c.change.new.disk (edited c.in-Ok.edit (intervals_of c.args.store)) c.requires.live c.in-Err-change.error c.in-Err-change.ensures.refused
+    change_fault g.F.Folder.model g.D.Disk.model c.args.store c.change.new.self c.args.folder.now c.change.new.folder c.args.disk.now c.change.new.disk (edited c.in-Ok.edit (intervals_of c.args.store)) (untouched g.D.Disk.model g.met.D.Disk.only_now c.args.disk.now) c.requires.live c.in-Err-change.error c.in-Err-change.ensures.refused
 
 pub returns-in-Err-change-clause-any_moment : goal.returns-in-Err-change-clause-any_moment
 returns-in-Err-change-clause-any_moment g c = λ bodies history on.
@@ -72,3 +77,9 @@ returns-in-Ok-change-clause-any_moment g c = λ bodies history on.
     let next = edited c.in-Ok.edit (intervals_of c.args.store) in
     let is = made_of_kept (λ (r : List Interval). planned c.args.command.now r c.args.now) c.in-Ok.edit _ (intervals_of c.args.store) c.intervals.ensures c.in-Ok.ensures.planned in
     subst (λ (p : Result (List Interval) TimewError). InTurns m (crash_of n) (Among held (changes held p)) c.args.folder.now c.args.disk.now c.change.new.folder c.change.new.disk) (sym is) (c.change.ensures.any_moment bodies history on)
+
+pub returns-in-Ok-change-clause-growth : goal.returns-in-Ok-change-clause-growth
+returns-in-Ok-change-clause-growth g c = c.change.ensures.growth.0
+
+pub returns-in-Err-change-clause-growth : goal.returns-in-Err-change-clause-growth
+returns-in-Err-change-clause-growth g c = c.change.ensures.growth.0

@@ -38,3 +38,9 @@ returns-in-Ok-clause-any_moment g c = λ bodies history on.
     let held = held_by g.F.Folder.model c.args.folder.now history in
     turns_weaker g.F.Folder.model (crash_of g.D.Disk.model) (OpensToEitherOf held (undone_held held)) (Among held (takes_back held (undone_held held))) (λ x y opens. either_among g.F.Folder.model g.D.Disk.model held (undone_held held) x y opens)
     c.args.folder.now c.args.disk.now c.undo.new.folder c.undo.new.disk (c.undo.ensures.any_moment bodies history on)
+
+pub returns-in-Ok-clause-growth : goal.returns-in-Ok-clause-growth
+returns-in-Ok-clause-growth g c = c.undo.ensures.growth.0
+
+pub returns-in-Err-clause-growth : goal.returns-in-Err-clause-growth
+returns-in-Err-clause-growth g c = c.undo.ensures.growth.0
