@@ -291,12 +291,12 @@ def programs(arguments, folder, number):
     return found
 
 
-def compare(arguments, number, programs):
+def compare(arguments, number, programs, own):
     """Runs each command of the programs that are made for a number, and shows how long each took."""
     with tempfile.TemporaryDirectory(prefix="tw-bench-") as folder:
         pair = programs(arguments, folder, number)
         for command in arguments.commands:
-            running = pair[:1] if command in OWN else pair
+            running = pair[:1] if command in own else pair
             walls = [[] for _ in running]
             for _ in range(arguments.runs):
                 for place, program in enumerate(running):
@@ -329,8 +329,8 @@ def options(about, rival, counted, commands):
     return parser
 
 
-def start(parser, rival, counted, programs):
-    """Reads the options, and compares the programs at each number."""
+def start(parser, rival, counted, programs, own):
+    """Reads the options, and compares the programs at each number; some commands are of `tw` alone."""
     arguments = parser.parse_args()
     arguments.commands = arguments.commands.split(",")
     if not os.access(arguments.tw, os.X_OK):
@@ -340,7 +340,7 @@ def start(parser, rival, counted, programs):
         heads += [f"{rival:>15}       ", "  time   memory"]
     print(" | ".join(heads))
     for number in arguments.sizes.split(","):
-        compare(arguments, int(number), programs)
+        compare(arguments, int(number), programs, own)
 
 
 def main():
@@ -349,7 +349,7 @@ def main():
     parser.add_argument("--synced", action="store_true", help="stores after a first sync")
     parser.add_argument("--state", action="store_true", help="a journal that begins with a state")
     parser.add_argument("--templates", action="store_true", help="each task is a template")
-    start(parser, "task", "tasks", programs)
+    start(parser, "task", "tasks", programs, OWN)
 
 
 if __name__ == "__main__":

@@ -11,6 +11,7 @@ order, as a hand may leave them: of twice the intervals a command then takes abo
 The runs of the two programs alternate. A `start` is taken back by a `cancel`, a `stop` ends an interval
 that began ten minutes before, `track` places an interval where there is none yet, `tag` and `move` change the first interval, and
 `delete` names every interval by its id and is taken back by an `undo`; what goes before and after is not measured.
+`gaps`, `days`, `weeks` and `totals` are of `tw` alone: compare them with its `summary`, which is about all intervals, too.
 Each line gives the median of the wall time in milliseconds, the peak of resident memory of one more run in megabytes, and how many
 times less `tw` takes of each. Without `timew` on the machine (Debian's package timewarrior), it measures `tw` alone.
 """
@@ -22,7 +23,10 @@ import time
 import run
 
 HOUR = 3600
-COMMANDS = ["start", "stop", "track", "tag", "move", "delete", "summary", "export"]
+OF_ALL = ["summary", "gaps", "days", "weeks", "totals"]
+COMMANDS = ["start", "stop", "track", "tag", "move", "delete", "export", *OF_ALL]
+# What Timewarrior has no command for: its charts of days and weeks have other words, and totals are a script.
+OWN = ["gaps", "days", "weeks", "totals"]
 
 
 def stamp(second):
@@ -101,7 +105,7 @@ class Hours(run.Program):
             taken = self.run(["delete", *(f"@{id}" for id in range(1, self.number + 1))], wrapper)
             self.run(["undo"])
             return taken
-        return self.run([command, ":all"] if command == "summary" else [command], wrapper)
+        return self.run([command, ":all"] if command in OF_ALL else [command], wrapper)
 
 
 def programs(arguments, folder, number):
@@ -128,7 +132,7 @@ def main():
     parser.add_argument("--changes", type=int, default=0, help="changes that were made before")
     parser.add_argument("--days", type=int, default=0, help="days of twenty changes in the journal")
     parser.add_argument("--newest-first", action="store_true", help="month files whose lines have the newest first")
-    run.start(parser, "timew", "hours", programs)
+    run.start(parser, "timew", "hours", programs, OWN)
 
 
 if __name__ == "__main__":
