@@ -1,21 +1,11 @@
 -- Writes between two offsets, which leave the rest of a file.
-use Rattle.std.specs.Prelude.{◌==◌, nat_le, nat_eq, cond, if◌then◌else◌, Bool, true, false, All, Some, None, replicate}
-use Rattle.std.specs.Int.{to_be_bytes, from_be_bytes, w32, w64}
-use lib.Pointwise.{pointwise}
-use Rattle.std.proofs.Common.{◌≡◌, ◌⊎◌, inl, inr, ⊎_elim, ℕ, zero, suc, ◌+◌, ◌-◌, ◌<◌, ◌≤◌, ◌^◌, List, [], ◌∷◌, ◌++◌, length, take, drop, refl, sym, ◌∙◌, ap, subst, arith, append_assoc, length-append, length-drop, take-append-drop}
-use Rattle.std.proofs.lemmas.List.{take_at, drop_at, drop_all, take_all, take-take, drop-drop, drop-take, take-append-le, length-take, length-take-le, length-replicate, append-nil}
-use Rattle.std.proofs.lemmas.Bool.Decides.{nat_tests}
-use Rattle.std.proofs.lemmas.Nat.{from_be_bytes-to_be_bytes_8}
+use Rattle.std.proofs.Common.{◌≡◌, ℕ, ◌+◌, ◌-◌, ◌≤◌, List, ◌++◌, length, take, drop, refl, sym, ◌∙◌, ap, subst, arith, append_assoc, length-append}
+use Rattle.std.proofs.lemmas.List.{drop_at, take-take, drop-drop, length-take-le}
 use Rattle.tw_world.specs.Disk.{DiskModel, Tells, IsStable, Steps, LeavesOnly, Torn, overwritten}
 use Rattle.tw_world.specs.Memory.{torn_whole}
-use Rattle.tw_world.proofs.Moments.{CountsNow, OnlyNow, at_rest, goes_on, stays, weaker, joined}
+use Rattle.tw_world.proofs.Moments.{CountsNow, OnlyNow, at_rest, goes_on, stays}
 use Rattle.tw_world.proofs.Overwriting.{adjacent}
-use Rattle.tw_journal.specs.Record.{behind_gate, rows, IsRecordLength, Image}
-use Rattle.tw_journal.specs.Form.{Records, selector_in, slot_in, has_magic, if_inside, start_by, start_in, IsSameForm}
-use Rattle.tw_journal.specs.Journal.{IsAtRest, RecordsOrOne}
-use Rattle.tw_journal.specs.Checkpoint.{checkpoint_offset, slot_of, other_slot, other_selector, closed_record, extended, pointed, IsSameBeside, IsCopying, IsPointing, IsReplacing}
-use Rattle.tw_journal.proofs.Forms.{tested, same_part, first_of_front, start_bounds, start_same, start_front, inside_again, drop_grown}
-use Rattle.tw_journal.proofs.Added.{image_records}
+use Rattle.tw_journal.specs.Checkpoint.{IsSameBeside}
 
 pub beside_itself : (from to : ℕ) (file : List ℕ) → IsSameBeside from to file file
 beside_itself from to file = record { before = refl; after = refl; long = refl }
@@ -51,28 +41,28 @@ pub next_write : {D : Type 0} (m : DiskModel D) → CountsNow m → (old mid new
 next_write m counts_now old mid new from to at bytes so_far tells low high step =
     goes_on m counts_now old mid new (IsSameBeside from to (m.seen old)) (IsSameBeside from to (m.seen old)) _ so_far tells step (λ c has. has) (λ d c has torn. beside_on from to at bytes (m.seen old) d c low high has torn)
 
-pub three_parts : (at : ℕ) (head body tail s : List ℕ) → length head ≡ 5 → length tail ≡ 1 → at + length body + 6 ≤ length s → overwritten (at + 5 + length body) tail (overwritten (at + 5) body (overwritten at head s)) ≡ overwritten at ((head ++ body) ++ tail) s
-three_parts at head body tail s five one room =
+pub three_parts : (at : ℕ) (head body tail s : List ℕ) → length head ≡ 5 → at + 5 + length body + length tail ≤ length s → overwritten (at + 5 + length body) tail (overwritten (at + 5) body (overwritten at head s)) ≡ overwritten at ((head ++ body) ++ tail) s
+three_parts at head body tail s five room =
     let inner : overwritten (at + 5) body (overwritten at head s) ≡ overwritten at (head ++ body) s =
     ap (λ (k : ℕ). overwritten (at + k) body (overwritten at head s)) (sym five) ∙ adjacent at head body s (omega (arith, five, room)) in
     let n : at + 5 + length body ≡ at + length (head ++ body) = omega (arith, length-append head body, five) in
     ap (λ (l : List ℕ). overwritten (at + 5 + length body) tail l) inner
     ∙ ap (λ (k : ℕ). overwritten k tail (overwritten at (head ++ body) s)) n
-    ∙ adjacent at (head ++ body) tail s (omega (arith, length-append head body, five, one, room))
+    ∙ adjacent at (head ++ body) tail s (omega (arith, length-append head body, five, room))
 
--- the record and its closed gate are written by three calls, and then made stable
-module _ {D : Type 0} (m : DiskModel D) (counts_now : CountsNow m) (only_now : OnlyNow m) (old : D) (at : ℕ) (head body tail : List ℕ) (tells : Tells m old) (settled : IsStable m old) (five : length head ≡ 5) (one : length tail ≡ 1) where
+-- the record and what comes after it are written by three calls, and then made stable
+module _ {D : Type 0} (m : DiskModel D) (counts_now : CountsNow m) (only_now : OnlyNow m) (old : D) (at : ℕ) (head body tail : List ℕ) (tells : Tells m old) (settled : IsStable m old) (five : length head ≡ 5) where
   abbrev Beside : List ℕ → Type 0
-  Beside = IsSameBeside at (at + length body + 6) (m.seen old)
+  Beside = IsSameBeside at (at + length body + 5 + length tail) (m.seen old)
 
   pub head_run : (a : D) → Steps m (Torn at head) old a → LeavesOnly m old a Beside
-  head_run a step = first_write m counts_now only_now old a at (at + length body + 6) at head tells settled (omega arith) (omega (arith, five)) step
+  head_run a step = first_write m counts_now only_now old a at (at + length body + 5 + length tail) at head tells settled (omega arith) (omega (arith, five)) step
 
   pub body_run : (a b : D) → Steps m (Torn at head) old a → Steps m (Torn (at + 5) body) a b → LeavesOnly m old b Beside
-  body_run a b first second = next_write m counts_now old a b at (at + length body + 6) (at + 5) body (head_run a first) (first.tells ∙ tells) (omega arith) (omega arith) second
+  body_run a b first second = next_write m counts_now old a b at (at + length body + 5 + length tail) (at + 5) body (head_run a first) (first.tells ∙ tells) (omega arith) (omega arith) second
 
   pub tail_run : (a b d : D) → Steps m (Torn at head) old a → Steps m (Torn (at + 5) body) a b → Steps m (Torn (at + 5 + length body) tail) b d → LeavesOnly m old d Beside
-  tail_run a b d first second third = next_write m counts_now old b d at (at + length body + 6) (at + 5 + length body) tail (body_run a b first second) (second.tells ∙ first.tells ∙ tells) (omega arith) (omega (arith, one)) third
+  tail_run a b d first second third = next_write m counts_now old b d at (at + length body + 5 + length tail) (at + 5 + length body) tail (body_run a b first second) (second.tells ∙ first.tells ∙ tells) (omega arith) (omega arith) third
 
   pub stable_run : (a b d n : D) → Steps m (Torn at head) old a → Steps m (Torn (at + 5) body) a b → Steps m (Torn (at + 5 + length body) tail) b d → Steps m (λ x c. c ≡ x) d n → LeavesOnly m old n Beside
   stable_run a b d n first second third last = stays m counts_now old d n Beside (tail_run a b d first second third) (third.tells ∙ second.tells ∙ first.tells ∙ tells) last

@@ -1,25 +1,21 @@
 -- What the steps of a checkpoint make of a file, and of its records.
-use Rattle.std.specs.Prelude.{◌==◌, nat_le, nat_eq, cond, if◌then◌else◌, Bool, true, false, All, Some, None, replicate}
-use Rattle.std.specs.Int.{to_be_bytes, from_be_bytes, w32, w64}
-use lib.Pointwise.{pointwise}
-use Rattle.std.proofs.Common.{◌≡◌, ◌⊎◌, inl, inr, ⊎_elim, ℕ, zero, suc, ◌+◌, ◌-◌, ◌<◌, ◌≤◌, ◌^◌, List, [], ◌∷◌, ◌++◌, length, take, drop, refl, sym, ◌∙◌, ap, subst, arith, append_assoc, length-append, length-drop, take-append-drop}
-use Rattle.std.proofs.lemmas.List.{take_at, drop_at, drop_all, take_all, take-take, drop-drop, drop-take, take-append-le, length-take, length-take-le, length-replicate, append-nil}
-use Rattle.std.proofs.lemmas.Bool.Decides.{nat_tests}
+use Rattle.std.specs.Prelude.{cond, Bool, true, All, Some, None, replicate}
+use Rattle.std.specs.Int.{to_be_bytes, from_be_bytes, w64}
+use Rattle.std.proofs.Common.{◌≡◌, ◌⊎◌, inl, inr, ⊎_elim, ℕ, zero, suc, ◌+◌, ◌-◌, ◌<◌, ◌≤◌, ◌^◌, List, [], ◌∷◌, ◌++◌, length, take, drop, refl, sym, ◌∙◌, ap, subst, arith, append_assoc, length-append, take-append-drop}
+use Rattle.std.proofs.lemmas.List.{take_at, take-take, drop-drop, drop-take, take-append-le, length-take, length-replicate, append-nil}
 use Rattle.std.proofs.lemmas.Nat.{from_be_bytes-to_be_bytes_8}
-use Rattle.tw_world.specs.Disk.{DiskModel, Tells, IsStable, Steps, LeavesOnly, Torn, overwritten}
-use Rattle.tw_world.specs.Memory.{torn_whole}
-use Rattle.tw_world.proofs.Moments.{CountsNow, OnlyNow, at_rest, goes_on, stays, weaker, joined}
+use Rattle.tw_world.specs.Disk.{DiskModel, Tells, IsStable, overwritten}
 use Rattle.tw_journal.specs.Record.{behind_gate, rows, IsRecordLength, Image}
-use Rattle.tw_journal.specs.Form.{Records, selector_in, slot_in, has_magic, if_inside, start_by, start_in, IsSameForm}
-use Rattle.tw_journal.specs.Journal.{IsAtRest, RecordsOrOne}
-use Rattle.tw_journal.specs.Checkpoint.{checkpoint_offset, slot_of, other_slot, other_selector, closed_record, extended, pointed, IsSameBeside, IsCopying, IsPointing, IsReplacing}
-use Rattle.tw_journal.proofs.Forms.{tested, same_part, first_of_front, start_bounds, start_same, start_front, inside_again, drop_grown}
+use Rattle.tw_journal.specs.Form.{Records, selector_in, version_in, slot_in, has_magic, if_inside, start_by, start_in, IsSameForm}
+use Rattle.tw_journal.specs.Journal.{IsAtRest}
+use Rattle.tw_journal.specs.Checkpoint.{slot_of, other_slot, other_selector, closed_record, extended, pointed, IsSameBeside, IsCopying, IsPointing, IsReplacing}
+use Rattle.tw_journal.proofs.Forms.{tested, same_part, first_of_front, start_bounds, start_same, start_front, inside_again, drop_grown, magic_same, version_text}
 use Rattle.tw_journal.proofs.Added.{image_records}
 use Rattle.tw_journal.proofs.Between.{overwritten_beside, written_there}
-use Rattle.tw_journal.proofs.Slots.{slots_apart, slot_low, slot_high, other_counts, drop_more_first}
+use Rattle.tw_journal.proofs.Slots.{slots_apart, slot_low, slot_high, other_counts, other_low, drop_more_first}
 
 module _ (magic file body : List ℕ) (bodies : List (List ℕ)) (start end at selector : ℕ) (form : start_in magic file ≡ Some start) (first : selector_in file ≡ selector) (is : drop start file ≡ rows bodies)
-    (lengths : All IsRecordLength bodies) (fits : IsRecordLength body) (long : length file ≡ end) (low : 29 ≤ start) (offset : ((at ≡ 29) × (29 + (length body + 5) + 1 ≤ start)) ⊎ (at ≡ end + 1)) (small : at < 2 ^ 64) where
+    (lengths : All IsRecordLength bodies) (fits : IsRecordLength body) (long : length file ≡ end) (low : 29 ≤ start) (offset : ((at ≡ 29) × (29 + (length body + 5) + 1 ≤ start)) ⊎ (at ≡ end + 1)) (small : at < 2 ^ 64) (plain : selector < 4) where
   abbrev to : ℕ
   to = at + length body + 6
 
@@ -28,6 +24,9 @@ module _ (magic file body : List ℕ) (bodies : List (List ℕ)) (start end at s
 
   abbrev copied : List ℕ
   copied = overwritten at (closed_record body) roomed
+
+  plain_file : selector_in file < 4
+  plain_file = omega (arith, plain, first)
 
   inside : start ≤ length file
   inside = (start_bounds magic file start form).1
@@ -51,7 +50,7 @@ module _ (magic file body : List ℕ) (bodies : List (List ℕ)) (start end at s
   beside_front c same = sym (take-take 29 at c behind) ∙ ap (λ (l : List ℕ). take 29 l) same.before ∙ take-take 29 at roomed behind ∙ roomed_front
 
   beside_form : (c : List ℕ) → IsSameBeside at to roomed c → IsSameForm magic file c
-  beside_form c same = start_front magic file c 29 start form (beside_front c same) (inr (omega arith)) (omega (arith, same.long, length-roomed, long, inside))
+  beside_form c same = start_front magic file c 29 start form plain_file (beside_front c same) (inr (omega arith)) (omega (arith, same.long, length-roomed, long, inside))
 
   -- the records from before stand apart from where the new one is written
   beside_image : (c : List ℕ) → IsSameBeside at to roomed c → Image (drop start c) bodies
@@ -138,7 +137,7 @@ module _ (magic file body : List ℕ) (bodies : List (List ℕ)) (start end at s
   first_stays c same = sym (first_of_front slot c (omega (arith, slot_low selector))) ∙ ap selector_in same.before ∙ first_of_front slot copied (omega (arith, slot_low selector))
 
   pointing_start : (c : List ℕ) → IsSameBeside slot (slot + 8) copied c → start_in magic c ≡ Some start
-  pointing_start c same = start_same magic copied c start copied_start (first_stays c same) (text_stays c same)
+  pointing_start c same = start_same magic copied c start copied_start (omega (arith, copied_first, plain)) (first_stays c same) (text_stays c same)
       (λ two. subst (λ (k : ℕ). take 8 (drop (slot_of k) c) ≡ take 8 (drop (slot_of k) copied)) (sym copied_first) (mine_stays c same))
       (omega (arith, same.long, copied_beside.long, length-roomed, long, inside))
 
@@ -190,11 +189,11 @@ module _ (magic file body : List ℕ) (bodies : List (List ℕ)) (start end at s
       ∙ ap (from_be_bytes w64) (take_at told (drop (slot + 8) copied) 8 refl)
       ∙ from_be_bytes-to_be_bytes_8 at small
 
+  text_last : take 12 (drop 1 last) ≡ take 12 (drop 1 copied)
+  text_last = ap (take 12) (same_last 1 (omega arith)) ∙ text_stays slotted slotted_beside
+
   last_magic : has_magic magic last ≡ true
-  last_magic =
-      ap (λ (l : List ℕ). pointwise nat_eq (take 12 l) (behind_gate magic)) (same_last 1 (omega arith))
-      ∙ ap (λ (l : List ℕ). pointwise nat_eq l (behind_gate magic)) (text_stays slotted slotted_beside)
-      ∙ (tested (has_magic magic copied) (start_by (selector_in copied) copied) start copied_start).0
+  last_magic = magic_same magic copied last text_last (omega (arith, length-last, long_copied)) (tested (has_magic magic copied) (start_by (selector_in copied) copied) start copied_start).0
 
   at_inside : at + (length body + 6) ≤ length last
   at_inside = omega (arith, length-last, copied_beside.long, reach)
@@ -244,7 +243,7 @@ module _ (magic file body : List ℕ) (bodies : List (List ℕ)) (start end at s
   length-cut = omega (arith, length-take (at + length body + 5) last, at_inside)
 
   pub cut_form : IsSameForm magic last cut
-  cut_form = start_front magic last cut (at + length body + 5) at last_start (take-take (at + length body + 5) (at + length body + 5) last (omega arith)) (inl (omega arith)) (omega (arith, length-cut))
+  cut_form = start_front magic last cut (at + length body + 5) at last_start (other_low selector) (take-take (at + length body + 5) (at + length body + 5) last (omega arith)) (inl (omega arith)) (omega (arith, length-cut))
 
   pub cut_start : start_in magic cut ≡ Some at
   cut_start = cut_form.start ∙ last_start
@@ -268,6 +267,12 @@ module _ (magic file body : List ℕ) (bodies : List (List ℕ)) (start end at s
     }));
     long = omega (arith, ap length same, length-cut, reach, longest);
   }
+
+  pub version_kept : version_in cut ≡ version_in file
+  version_kept =
+      version_text last cut (same_part 12 1 (at + length body + 5) cut last (omega (arith, behind)) (take-take (at + length body + 5) (at + length body + 5) last (omega arith)))
+      ∙ version_text copied last text_last
+      ∙ version_text file copied (same_part 12 1 29 copied file (omega arith) (beside_front copied copied_beside))
 
   pub rest_after : {D : Type 0} (m : DiskModel D) (new : D) → Tells m new → IsStable m new → m.seen new ≡ cut → IsAtRest m magic (other_selector selector) at new (body ∷ [])
   rest_after m new tells settled seen = record {

@@ -1,16 +1,17 @@
 -- Where the records of a row stand.
-use Rattle.std.specs.Prelude.{All, slice_index_or, Option, Some, unwrap_or}
+use Rattle.std.specs.Prelude.{All, Bool, if◌then◌else◌, nat_le, slice_index_or, Option, unwrap_or}
 use Rattle.std.specs.Int.{to_be_bytes, from_be_bytes, w32}
-use Rattle.std.proofs.Common.{◌≡◌, inl, inr, ⊎_elim, ℕ, ◌+◌, ◌-◌, ◌<◌, ◌≤◌, List, [], ◌∷◌, ◌++◌, length, get_or, take, drop, refl, sym, ◌∙◌, ap, subst, arith, append_assoc, length-append, take-append-drop}
+use Rattle.std.proofs.Common.{◌≡◌, inl, inr, ⊎_elim, ℕ, zero, suc, ◌+◌, ◌-◌, ◌<◌, ◌≤◌, List, [], ◌∷◌, ◌++◌, length, get_or, take, drop, refl, sym, ◌∙◌, ap, subst, arith, append_assoc, length-append, take-append-drop}
 use Rattle.std.proofs.lemmas.List.{drop_at, take_more, drop_more, drop-drop, drop-take, take-take, append-nil}
 use Rattle.std.proofs.lemmas.Nat.{from_be_bytes-to_be_bytes_4}
 use Rattle.tw_world.specs.Disk.{DiskModel, Untouched}
-use Rattle.tw_journal.specs.Record.{behind_gate, rows, IsRecordLength, AreOffsets}
-use Rattle.tw_journal.specs.Form.{Records, IsSameForm, selector_in, start_in, offset_in}
+use Rattle.tw_journal.specs.Record.{behind_gate, rows, IsRecordLength, AreOffsets, AreFirsts}
+use Rattle.tw_journal.specs.Form.{Records, IsSameOrEnded, ended_selector, selector_in, version_in, start_in, offset_in}
 use Rattle.tw_journal.specs.Reading.{HoldsRows, IsNoRecord, IsSizeAt}
 use Rattle.tw_journal.specs.Open.{IsBroken}
 use Rattle.tw_journal.specs.Journal.{IsAtRest, IsOpenOn, IsOpened, IsSameBesideRoom}
 use Rattle.tw_journal.specs.declared.journal.Journal.{Journal}
+use Rattle.tw_journal.proofs.Forms.{unequal}
 use Rattle.tw_journal.proofs.Unique.{same_first}
 use Rattle.tw_journal.proofs.Added.{length-rows-push}
 
@@ -103,20 +104,24 @@ still_open m magic journal before after bodies untouched on =
         file = ap (drop journal.start) same ∙ on.rest.file;
         lengths = on.rest.lengths;
       };
+      version = ap version_in same ∙ on.version;
       open_now = on.open_now;
       end = on.end ∙ ap length (sym same);
       count = on.count;
       offsets = on.offsets;
+      firsts = on.firsts;
     }
 
 -- and so is the same one with other room for offsets
 pub same_open : {D : Type 0} (m : DiskModel D) (magic : List ℕ) (old new : Journal) (disk : D) (bodies : List (List ℕ)) → IsSameBesideRoom old new → IsOpenOn m magic old disk bodies → IsOpenOn m magic new disk bodies
 same_open m magic old new disk bodies same on = record {
   rest = subst (λ start. IsAtRest m magic new.selector start disk bodies) (sym same.start) (subst (λ selector. IsAtRest m magic selector old.start disk bodies) (sym same.selector) on.rest);
+  version = on.version ∙ sym same.version;
   open_now = same.closed ∙ on.open_now;
   end = same.end ∙ on.end;
   count = same.count ∙ on.count;
   offsets = subst (λ start. AreOffsets start bodies new.offsets.items) (sym same.start) (subst (AreOffsets old.start bodies) (sym same.offsets) on.offsets);
+  firsts = subst (AreFirsts bodies) (sym same.firsts) on.firsts;
 }
 
 -- the disk has the records, and so does each image that it may leave
@@ -134,8 +139,19 @@ left_records m magic journal disk bodies on c left = subst (λ (f : List ℕ). R
 pub open_offset : {D : Type 0} (m : DiskModel D) (magic : List ℕ) (journal : Journal) (disk : D) (bodies : List (List ℕ)) (n : ℕ) → IsOpenOn m magic journal disk bodies → offset_in magic (m.seen disk) bodies n ≡ journal.start + length (rows (take n bodies))
 open_offset m magic journal disk bodies n on = ap (λ (o : Option ℕ). unwrap_or o 0 + length (rows (take n bodies))) on.rest.form
 
+-- a file whose upgrade is ended has areas where it did
+pub ended_areas : (n : ℕ) → nat_le 2 (ended_selector n) ≡ nat_le 2 n
+ended_areas zero = refl
+ended_areas (suc zero) = refl
+ended_areas (suc (suc zero)) = refl
+ended_areas (suc (suc (suc zero))) = refl
+ended_areas (suc (suc (suc (suc zero)))) = refl
+ended_areas (suc (suc (suc (suc (suc n))))) =
+    let far = suc (suc (suc (suc (suc n)))) in
+    ap (λ (b : Bool). nat_le 2 (if b then 2 else far)) (unequal far 4 (λ same. absurd (omega (arith, same))))
+
 -- it stood there before the journal was opened
 pub same_offset : {D : Type 0} (m : DiskModel D) (magic : List ℕ) (before after : D) (journal : Journal) (o : IsOpened m magic before after journal) (n : ℕ) → n < length o.bodies → offset_in magic (m.seen after) o.bodies n ≡ offset_in magic (m.seen before) o.bodies n
 same_offset m magic before after journal o n inside =
     ⊎_elim (λ none. absurd (omega (arith, inside, ap length none)))
-    (λ (same : IsSameForm magic (m.seen before) (m.seen after)). ap (λ (s : Option ℕ). unwrap_or s 0 + length (rows (take n o.bodies))) same.start) o.form
+    (λ (same : IsSameOrEnded magic (m.seen before) (m.seen after)). ap (λ (s : Option ℕ). unwrap_or s 0 + length (rows (take n o.bodies))) same.start) o.form

@@ -1,20 +1,10 @@
 -- The offset of a checkpoint, and the two slots.
-use Rattle.std.specs.Prelude.{◌==◌, nat_le, nat_eq, cond, if◌then◌else◌, Bool, true, false, All, Some, None, replicate}
-use Rattle.std.specs.Int.{to_be_bytes, from_be_bytes, w32, w64}
-use lib.Pointwise.{pointwise}
-use Rattle.std.proofs.Common.{◌≡◌, ◌⊎◌, inl, inr, ⊎_elim, ℕ, zero, suc, ◌+◌, ◌-◌, ◌<◌, ◌≤◌, ◌^◌, List, [], ◌∷◌, ◌++◌, length, take, drop, refl, sym, ◌∙◌, ap, subst, arith, append_assoc, length-append, length-drop, take-append-drop}
-use Rattle.std.proofs.lemmas.List.{take_at, drop_at, drop_all, take_all, take-take, drop-drop, drop-take, take-append-le, length-take, length-take-le, length-replicate, append-nil}
+use Rattle.std.specs.Prelude.{◌==◌, nat_le, if◌then◌else◌, Bool, true, false}
+use Rattle.std.proofs.Common.{◌≡◌, ◌⊎◌, inl, inr, ℕ, suc, ◌+◌, ◌<◌, ◌≤◌, List, [], ◌∷◌, drop, refl, arith}
+use Rattle.std.proofs.lemmas.List.{drop_all}
 use Rattle.std.proofs.lemmas.Bool.Decides.{nat_tests}
-use Rattle.std.proofs.lemmas.Nat.{from_be_bytes-to_be_bytes_8}
-use Rattle.tw_world.specs.Disk.{DiskModel, Tells, IsStable, Steps, LeavesOnly, Torn, overwritten}
-use Rattle.tw_world.specs.Memory.{torn_whole}
-use Rattle.tw_world.proofs.Moments.{CountsNow, OnlyNow, at_rest, goes_on, stays, weaker, joined}
-use Rattle.tw_journal.specs.Record.{behind_gate, rows, IsRecordLength, Image}
-use Rattle.tw_journal.specs.Form.{Records, selector_in, slot_in, has_magic, if_inside, start_by, start_in, IsSameForm}
-use Rattle.tw_journal.specs.Journal.{IsAtRest, RecordsOrOne}
-use Rattle.tw_journal.specs.Checkpoint.{checkpoint_offset, slot_of, other_slot, other_selector, closed_record, extended, pointed, IsSameBeside, IsCopying, IsPointing, IsReplacing}
-use Rattle.tw_journal.proofs.Forms.{tested, same_part, first_of_front, start_bounds, start_same, start_front, inside_again, drop_grown}
-use Rattle.tw_journal.proofs.Added.{image_records}
+use Rattle.tw_journal.specs.Form.{slot_in, if_inside, start_by}
+use Rattle.tw_journal.specs.Checkpoint.{checkpoint_offset, slot_of, other_slot, other_selector}
 
 pub placed : (size start end at : ℕ) → at ≡ checkpoint_offset size start end → ((at ≡ 29) × (29 + size + 1 ≤ start)) ⊎ (at ≡ end + 1)
 placed size start end at is = by (nat_le (29 + size + 1) start) refl is
@@ -50,6 +40,13 @@ other_counts selector file = by (selector == 2)
     by : (b : Bool) → start_by (if b then 3 else 2) file ≡ if_inside 29 (slot_in (if b then 21 else 13) file) file
     by true = refl
     by false = refl
+
+pub other_low : (selector : ℕ) → other_selector selector < 4
+other_low selector = by (selector == 2)
+  where
+    by : (b : Bool) → (if b then 3 else 2) < 4
+    by true = omega arith
+    by false = omega arith
 
 pub drop_more_first : (k : ℕ) (l : List ℕ) → drop k (drop 1 l) ≡ drop (suc k) l
 drop_more_first k [] = drop_all k [] (omega arith)

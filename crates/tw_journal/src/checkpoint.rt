@@ -4,7 +4,7 @@ ghost use Rattle.std.specs.Prelude.{◌≡◌, ◌⊎◌, ◌≤◌, ◌<◌, �
 ghost use Rattle.std.specs.Int.{to_be_bytes, w64};
 ghost use Rattle.tw_world.specs.Disk.{Rose, FaultsRise, overwritten};
 ghost use Rattle.tw_journal.specs.Writes.{Makes, MakesOfStable, LeavesOfStable, IsOldOr};
-ghost use Rattle.tw_journal.specs.Checkpoint.{checkpoint_offset, other_slot, other_selector, closed_record, copied, extended, pointed};
+ghost use Rattle.tw_journal.specs.Checkpoint.{checkpoint_offset, other_slot, other_selector, record_with, copied, extended, pointed};
 ghost use Rattle.tw_journal.specs.Checkpoint.{IsSameBeside, IsCopying, IsPointing, IsReplaced, LeavesReplacing, IsMovedTo};
 
 use crate::error::AppendError;
@@ -49,6 +49,7 @@ impl Journal {
             return Err(AppendError::Disk);
         }
         self.offsets.truncate(0);
+        self.firsts.truncate(0);
         self.selector = other_selector(self.selector);
         self.start = at;
         self.end = at + size as u64;
@@ -89,8 +90,8 @@ fn other_selector(selector: u8) -> u8
     if selector == 2 { 3 } else { 2 }
 }
 
-// Makes the file as long as is needed, with zeros, and answers its length.
-fn make_room<D: Disk>(disk: &mut D, end: u64, needed: u64) -> Result<u64, DiskError>
+/// Makes the file as long as is needed, with zeros, and answers its length.
+pub fn make_room<D: Disk>(disk: &mut D, end: u64, needed: u64) -> Result<u64, DiskError>
     requires len { D.model.len disk.old ≡ end }
     requires below { end < 2 ^ 56 }
     requires size { needed ≤ end + 2 ^ 31 }
@@ -98,6 +99,7 @@ fn make_room<D: Disk>(disk: &mut D, end: u64, needed: u64) -> Result<u64, DiskEr
     ensures done { OnOk result (MakesOfStable D.model disk.old disk.new (extended needed)) }
     ensures any_moment { LeavesOfStable D.model disk.old disk.new (IsOldOr (extended needed)) }
     ensures len { IfOk result (λ len. (D.model.len disk.new ≡ len) × (needed ≤ len) × (end ≤ len) × (len < 2 ^ 56)) }
+    ensures grown { IfOk result (λ len. end < needed → len ≡ needed) }
     ensures kept { FaultsRise D.model disk.old disk.new }
     ensures failed { IfErr result (λ e. (e ≡ DiskError.Failed) × Rose (D.model.faults disk.old) (D.model.faults disk.new)) }
 {
@@ -109,14 +111,19 @@ fn make_room<D: Disk>(disk: &mut D, end: u64, needed: u64) -> Result<u64, DiskEr
     Ok(needed)
 }
 
-// Writes an open record, and a closed gate after it.
-fn write_record<D: Disk>(disk: &mut D, at: u64, body: &[u8]) -> Result<(), DiskError>
-    requires inside { at + length body.now + 6 ≤ D.model.len disk.old }
+/// Writes an open record, and these bytes after it.
+pub fn write_record<D: Disk>(
+    disk: &mut D,
+    at: u64,
+    body: &[u8],
+    tail: &[u8],
+) -> Result<(), DiskError>
+    requires inside { at + length body.now + 5 + length tail.now ≤ D.model.len disk.old }
     requires size { length body.now + 5 ≤ 2 ^ 30 }
     requires below { at < 2 ^ 57 }
 
-    ensures done { OnOk result (Makes D.model disk.old disk.new (overwritten at (closed_record body.now))) }
-    ensures any_moment { LeavesOfStable D.model disk.old disk.new (IsSameBeside at (at + length body.now + 6)) }
+    ensures done { OnOk result (Makes D.model disk.old disk.new (overwritten at (record_with body.now tail.now))) }
+    ensures any_moment { LeavesOfStable D.model disk.old disk.new (IsSameBeside at (at + length body.now + 5 + length tail.now)) }
     ensures len { D.model.len disk.new ≡ D.model.len disk.old }
     ensures kept { FaultsRise D.model disk.old disk.new }
     ensures failed { IfErr result (λ e. (e ≡ DiskError.Failed) × Rose (D.model.faults disk.old) (D.model.faults disk.new)) }
@@ -124,7 +131,7 @@ fn write_record<D: Disk>(disk: &mut D, at: u64, body: &[u8]) -> Result<(), DiskE
     let size = (body.len() as u32).to_be_bytes();
     disk.write_at(at, &[1, size[0], size[1], size[2], size[3]])?;
     disk.write_at(at + 5, body)?;
-    disk.write_at(at + 5 + body.len() as u64, &[0])?;
+    disk.write_at(at + 5 + body.len() as u64, tail)?;
     disk.sync()?;
     Ok(())
 }
@@ -143,7 +150,7 @@ fn copy_record<D: Disk>(disk: &mut D, at: u64, end: u64, body: &[u8]) -> Result<
     ensures failed { IfErr result (λ e. (e ≡ DiskError.Failed) × Rose (D.model.faults disk.old) (D.model.faults disk.new)) }
 {
     let len = make_room(disk, end, at + body.len() as u64 + 6)?;
-    write_record(disk, at, body)?;
+    write_record(disk, at, body, &[0])?;
     Ok(len)
 }
 

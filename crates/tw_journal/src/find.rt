@@ -1,14 +1,15 @@
 // Finding the records of a file at its opening.
-ghost use Rattle.std.specs.Prelude.{◌≡◌, ◌<◌, ◌≤◌, ◌+◌, ◌^◌, ◌++◌, [], ◌∷◌, List, ℕ, length, take, drop, IfOk, IfErr, OnOk};
+ghost use Rattle.std.specs.Prelude.{◌≡◌, ◌<◌, ◌≤◌, ◌+◌, ◌^◌, ◌++◌, [], ◌∷◌, List, ℕ, length, take, drop, IfOk, IfErr, OnOk, IsErrOf};
 ghost use Rattle.std.specs.Int.{to_be_bytes, from_be_bytes, w32};
-ghost use Rattle.tw_world.specs.Disk.{Tells, Untouched};
+ghost use Rattle.tw_world.specs.Disk.{Tells, Rose, Untouched};
+ghost use Rattle.tw_journal.specs.Record.{first_in};
 ghost use Rattle.tw_journal.specs.Window.{IsWindowOn};
 ghost use Rattle.tw_journal.specs.Open.{HeadIs, HeadInside, HeadRefused, SearchRefused, Found};
 
 use crate::error::OpenError;
 use crate::window::Window;
 use std::alloc::Global;
-use tw_world::Disk;
+use tw_world::{Disk, DiskError};
 
 /// What is at an offset in the file: a closed gate, or a whole record with a body of so many bytes.
 #[derive(Clone, Copy, Drop)]
@@ -18,7 +19,7 @@ pub enum Head {
 }
 
 // The number that four bytes say, the highest first.
-fn number_of(bytes: &[u8; 4]) -> u32
+pub fn number_of(bytes: &[u8; 4]) -> u32
     ensures value { result ≡ from_be_bytes w32 bytes.now }
     ensures back { to_be_bytes w32 result ≡ bytes.now }
 {
@@ -90,12 +91,13 @@ pub fn read_head<D: Disk>(
     Ok(Head::Whole(size))
 }
 
-/// So many records were found, up to this end, with their offsets.
+/// So many records were found, up to this end, with their offsets and the first bytes of their bodies.
 #[derive(Drop)]
 pub struct Scan {
     pub end: u64,
     pub count: u64,
     pub offsets: Vec<u64>,
+    pub firsts: Vec<u8>,
 }
 
 /// Reads the heads of the records of a file, from `start` on, up to the file's end or a closed gate.
@@ -109,8 +111,8 @@ pub fn find_records<D: Disk>(
     requires below { len < 2 ^ 56 }
     requires inside { start ≤ len }
 
-    ensures found { IfOk result (λ s. Tells D.model disk.old → Found (D.model.seen disk.old) start s.end s.count s.offsets.items) }
-    ensures inside { IfOk result (λ s. (s.end ≤ len) × (s.count + start ≤ s.end) × (length s.offsets.items ≡ s.count)) }
+    ensures found { IfOk result (λ s. Tells D.model disk.old → Found (D.model.seen disk.old) start s.end s.count s.offsets.items s.firsts.items) }
+    ensures inside { IfOk result (λ s. (s.end ≤ len) × (s.count + start ≤ s.end) × (length s.offsets.items ≡ s.count) × (length s.firsts.items ≡ s.count)) }
     ensures refused { (magic : List ℕ) → IfErr result (λ e. SearchRefused D.model disk.old disk.new magic start e) }
     ensures untouched { Untouched D.model disk.old disk.new }
 {
@@ -118,6 +120,7 @@ pub fn find_records<D: Disk>(
     let mut at = start;
     let mut count = 0;
     let mut offsets = Vec::new(alloc);
+    let mut firsts = Vec::new(alloc);
     while at < len {
         match read_head(&mut window, disk, at, len)? {
             Head::Shut => {
@@ -125,10 +128,12 @@ pub fn find_records<D: Disk>(
                     end: at,
                     count,
                     offsets,
+                    firsts,
                 });
             }
             Head::Whole(size) => {
-                add_offset(&mut offsets, at)?;
+                let first = read_first(&mut window, disk, at + 5, len, size)?;
+                add_found(&mut offsets, &mut firsts, at, first)?;
                 at += 5 + size;
                 count += 1;
             }
@@ -138,16 +143,52 @@ pub fn find_records<D: Disk>(
         end: at,
         count,
         offsets,
+        firsts,
     })
 }
 
-// Adds the offset of a record.
-fn add_offset(offsets: &mut Vec<u64>, at: u64) -> Result<(), OpenError>
-    ensures kept { OnOk result (offsets.new.items ≡ offsets.old.items ++ at ∷ []) }
+// The first byte of a body of so many bytes at this offset, or 0 if it has none.
+fn read_first<D: Disk>(
+    window: &mut Window,
+    disk: &mut D,
+    at: u64,
+    len: u64,
+    size: u64,
+) -> Result<u8, DiskError>
+    requires window { IsWindowOn D.model disk.old window.old }
+    requires len { D.model.len disk.old ≡ len }
+    requires below { len < 2 ^ 56 }
+    requires inside { at + size ≤ len }
+
+    ensures first { IfOk result (λ first. Tells D.model disk.old → first ≡ first_in (take size (drop at (D.model.seen disk.old)))) }
+    ensures window { IsWindowOn D.model disk.new window.new }
+    ensures untouched { Untouched D.model disk.old disk.new }
+    ensures failed { IsErrOf result DiskError.Failed → Rose (D.model.faults disk.old) (D.model.faults disk.new) }
+{
+    if size == 0 {
+        return Ok(0);
+    }
+    let mut first = [0; 1];
+    window.read_at(disk, at, len, &mut first)?;
+    Ok(first[0])
+}
+
+// Adds the offset of a record, and the first byte of its body.
+fn add_found(
+    offsets: &mut Vec<u64>,
+    firsts: &mut Vec<u8>,
+    at: u64,
+    first: u8,
+) -> Result<(), OpenError>
+    ensures offsets { OnOk result (offsets.new.items ≡ offsets.old.items ++ at ∷ []) }
+    ensures firsts { OnOk result (firsts.new.items ≡ firsts.old.items ++ first ∷ []) }
     ensures refused { IfErr result (λ e. e ≡ OpenError.Memory) }
 {
-    match offsets.push(at) {
-        Ok(()) => Ok(()),
-        Err(_) => Err(OpenError::Memory),
-    }
+    let Ok(()) = offsets.push(at) else {
+        return Err(OpenError::Memory);
+    };
+    let Ok(()) = firsts.push(first) else {
+        return Err(OpenError::Memory);
+    };
+    Ok(())
 }

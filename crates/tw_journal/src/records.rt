@@ -1,10 +1,11 @@
 // The calls that read the records of an open journal.
 ghost use Rattle.std.specs.Prelude.{◌≡◌, ◌<◌, ◌≤◌, ◌+◌, ◌^◌, length, take, drop, true, false, IfOk, IfErr};
 ghost use Rattle.tw_world.specs.Disk.{Tells, Untouched};
+ghost use Rattle.tw_journal.specs.Record.{first_in};
 ghost use Rattle.tw_journal.specs.Form.{offset_in};
 ghost use Rattle.tw_journal.specs.Window.{IsWindowOn};
 ghost use Rattle.tw_journal.specs.Reading.{IsRecord, IsSpanOf};
-ghost use Rattle.tw_journal.specs.Journal.{OnRecords, OnBody, journal_start, journal_end, journal_count, is_closed};
+ghost use Rattle.tw_journal.specs.Journal.{OnRecords, OnBody, journal_start, journal_end, journal_count, journal_found, is_closed};
 ghost use Rattle.tw_journal.specs.Journal.{HasRecordAt, HasBody, HasLength, HasOffset, HasPart, ReadRefused, PartRefused, IsNoRecordAt, IsNoPartAt};
 
 use crate::error::ReadError;
@@ -118,12 +119,47 @@ impl Journal {
         ensures closed { is_closed self.now ≡ true → result ≡ Err ReadError.Closed }
     {
         let mut window = Window::none(&*disk);
-        let span = self.look_up(&mut window, disk, n)?;
+        self.part_through(alloc, &mut window, disk, n, from, len)
+    }
+
+    /// The same through a window, as `body_through`: of records that are read in their order, short parts cost few calls of the disk.
+    pub fn part_through<D: Disk>(
+        &self,
+        alloc: Global,
+        window: &mut Window,
+        disk: &mut D,
+        n: u64,
+        from: u64,
+        len: u64,
+    ) -> Result<Vec<u8>, ReadError>
+        requires inside { n < journal_count self.now }
+        requires length { is_closed self.now ≡ false → D.model.len disk.old ≡ journal_end self.now }
+        requires window { IsWindowOn D.model disk.old window.old }
+
+        ensures part { IfOk result (λ part. OnBody D.model self.now disk.old n (λ stored. part.items ≡ take len (drop from stored))) }
+        ensures stands { IfOk result (λ part. Tells D.model disk.old → HasPart self.now (D.model.seen disk.old) n from part.items) }
+        ensures long { IfOk result (λ part. length part.items ≡ len) }
+        ensures window { IsWindowOn D.model disk.new window.new }
+        ensures untouched { Untouched D.model disk.old disk.new }
+        ensures refused { IfErr result (λ e. PartRefused D.model disk.old disk.new self.now n from len e) }
+        ensures damaged { IfErr result (IsNoPartAt D.model disk.old self.now n from len) }
+        ensures closed { is_closed self.now ≡ true → result ≡ Err ReadError.Closed }
+    {
+        let span = self.look_up(window, disk, n)?;
         if !is_inside(from, len, span.size) {
             return Err(ReadError::Damaged { offset: span.at });
         }
-        let part = read_body(alloc, &mut window, disk, span.at + 5 + from, self.end, len)?;
+        let part = read_body(alloc, window, disk, span.at + 5 + from, self.end, len)?;
         Ok(part)
+    }
+
+    /// The first byte of the body of a record that the opening found, or 0 if that body is empty. It was kept then: no call of the disk
+    /// is made.
+    pub fn first<D: Disk>(&self, _disk: &D, n: u64) -> u8
+        requires found { n < journal_found self.now }
+        ensures first { OnBody D.model self.now _disk.now n (λ body. result ≡ first_in body) }
+    {
+        self.firsts[n as usize]
     }
 
     // The record with number `n`.

@@ -4,6 +4,14 @@ use std::alloc::Global;
 use std::test::Fail;
 use tw_journal::OpenError;
 
+// A file whose second slot counts: the record of the body 9, which replaced two others, stands at 43, and after it those of the
+// bodies 2, 3 4 and 5 at 49, 55 and 62.
+const AFTER_CHECKPOINT: [u8; 68] = [
+    3, 0, 0, 0, 8, 84, 87, 82, 69, 80, 76, 48, 49, 0, 0, 0, 0, 0, 0, 0, 29, 0, 0, 0, 0, 0, 0, 0,
+    43, 1, 0, 0, 0, 1, 2, 1, 0, 0, 0, 2, 3, 4, 0, 1, 0, 0, 0, 1, 9, 1, 0, 0, 0, 1, 2, 1, 0, 0, 0,
+    2, 3, 4, 1, 0, 0, 0, 1, 5,
+];
+
 // How many records a file has where one of its bytes is 255, and the byte of the first body; or why it is not opened, which
 // leaves it as it is.
 fn answer_at(
@@ -49,6 +57,24 @@ fn each_byte_of_a_file_with_areas_may_be_another(rt: HostRuntime) -> Result<(), 
             _ => Ok((1, if at == 34 { 255 } else { 2 })),
         };
         assert!(rt; answer_at(alloc, &ADDED, at)? == want, "{at}");
+    }
+    Ok(())
+}
+
+// The slot that does not count may hold anything, and so may what the checkpoint replaced.
+#[test]
+fn each_byte_around_a_checkpoint_may_be_another(rt: HostRuntime) -> Result<(), Fail> {
+    let alloc = rt.alloc();
+    for at in 0..68 {
+        let want = match at {
+            0..=12 | 21..=28 => Err(OpenError::Damaged { offset: 0 }),
+            43..=47 => Err(OpenError::Damaged { offset: 43 }),
+            49..=53 => Err(OpenError::Damaged { offset: 49 }),
+            55..=59 => Err(OpenError::Damaged { offset: 55 }),
+            62..=66 => Err(OpenError::Damaged { offset: 62 }),
+            _ => Ok((4, if at == 48 { 255 } else { 9 })),
+        };
+        assert!(rt; answer_at(alloc, &AFTER_CHECKPOINT, at)? == want, "{at}");
     }
     Ok(())
 }

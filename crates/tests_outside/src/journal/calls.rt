@@ -64,7 +64,7 @@ fn file_of(alloc: Global, sizes: &[u32]) -> Result<Vec<u8>, Fail> {
     Ok(content)
 }
 
-// The calls by which a file of 10,000 records is opened, where two bodies are read by one more. It has 130,013 bytes, which
+// The calls by which a file of 10,000 records is opened, where a body and a part are read by one more. It has 130,013 bytes, which
 // are two pieces.
 fn calls_for_many(alloc: Global) -> Result<u64, Fail> {
     let content = file_of(alloc, &[8; 10_000])?;

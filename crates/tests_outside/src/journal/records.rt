@@ -1,7 +1,8 @@
 // Records by their numbers, and parts of their bodies.
-use super::{Opened, THREE, journal_on};
+use super::{EMPTY_BETWEEN, MAGIC, Opened, THREE, disk_of, journal_on};
 use std::alloc::Global;
 use std::test::Fail;
+use tw_journal::Journal;
 
 // Whether a part of the second of three bodies is this, or not in it.
 fn has_part(alloc: Global, from: u64, len: u64, want: Option<&[u8]>) -> Result<bool, Fail> {
@@ -67,5 +68,26 @@ fn records_are_read_by_their_numbers(rt: HostRuntime) -> Result<(), Fail> {
         assert!(rt; is_fifth(alloc, n, offset, body)?, "{n}");
     }
     assert!(rt; looks_at_the_record(alloc)?);
+    Ok(())
+}
+
+// The first bytes of the bodies that an opening found, and whether that took no call more than the opening.
+fn firsts_of(alloc: Global, content: &[u8]) -> Result<(Vec<u8>, bool), Fail> {
+    let mut disk = disk_of(alloc, content, &[])?;
+    let Ok(journal) = Journal::open(alloc, &mut disk, &MAGIC) else {
+        return Err(Fail::new("not opened"));
+    };
+    let calls = disk.calls();
+    let mut firsts = Vec::new(alloc);
+    for n in 0..journal.count() {
+        firsts.push(journal.first(&disk, n))?;
+    }
+    Ok((firsts, disk.calls() == calls))
+}
+
+#[test]
+fn the_first_byte_of_each_body_is_kept(rt: HostRuntime) -> Result<(), Fail> {
+    let (firsts, is_free) = firsts_of(rt.alloc(), &EMPTY_BETWEEN)?;
+    assert!(rt; is_free & (firsts.as_slice() == [2, 0, 3].as_slice()));
     Ok(())
 }

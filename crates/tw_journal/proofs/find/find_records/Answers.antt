@@ -1,7 +1,8 @@
-use Rattle.std.proofs.Common.{arith, ◌<◌, ◌≤◌, ◌+◌, ◌^◌, length, drop, sym, ◌∙◌, ap, subst, length-append}
+use Rattle.std.proofs.Common.{arith, ◌≡◌, ◌<◌, ◌≤◌, ◌+◌, ◌^◌, ℕ, List, length, take, drop, ◌∙◌, ap, subst}
 use Rattle.std.proofs.lemmas.List.{length_push}
 use Rattle.tw_world.proofs.Moments.{untouched, untouched_join}
-use Rattle.tw_journal.specs.Open.{Prefix, HeadIs, HeadInside}
+use Rattle.tw_journal.specs.Record.{first_in}
+use Rattle.tw_journal.specs.Open.{HeadIs, HeadInside}
 use Rattle.tw_journal.specs.declared.find.Head.TheVariants.{Whole}
 use Rattle.tw_journal.proofs.Search.{nothing_yet, one_more}
 use Rattle.tw_journal.proofs.find.find_records.Goals as goal
@@ -15,7 +16,8 @@ loop-at-init g c =
       untouched = untouched m g.met.D.Disk.only_now c.args.disk.now;
       shown = c.on-window.ensures;
       kept = ap length c.new-offsets.ensures.items;
-      so_far = λ tells. subst (Prefix (m.seen c.args.disk.now) c.args.start c.args.start 0) (sym c.new-offsets.ensures.items) (nothing_yet (m.seen c.args.disk.now) c.args.start);
+      kept_firsts = ap length c.new-firsts.ensures.items;
+      so_far = λ tells. nothing_yet (m.seen c.args.disk.now) c.args.start _ _ c.new-offsets.ensures.items c.new-firsts.ensures.items;
     }
 
 pub loop-at-preserved : goal.loop-at-preserved
@@ -26,11 +28,15 @@ loop-at-preserved g c =
     record {
       inside = omega (arith, inside.0);
       few = omega (arith, inv.few);
-      untouched = untouched_join m c.args.disk.now c.loop-at.disk c.read_head.new.disk inv.untouched c.read_head.ensures.untouched;
-      shown = c.read_head.ensures.window;
-      kept = omega (arith, inv.kept, ap length c.in_ok-add_offset-in-Whole.ensures.kept, length_push c.loop-at.offsets.items c.loop-at.at);
+      untouched = untouched_join m c.args.disk.now c.loop-at.disk c.read_first.new.disk inv.untouched (untouched_join m c.loop-at.disk c.read_head.new.disk c.read_first.new.disk c.read_head.ensures.untouched c.read_first.ensures.untouched);
+      shown = c.read_first.ensures.window;
+      kept = omega (arith, inv.kept, ap length c.in_ok-add_found-in-Whole.ensures.offsets, length_push c.loop-at.offsets.items c.loop-at.at);
+      kept_firsts = omega (arith, inv.kept_firsts, ap length c.in_ok-add_found-in-Whole.ensures.firsts, length_push c.loop-at.firsts.items c.in_ok-first-in-Whole.first);
       so_far = λ tells.
           let told = inv.untouched.kept.tells ∙ tells in
           let head : HeadIs (drop c.loop-at.at (m.seen c.args.disk.now)) (Whole c.in-Whole.size) = subst (λ s. HeadIs (drop c.loop-at.at s) (Whole c.in-Whole.size)) (inv.untouched.seen tells) (subst (HeadIs (drop c.loop-at.at (m.seen c.loop-at.disk))) c.in-Whole.is (c.in_ok-read_head.ensures.found told)) in
-          subst (Prefix (m.seen c.args.disk.now) c.args.start _ _) (sym c.in_ok-add_offset-in-Whole.ensures.kept) (one_more (m.seen c.args.disk.now) c.args.start c.loop-at.at c.loop-at.count c.in-Whole.size c.loop-at.offsets.items inv.kept (inv.so_far tells) head inside.1);
+          let first : c.in_ok-first-in-Whole.first ≡ first_in (take c.in-Whole.size (drop (c.loop-at.at + 5) (m.seen c.args.disk.now))) =
+          c.in_ok-first-in-Whole.ensures.first (c.read_head.ensures.untouched.kept.tells ∙ told) ∙ ap (λ (s : List ℕ). first_in (take c.in-Whole.size (drop (c.loop-at.at + 5) s))) (c.read_head.ensures.untouched.seen told ∙ inv.untouched.seen tells) in
+          one_more (m.seen c.args.disk.now) c.args.start c.loop-at.at c.loop-at.count c.in-Whole.size c.in_ok-first-in-Whole.first c.loop-at.offsets.items c.loop-at.firsts.items _ _
+          c.in_ok-add_found-in-Whole.ensures.offsets c.in_ok-add_found-in-Whole.ensures.firsts inv.kept inv.kept_firsts (inv.so_far tells) head first inside.1;
     }

@@ -1,6 +1,4 @@
-use Rattle.std.specs.Prelude.{nat_le, true}
 use Rattle.std.proofs.Common.{inl, inr, ◌+◌, length, arith}
-use Rattle.std.proofs.lemmas.Bool.Decides.{nat_tests}
 use Rattle.tw_world.proofs.Moments.{started, weaker}
 use Rattle.tw_journal.proofs.Offsets.{left_records}
 use Rattle.tw_journal.specs.Checkpoint.{IsReplacing}

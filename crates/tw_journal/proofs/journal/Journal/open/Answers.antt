@@ -1,10 +1,10 @@
 use Rattle.std.specs.Prelude.{Some, None}
-use Rattle.std.proofs.Common.{◌≡◌, ◌≤◌, ◌+◌, List, ℕ, length, inl, inr, arith, refl, sym, ◌∙◌, subst}
+use Rattle.std.proofs.Common.{◌≡◌, List, ℕ, inl, inr, refl, sym, ◌∙◌, subst}
 use Rattle.tw_world.specs.Disk.{Untouched}
 use Rattle.tw_world.proofs.Moments.{weaker, untouched_join}
 use Rattle.tw_journal.specs.Record.{IsTail, IsLongerBy}
-use Rattle.tw_journal.specs.Form.{start_in, selector_in}
-use Rattle.tw_journal.specs.Open.{FormIs, Found, IsImageThen, IsRepaired}
+use Rattle.tw_journal.specs.Form.{start_in}
+use Rattle.tw_journal.specs.Open.{FormIs, IsFormOf, Found, IsImageThen}
 use Rattle.tw_journal.proofs.Refusals.{passed_on}
 use Rattle.tw_journal.proofs.Repair.{opening, search_refused, stable_still, made_new, form_stays}
 use Rattle.tw_journal.proofs.Unique.{only_faults}
@@ -80,10 +80,10 @@ returns-in_err-repair-in-Some-clause-any_moment g c = λ tells.
     let two : Untouched m c.make_stable.new.disk c.find_records.new.disk = untouched_join m c.make_stable.new.disk c.find_form.new.disk c.find_records.new.disk c.find_form.ensures.untouched c.find_records.ensures.untouched in
     let some : FormIs c.args.magic.now (m.seen c.make_stable.new.disk) (Some c.in-Some.form) = subst (FormIs c.args.magic.now (m.seen c.make_stable.new.disk)) c.in-Some.is (c.in_ok-find_form.ensures.found told) in
     let told_1 = c.find_form.ensures.untouched.kept.tells ∙ told in
-    let found = subst (λ (s : List ℕ). Found s c.in-Some.form.start c.in_ok-found-in-Some.found.end c.in_ok-found-in-Some.found.count c.in_ok-found-in-Some.found.offsets.items) (sym (c.find_records.ensures.untouched.seen told_1)) (c.in_ok-found-in-Some.ensures.found told_1) in
+    let found = subst (λ (s : List ℕ). Found s c.in-Some.form.start c.in_ok-found-in-Some.found.end c.in_ok-found-in-Some.found.count c.in_ok-found-in-Some.found.offsets.items c.in_ok-found-in-Some.found.firsts.items) (sym (c.find_records.ensures.untouched.seen told_1)) (c.in_ok-found-in-Some.ensures.found told_1) in
     opening m c.args.disk.now c.make_stable.new.disk c.find_records.new.disk c.repair.new.disk c.args.magic.now (IsImageThen m c.args.disk.now c.args.magic.now) (λ f left. inl left) (λ f has. inr has.same)
     tells c.make_stable.ensures.untouched two (c.in_ok-len.ensures.settled tells)
-    (λ told_2 settled same. c.repair.ensures.any_moment c.args.magic.now told_2 settled (subst (λ (s : List ℕ). start_in c.args.magic.now s ≡ Some c.in-Some.form.start) (sym same) some.0) (subst (λ (s : List ℕ). selector_in s ≡ c.in-Some.form.selector) (sym same) some.1) found)
+    (λ told_2 settled same. c.repair.ensures.any_moment told_2 settled (subst (λ (s : List ℕ). IsFormOf c.args.magic.now s (Some c.in-Some.form)) (sym same) some) found)
 
 pub returns-in_err-repair-in-Some-clause-growth : goal.returns-in_err-repair-in-Some-clause-growth
 returns-in_err-repair-in-Some-clause-growth g c = λ tells.
@@ -92,10 +92,10 @@ returns-in_err-repair-in-Some-clause-growth g c = λ tells.
     let two : Untouched m c.make_stable.new.disk c.find_records.new.disk = untouched_join m c.make_stable.new.disk c.find_form.new.disk c.find_records.new.disk c.find_form.ensures.untouched c.find_records.ensures.untouched in
     let some : FormIs c.args.magic.now (m.seen c.make_stable.new.disk) (Some c.in-Some.form) = subst (FormIs c.args.magic.now (m.seen c.make_stable.new.disk)) c.in-Some.is (c.in_ok-find_form.ensures.found told) in
     let told_1 = c.find_form.ensures.untouched.kept.tells ∙ told in
-    let found = subst (λ (s : List ℕ). Found s c.in-Some.form.start c.in_ok-found-in-Some.found.end c.in_ok-found-in-Some.found.count c.in_ok-found-in-Some.found.offsets.items) (sym (c.find_records.ensures.untouched.seen told_1)) (c.in_ok-found-in-Some.ensures.found told_1) in
+    let found = subst (λ (s : List ℕ). Found s c.in-Some.form.start c.in_ok-found-in-Some.found.end c.in_ok-found-in-Some.found.count c.in_ok-found-in-Some.found.offsets.items c.in_ok-found-in-Some.found.firsts.items) (sym (c.find_records.ensures.untouched.seen told_1)) (c.in_ok-found-in-Some.ensures.found told_1) in
     opening m c.args.disk.now c.make_stable.new.disk c.find_records.new.disk c.repair.new.disk c.args.magic.now (IsLongerBy m c.args.disk.now 29) (λ f left. inl left) (λ f has. inr has.long)
     tells c.make_stable.ensures.untouched two (c.in_ok-len.ensures.settled tells)
-    (λ told_2 settled same. c.repair.ensures.any_moment c.args.magic.now told_2 settled (subst (λ (s : List ℕ). start_in c.args.magic.now s ≡ Some c.in-Some.form.start) (sym same) some.0) (subst (λ (s : List ℕ). selector_in s ≡ c.in-Some.form.selector) (sym same) some.1) found)
+    (λ told_2 settled same. c.repair.ensures.any_moment told_2 settled (subst (λ (s : List ℕ). IsFormOf c.args.magic.now s (Some c.in-Some.form)) (sym same) some) found)
 
 pub returns-in_ok-repair-in-Some-clause-any_moment : goal.returns-in_ok-repair-in-Some-clause-any_moment
 returns-in_ok-repair-in-Some-clause-any_moment g c = λ tells.
@@ -104,10 +104,10 @@ returns-in_ok-repair-in-Some-clause-any_moment g c = λ tells.
     let two : Untouched m c.make_stable.new.disk c.find_records.new.disk = untouched_join m c.make_stable.new.disk c.find_form.new.disk c.find_records.new.disk c.find_form.ensures.untouched c.find_records.ensures.untouched in
     let some : FormIs c.args.magic.now (m.seen c.make_stable.new.disk) (Some c.in-Some.form) = subst (FormIs c.args.magic.now (m.seen c.make_stable.new.disk)) c.in-Some.is (c.in_ok-find_form.ensures.found told) in
     let told_1 = c.find_form.ensures.untouched.kept.tells ∙ told in
-    let found = subst (λ (s : List ℕ). Found s c.in-Some.form.start c.in_ok-found-in-Some.found.end c.in_ok-found-in-Some.found.count c.in_ok-found-in-Some.found.offsets.items) (sym (c.find_records.ensures.untouched.seen told_1)) (c.in_ok-found-in-Some.ensures.found told_1) in
+    let found = subst (λ (s : List ℕ). Found s c.in-Some.form.start c.in_ok-found-in-Some.found.end c.in_ok-found-in-Some.found.count c.in_ok-found-in-Some.found.offsets.items c.in_ok-found-in-Some.found.firsts.items) (sym (c.find_records.ensures.untouched.seen told_1)) (c.in_ok-found-in-Some.ensures.found told_1) in
     opening m c.args.disk.now c.make_stable.new.disk c.find_records.new.disk c.repair.new.disk c.args.magic.now (IsImageThen m c.args.disk.now c.args.magic.now) (λ f left. inl left) (λ f has. inr has.same)
     tells c.make_stable.ensures.untouched two (c.in_ok-len.ensures.settled tells)
-    (λ told_2 settled same. c.repair.ensures.any_moment c.args.magic.now told_2 settled (subst (λ (s : List ℕ). start_in c.args.magic.now s ≡ Some c.in-Some.form.start) (sym same) some.0) (subst (λ (s : List ℕ). selector_in s ≡ c.in-Some.form.selector) (sym same) some.1) found)
+    (λ told_2 settled same. c.repair.ensures.any_moment told_2 settled (subst (λ (s : List ℕ). IsFormOf c.args.magic.now s (Some c.in-Some.form)) (sym same) some) found)
 
 pub returns-in_ok-repair-in-Some-clause-growth : goal.returns-in_ok-repair-in-Some-clause-growth
 returns-in_ok-repair-in-Some-clause-growth g c = λ tells.
@@ -116,10 +116,10 @@ returns-in_ok-repair-in-Some-clause-growth g c = λ tells.
     let two : Untouched m c.make_stable.new.disk c.find_records.new.disk = untouched_join m c.make_stable.new.disk c.find_form.new.disk c.find_records.new.disk c.find_form.ensures.untouched c.find_records.ensures.untouched in
     let some : FormIs c.args.magic.now (m.seen c.make_stable.new.disk) (Some c.in-Some.form) = subst (FormIs c.args.magic.now (m.seen c.make_stable.new.disk)) c.in-Some.is (c.in_ok-find_form.ensures.found told) in
     let told_1 = c.find_form.ensures.untouched.kept.tells ∙ told in
-    let found = subst (λ (s : List ℕ). Found s c.in-Some.form.start c.in_ok-found-in-Some.found.end c.in_ok-found-in-Some.found.count c.in_ok-found-in-Some.found.offsets.items) (sym (c.find_records.ensures.untouched.seen told_1)) (c.in_ok-found-in-Some.ensures.found told_1) in
+    let found = subst (λ (s : List ℕ). Found s c.in-Some.form.start c.in_ok-found-in-Some.found.end c.in_ok-found-in-Some.found.count c.in_ok-found-in-Some.found.offsets.items c.in_ok-found-in-Some.found.firsts.items) (sym (c.find_records.ensures.untouched.seen told_1)) (c.in_ok-found-in-Some.ensures.found told_1) in
     opening m c.args.disk.now c.make_stable.new.disk c.find_records.new.disk c.repair.new.disk c.args.magic.now (IsLongerBy m c.args.disk.now 29) (λ f left. inl left) (λ f has. inr has.long)
     tells c.make_stable.ensures.untouched two (c.in_ok-len.ensures.settled tells)
-    (λ told_2 settled same. c.repair.ensures.any_moment c.args.magic.now told_2 settled (subst (λ (s : List ℕ). start_in c.args.magic.now s ≡ Some c.in-Some.form.start) (sym same) some.0) (subst (λ (s : List ℕ). selector_in s ≡ c.in-Some.form.selector) (sym same) some.1) found)
+    (λ told_2 settled same. c.repair.ensures.any_moment told_2 settled (subst (λ (s : List ℕ). IsFormOf c.args.magic.now s (Some c.in-Some.form)) (sym same) some) found)
 
 pub returns-in_ok-create-in-None-clause-made : goal.returns-in_ok-create-in-None-clause-made
 returns-in_ok-create-in-None-clause-made g c = λ tells.
@@ -138,7 +138,7 @@ returns-in_ok-repair-in-Some-clause-made g c = λ tells.
     let same = two.seen told in
     let some : FormIs c.args.magic.now (m.seen c.make_stable.new.disk) (Some c.in-Some.form) = subst (FormIs c.args.magic.now (m.seen c.make_stable.new.disk)) c.in-Some.is (c.in_ok-find_form.ensures.found told) in
     let told_1 = c.find_form.ensures.untouched.kept.tells ∙ told in
-    let found = subst (λ (s : List ℕ). Found s c.in-Some.form.start c.in_ok-found-in-Some.found.end c.in_ok-found-in-Some.found.count c.in_ok-found-in-Some.found.offsets.items) (sym (c.find_records.ensures.untouched.seen told_1)) (c.in_ok-found-in-Some.ensures.found told_1) in
+    let found = subst (λ (s : List ℕ). Found s c.in-Some.form.start c.in_ok-found-in-Some.found.end c.in_ok-found-in-Some.found.count c.in_ok-found-in-Some.found.offsets.items c.in_ok-found-in-Some.found.firsts.items) (sym (c.find_records.ensures.untouched.seen told_1)) (c.in_ok-found-in-Some.ensures.found told_1) in
     let form : start_in c.args.magic.now (m.seen c.find_records.new.disk) ≡ Some c.in-Some.form.start = subst (λ (s : List ℕ). start_in c.args.magic.now s ≡ Some c.in-Some.form.start) (sym same) some.0 in
     form_stays c.args.magic.now (m.seen c.args.disk.now) (m.seen c.find_records.new.disk) (m.seen c.repair.new.disk) c.in-Some.form.start (same ∙ c.make_stable.ensures.untouched.seen tells) form
-    (c.in_ok-repair-in-Some.ensures.same c.args.magic.now (two.kept.tells ∙ told) (stable_still m c.make_stable.new.disk c.find_records.new.disk told two (c.in_ok-len.ensures.settled tells)) form (subst (λ (s : List ℕ). selector_in s ≡ c.in-Some.form.selector) (sym same) some.1) found)
+    (c.in_ok-repair-in-Some.ensures.same (two.kept.tells ∙ told) (stable_still m c.make_stable.new.disk c.find_records.new.disk told two (c.in_ok-len.ensures.settled tells)) (subst (λ (s : List ℕ). IsFormOf c.args.magic.now s (Some c.in-Some.form)) (sym same) some) found)

@@ -1,6 +1,6 @@
-use Rattle.std.proofs.Common.{inr, ◌+◌, ◌≤◌, arith, length}
+use Rattle.std.proofs.Common.{inr, arith}
 use Rattle.tw_journal.proofs.Refusals.{passed_on, part_read, part_there, part_refused, part_damaged}
-use Rattle.tw_journal.proofs.journal.Journal.part.Goals as goal
+use Rattle.tw_journal.proofs.journal.Journal.part_through.Goals as goal
 
 pub returns-in_err-span-clause-refused : goal.returns-in_err-span-clause-refused
 returns-in_err-span-clause-refused g c =
