@@ -8,7 +8,7 @@ use tw_world::Memory;
 use uuid::Uuid;
 
 // Groups as these tables spell them: operations of one after another, with a bar between two groups.
-fn groups(alloc: Global, words: &str) -> Result<Vec<Vec<SyncOp>>, Memory> {
+pub(crate) fn groups(alloc: Global, words: &str) -> Result<Vec<Vec<SyncOp>>, Memory> {
     let mut groups = Vec::new(alloc);
     for group in words.split('|') {
         groups.push(operations(alloc, group)?)?;
@@ -16,7 +16,11 @@ fn groups(alloc: Global, words: &str) -> Result<Vec<Vec<SyncOp>>, Memory> {
     Ok(groups)
 }
 
-fn are_groups(alloc: Global, groups: &Vec<Vec<SyncOp>>, words: &str) -> Result<bool, Memory> {
+pub(crate) fn are_groups(
+    alloc: Global,
+    groups: &Vec<Vec<SyncOp>>,
+    words: &str,
+) -> Result<bool, Memory> {
     let mut at = 0;
     for group in words.split('|') {
         match groups.get(at) {
@@ -57,7 +61,7 @@ fn is_undo_point(op: &Op) -> bool {
     }
 }
 
-fn one_task(alloc: Global) -> Result<Tasks, Memory> {
+pub(crate) fn one_task(alloc: Global) -> Result<Tasks, Memory> {
     let mut task = TaskMap::new(alloc);
     task.set(alloc, "a", Some("Z"))?;
     let mut tasks = Tasks::new(alloc);

@@ -1,5 +1,5 @@
-//! Tests of tasks, their operations, segments, snapshots, transformation, groups, urgency and recurrence, over the public calls of tw_model,
-//! tw_segment, tw_snapshot, tw_transform, tw_groups, tw_urgency and tw_recur.
+//! Tests of tasks, their operations, segments, snapshots, transformation, groups, paths, urgency and recurrence, over the public calls of
+//! tw_model, tw_segment, tw_snapshot, tw_transform, tw_groups, tw_path, tw_urgency and tw_recur.
 //! A module is named after the crate that it tests.
 #![tactic(auto)]
 
@@ -7,6 +7,8 @@
 mod groups;
 #[cfg(test)]
 mod model;
+#[cfg(test)]
+mod path;
 #[cfg(test)]
 mod recur;
 #[cfg(test)]

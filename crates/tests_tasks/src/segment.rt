@@ -9,7 +9,16 @@ const UUID: &str = "00000000-0000-4000-8000-000000000001";
 
 // What a task "Buy milk" of 2023-11-14T22:13:20Z is written as.
 const ADDED: &str =
-    "{\"operations\":[{\"Create\":{\"uuid\":\"00000000-0000-4000-8000-000000000001\"}},{\"Update\":{\"property\":\"description\",\"timestamp\":\"2023-11-14T22:13:20.000000000Z\",\"uuid\":\"00000000-0000-4000-8000-000000000001\",\"value\":\"Buy milk\"}},{\"Update\":{\"property\":\"entry\",\"timestamp\":\"2023-11-14T22:13:20.000000000Z\",\"uuid\":\"00000000-0000-4000-8000-000000000001\",\"value\":\"1700000000\"}},{\"Update\":{\"property\":\"modified\",\"timestamp\":\"2023-11-14T22:13:20.000000000Z\",\"uuid\":\"00000000-0000-4000-8000-000000000001\",\"value\":\"1700000000\"}},{\"Update\":{\"property\":\"status\",\"timestamp\":\"2023-11-14T22:13:20.000000000Z\",\"uuid\":\"00000000-0000-4000-8000-000000000001\",\"value\":\"pending\"}}]}";
+    "{\"operations\":[{\"Create\":{\"uuid\":\"00000000-0000-4000-8000-000000000001\"}},\
+     {\"Update\":{\"property\":\"description\",\
+     \"timestamp\":\"2023-11-14T22:13:20.000000000Z\",\
+     \"uuid\":\"00000000-0000-4000-8000-000000000001\",\"value\":\"Buy milk\"}},\
+     {\"Update\":{\"property\":\"entry\",\"timestamp\":\"2023-11-14T22:13:20.000000000Z\",\
+     \"uuid\":\"00000000-0000-4000-8000-000000000001\",\"value\":\"1700000000\"}},\
+     {\"Update\":{\"property\":\"modified\",\"timestamp\":\"2023-11-14T22:13:20.000000000Z\",\
+     \"uuid\":\"00000000-0000-4000-8000-000000000001\",\"value\":\"1700000000\"}},\
+     {\"Update\":{\"property\":\"status\",\"timestamp\":\"2023-11-14T22:13:20.000000000Z\",\
+     \"uuid\":\"00000000-0000-4000-8000-000000000001\",\"value\":\"pending\"}}]}";
 
 fn update(
     alloc: Global,
@@ -71,50 +80,63 @@ fn an_added_task_is_a_segment_of_656_bytes(rt: HostRuntime) -> Result<(), Fail> 
     Ok(())
 }
 
+// Each text, with the fault for which it is refused, if it is.
+const TEXTS: [(&str, Option<SegmentError>); 12] = [
+    (
+        "{\"operations\":[{\"Create\":{\"uuid\":\"00000000-0000-4000-8000-000000000001\"},\
+         \"Delete\":{\"uuid\":\"00000000-0000-4000-8000-000000000001\"}}]}",
+        Some(SegmentError::Shape { index: 0 }),
+    ),
+    ("{", Some(SegmentError::NotJson)),
+    ("", Some(SegmentError::NotJson)),
+    ("[]", Some(SegmentError::Shape { index: 0 })),
+    (
+        "{\"operations\":{}}",
+        Some(SegmentError::Shape { index: 0 }),
+    ),
+    (
+        "{\"operations\":[{\"Create\":{}}]}",
+        Some(SegmentError::Shape { index: 0 }),
+    ),
+    (
+        "{\"operations\":[{\"Create\":{\"uuid\":\"00000000-0000-4000-8000-000000000001\"}},\
+         {\"Change\":{\"uuid\":\"00000000-0000-4000-8000-000000000001\"}}]}",
+        Some(SegmentError::Shape { index: 1 }),
+    ),
+    (
+        "{\"operations\":[{\"Update\":{\"property\":\"p\",\
+         \"timestamp\":\"2023-11-14T22:13:20\",\
+         \"uuid\":\"00000000-0000-4000-8000-000000000001\"}}]}",
+        Some(SegmentError::Shape { index: 0 }),
+    ),
+    (
+        "{\"operations\":[{\"Update\":{\"property\":\"p\",\
+         \"timestamp\":\"2023-11-14T22:13:20Z\",\
+         \"uuid\":\"00000000-0000-4000-8000-000000000001\",\"value\":1}}]}",
+        Some(SegmentError::Shape { index: 0 }),
+    ),
+    (
+        "{\"operations\":[{\"Update\":{\"property\":\"p\",\
+         \"timestamp\":\"2023-11-14T22:13:20Z\",\
+         \"uuid\":\"00000000-0000-4000-8000-000000000001\"}}]}",
+        None,
+    ),
+    (
+        " {\"more\":1,\
+         \"operations\":[{\"Create\":{\"uuid\":\"00000000000040008000000000000001\",\
+         \"more\":2}}]} ",
+        None,
+    ),
+    (
+        "{\"operations\":[{\"Create\":{\"uuid\":\"x\"},\
+         \"Create\":{\"uuid\":\"00000000-0000-4000-8000-000000000001\"}}]}",
+        None,
+    ),
+];
+
 #[test]
 fn other_texts_are_refused_by_their_first_fault(rt: HostRuntime) {
-    let rows = [
-        (
-            "{\"operations\":[{\"Create\":{\"uuid\":\"00000000-0000-4000-8000-000000000001\"},\"Delete\":{\"uuid\":\"00000000-0000-4000-8000-000000000001\"}}]}",
-            Some(SegmentError::Shape { index: 0 }),
-        ),
-        ("{", Some(SegmentError::NotJson)),
-        ("", Some(SegmentError::NotJson)),
-        ("[]", Some(SegmentError::Shape { index: 0 })),
-        (
-            "{\"operations\":{}}",
-            Some(SegmentError::Shape { index: 0 }),
-        ),
-        (
-            "{\"operations\":[{\"Create\":{}}]}",
-            Some(SegmentError::Shape { index: 0 }),
-        ),
-        (
-            "{\"operations\":[{\"Create\":{\"uuid\":\"00000000-0000-4000-8000-000000000001\"}},{\"Change\":{\"uuid\":\"00000000-0000-4000-8000-000000000001\"}}]}",
-            Some(SegmentError::Shape { index: 1 }),
-        ),
-        (
-            "{\"operations\":[{\"Update\":{\"property\":\"p\",\"timestamp\":\"2023-11-14T22:13:20\",\"uuid\":\"00000000-0000-4000-8000-000000000001\"}}]}",
-            Some(SegmentError::Shape { index: 0 }),
-        ),
-        (
-            "{\"operations\":[{\"Update\":{\"property\":\"p\",\"timestamp\":\"2023-11-14T22:13:20Z\",\"uuid\":\"00000000-0000-4000-8000-000000000001\",\"value\":1}}]}",
-            Some(SegmentError::Shape { index: 0 }),
-        ),
-        (
-            "{\"operations\":[{\"Update\":{\"property\":\"p\",\"timestamp\":\"2023-11-14T22:13:20Z\",\"uuid\":\"00000000-0000-4000-8000-000000000001\"}}]}",
-            None,
-        ),
-        (
-            " {\"more\":1,\"operations\":[{\"Create\":{\"uuid\":\"00000000000040008000000000000001\",\"more\":2}}]} ",
-            None,
-        ),
-        (
-            "{\"operations\":[{\"Create\":{\"uuid\":\"x\"},\"Create\":{\"uuid\":\"00000000-0000-4000-8000-000000000001\"}}]}",
-            None,
-        ),
-    ];
-    for (text, want) in rows {
+    for (text, want) in TEXTS {
         assert!(rt;
             read_segment(rt.alloc(), text.as_bytes()).err() == want,
             "at {text}"
@@ -137,46 +159,48 @@ fn moment_of(alloc: Global, timestamp: &str) -> Result<Option<Moment>, Memory> {
 }
 
 // The seconds and nanoseconds that Python's `datetime` gives.
+const MOMENTS: [(&str, u64, u32); 10] = [
+    ("2023-11-14T22:13:20Z", 1700000000, 0),
+    ("2023-11-14T22:13:20.5Z", 1700000000, 500000000),
+    ("2023-11-14T22:13:20.000000001Z", 1700000000, 1),
+    ("2023-11-14T22:13:20.123456Z", 1700000000, 123456000),
+    ("2023-11-15T00:43:20+02:30", 1700000000, 0),
+    ("2023-11-14T17:13:20.25-05:00", 1700000000, 250000000),
+    ("1970-01-01T05:45:00+05:45", 0, 0),
+    ("1969-12-31T23:00:00-01:00", 0, 0),
+    ("2024-02-29T23:59:59.999999999Z", 1709251199, 999999999),
+    ("9998-12-31T23:59:59Z", 253370764799, 0),
+];
+
+const NO_MOMENTS: [&str; 17] = [
+    "1970-01-01T00:00:00+00:01",
+    "9998-12-31T23:59:59-00:01",
+    "9999-01-01T00:00:00Z",
+    "2023-02-29T00:00:00Z",
+    "2023-11-14T22:13:60Z",
+    "2023-11-14T24:00:00Z",
+    "2023-11-14T22:13:20",
+    "2023-11-14T22:13:20.Z",
+    "2023-11-14T22:13:20.1234567890Z",
+    "2023-11-14T22:13:20+24:00",
+    "2023-11-14T22:13:20+01:60",
+    "2023-11-14T22:13:20+0100",
+    "2023-11-14 22:13:20Z",
+    "2023-11-14T22:13:20z",
+    "2023-11-14T22:13:20Z ",
+    "2023-11-14T22:13Z",
+    "",
+];
+
 #[test]
 fn timestamps_have_offsets_and_decimals(rt: HostRuntime) -> Result<(), Fail> {
-    let rows = [
-        ("2023-11-14T22:13:20Z", 1700000000, 0),
-        ("2023-11-14T22:13:20.5Z", 1700000000, 500000000),
-        ("2023-11-14T22:13:20.000000001Z", 1700000000, 1),
-        ("2023-11-14T22:13:20.123456Z", 1700000000, 123456000),
-        ("2023-11-15T00:43:20+02:30", 1700000000, 0),
-        ("2023-11-14T17:13:20.25-05:00", 1700000000, 250000000),
-        ("1970-01-01T05:45:00+05:45", 0, 0),
-        ("1969-12-31T23:00:00-01:00", 0, 0),
-        ("2024-02-29T23:59:59.999999999Z", 1709251199, 999999999),
-        ("9998-12-31T23:59:59Z", 253370764799, 0),
-    ];
-    for (text, seconds, nanos) in rows {
+    for (text, seconds, nanos) in MOMENTS {
         assert!(rt;
             moment_of(rt.alloc(), text)? == Moment::new(seconds, nanos),
             "at {text}"
         );
     }
-    let others = [
-        "1970-01-01T00:00:00+00:01",
-        "9998-12-31T23:59:59-00:01",
-        "9999-01-01T00:00:00Z",
-        "2023-02-29T00:00:00Z",
-        "2023-11-14T22:13:60Z",
-        "2023-11-14T24:00:00Z",
-        "2023-11-14T22:13:20",
-        "2023-11-14T22:13:20.Z",
-        "2023-11-14T22:13:20.1234567890Z",
-        "2023-11-14T22:13:20+24:00",
-        "2023-11-14T22:13:20+01:60",
-        "2023-11-14T22:13:20+0100",
-        "2023-11-14 22:13:20Z",
-        "2023-11-14T22:13:20z",
-        "2023-11-14T22:13:20Z ",
-        "2023-11-14T22:13Z",
-        "",
-    ];
-    for text in others {
+    for text in NO_MOMENTS {
         assert!(rt; moment_of(rt.alloc(), text)?.is_none(), "at {text}");
     }
     Ok(())

@@ -80,8 +80,9 @@ fn what_is_written_is_read_again(rt: HostRuntime) -> Result<(), Fail> {
     )?;
     assert!(rt; tasks.insert(uuid(255), odd)?);
     assert!(rt; tasks.insert(uuid(2), TaskMap::new(alloc))?);
-    let want =
-        "{\"00000000-0000-4000-8000-000000000002\":{},\"00000000-0000-4000-8000-0000000000ff\":{\"\":\"a \\\"b\\\" \\\\ \\u0007\\n\",\"caf\u{e9}\":\"\u{1f600}\",\"dep_x\":\"\"}}";
+    let want = "{\"00000000-0000-4000-8000-000000000002\":{},\
+         \"00000000-0000-4000-8000-0000000000ff\":{\"\":\"a \\\"b\\\" \\\\ \\u0007\\n\",\
+         \"caf\u{e9}\":\"\u{1f600}\",\"dep_x\":\"\"}}";
     let Some(text) = write_snapshot(alloc, &tasks)? else {
         assert!(rt; false);
         return Ok(());

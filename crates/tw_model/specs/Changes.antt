@@ -35,7 +35,7 @@ abbrev pub ops_of_all : TasksValue → List Change → Moment → List Op
 ops_of_all tasks [] at = []
 ops_of_all tasks (change ∷ changes) at = ops_of tasks change at ++ ops_of_all (changed tasks change) changes at
 
--- operations behind an undo point, where there are any
+-- operations after an undo point, if there are any
 abbrev pub group_of : List Op → List Op
 group_of [] = []
 group_of (op ∷ ops) = UndoPoint ∷ op ∷ ops

@@ -19,7 +19,7 @@ id_from n u (place ∷ places) = cond (has_uuid u place) (Some n) (id_from (n + 
 abbrev pub id_of : List ℕ → Places → Option ℕ
 id_of u places = id_from 1 u places
 
--- the uuid at a place, where it is there and not vacant
+-- the uuid at a place, if it is there and not vacant
 abbrev pub uuid_at : ℕ → Places → Option (List ℕ)
 uuid_at at [] = None
 uuid_at zero (place ∷ places) = place

@@ -19,7 +19,7 @@ pub struct Change {
     pub task: Option<TaskMap>,
 }
 
-// Puts a task where there is none.
+// Puts a task if there is none.
 fn add(
     alloc: Global,
     tasks: &mut Tasks,
@@ -63,7 +63,7 @@ fn put(
     }
 }
 
-// Takes a task out, where there is one.
+// Takes a task out, if there is one.
 fn take_out(tasks: &mut Tasks, ops: &mut Vec<Op>, uuid: Uuid) -> Result<(), Memory>
     ensures tasks { OnOk result (tasks.new ≡ set_at tasks.old uuid None) }
     ensures ops { (at : AtMoment) → OnOk result (ops.new.items ≡ ops.old.items ++ change_ops uuid (get tasks.old uuid) None at) }
@@ -77,7 +77,7 @@ fn take_out(tasks: &mut Tasks, ops: &mut Vec<Op>, uuid: Uuid) -> Result<(), Memo
     }
 }
 
-/// Makes a change, and puts the operations that lead there behind others; each update is stamped with the moment `at`.
+/// Makes a change, and puts the operations that lead there after others; each update is stamped with the moment `at`.
 /// A change that leaves the task as it is has none. After want of memory a part of it may be made.
 pub fn make(
     alloc: Global,

@@ -4,7 +4,7 @@ ghost use Rattle.tw_model.specs.Places.{has_uuid, id_of, uuid_at, uuid_of};
 
 use uuid::Uuid;
 
-/// The number of a task, counted from 1, where it has a place. It looks at one place after another, and takes no memory.
+/// The number of a task, counted from 1, if it has a place. It looks at one place after another, and takes no memory.
 pub fn id_of(numbers: &Vec<Option<Uuid>>, uuid: Uuid) -> Option<u64>
     ensures { result ≡ id_of uuid numbers.now.items }
 {
@@ -18,7 +18,7 @@ pub fn id_of(numbers: &Vec<Option<Uuid>>, uuid: Uuid) -> Option<u64>
     None
 }
 
-/// The uuid of the task with a number, which is counted from 1, where that place is there and not vacant.
+/// The uuid of the task with a number, which is counted from 1, if that place is there and not vacant.
 pub fn uuid_of(numbers: &Vec<Option<Uuid>>, id: u64) -> Option<Uuid>
     ensures { result ≡ uuid_of id numbers.now.items }
 {

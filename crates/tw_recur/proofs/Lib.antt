@@ -6,4 +6,5 @@ pub mod Once
 pub mod Marks
 pub mod Done
 pub mod Made
+pub mod Changed
 pub mod Reported

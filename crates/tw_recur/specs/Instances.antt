@@ -111,7 +111,7 @@ pub record Making : Type 0 where
 abbrev pub with_mask : TaskValue → List ℕ → ℕ → TaskValue
 with_mask task mask now = insert (insert task (codes "mask") mask) (codes "modified") (decimal now)
 
--- a parent changes where its mask has grown
+-- a parent changes if its mask has grown
 abbrev pub mask_change : List ℕ → TaskValue → ℕ → List ℕ → List Change
 mask_change u task now mask = cond (nat_lt (length (mask_of task)) (length mask)) (record { uuid = u; task = Some (with_mask task mask now) } ∷ []) []
 

@@ -21,7 +21,7 @@ paired None l = None
 paired (Some due) None = None
 paired (Some due) (Some l) = Some (record { due = due; length = l })
 
--- the recurrence of a recurring task, where its `due` and its `recur` can be read
+-- the recurrence of a recurring task, if its `due` and its `recur` can be read
 unfoldable pub recurrence_of : TaskValue → Option Recurrence
 recurrence_of task = cond (has_status (codes "recurring") task) (paired (moment_at (codes "due") task) (length_of (get task (codes "recur")))) None
 

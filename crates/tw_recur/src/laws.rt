@@ -7,7 +7,7 @@ pub fn each_is_all()
     ensures { EachIsAll }
 {}
 
-/// Each uuid stands once in the changes of all instances: an instance that is made is no task yet, and a parent is one.
+/// Each uuid is once in the changes of all instances: an instance that is made is no task yet, and a parent is one.
 pub fn instances_are_apart()
     ensures { InstancesAreApart }
 {}

@@ -38,7 +38,7 @@ fn paired(due: Option<u64>, length: Option<Length>) -> Option<Recurrence>
     }
 }
 
-/// The recurrence of a recurring task, where its `due` and its `recur` can be read.
+/// The recurrence of a recurring task, if its `due` and its `recur` can be read.
 #[tactic(auto, unfolding(crate::specs::Recurrence::recurrence_of))]
 pub(crate) fn recurrence_of(task: &TaskMap) -> Option<Recurrence>
     ensures value { result ≡ recurrence_of task.now }

@@ -3,7 +3,7 @@ use Rattle.std.proofs.Common.{◌≡◌, ℕ, ◌≤◌, ◌==◌, List, [], ◌
 use Rattle.std.proofs.lemmas.Bool.Decides.{nat_tests}
 use Rattle.std.specs.Char.{is_ascii_digit}
 use Rattle.tw_time.specs.declared.form.Parts.{Parts}
-use Rattle.tw_time.specs.Forms.{put, put_digit, is_digit_place, filled, filled_after, with_digit, digit_at, printed}
+use Rattle.tw_time.specs.Forms.{put, put_digit, is_digit_letter, filled, filled_after, with_digit, digit_at, printed}
 
 -- a digit's code
 record IsDigit (c : ℕ) : Type 0 where
@@ -46,7 +46,7 @@ digit_only false false o q f p e = absurd (cc)
 same_number : (l c : ℕ) → (l == c) ≡ true → l ≡ c
 same_number l c e = grind (arith, nat_tests)
 
-digit_step : (l : ℕ) (form text : List ℕ) (q p : Parts) (next : ℕ → Parts) → is_digit_place l ≡ true → ((c : ℕ) → put_digit l c q ≡ Some (next c))
+digit_step : (l : ℕ) (form text : List ℕ) (q p : Parts) (next : ℕ → Parts) → is_digit_letter l ≡ true → ((c : ℕ) → put_digit l c q ≡ Some (next c))
     → filled_after q (l ∷ form) text ≡ Some p → Digit text form next p
 unfolding put filled_after
 digit_step l form [] q p next place more e = absurd (cc)
@@ -57,7 +57,7 @@ digit_step l form (c ∷ text) q p next place more e =
     let k = digit_only (is_ascii_digit c) (l == c) (put_digit l c q) q f p by in
     record { c = c; rest = text; is = refl; digit = is_digit c k.0; left = ap (option_and_then f) (sym (more c)) ∙ k.1 }
 
-mark_step : (l : ℕ) (form text : List ℕ) (q p : Parts) → is_digit_place l ≡ false → ((c : ℕ) → put_digit l c q ≡ None)
+mark_step : (l : ℕ) (form text : List ℕ) (q p : Parts) → is_digit_letter l ≡ false → ((c : ℕ) → put_digit l c q ≡ None)
     → filled_after q (l ∷ form) text ≡ Some p → Mark text l form q p
 unfolding put filled_after
 mark_step l form [] q p place more e = absurd (cc)
@@ -100,7 +100,7 @@ record Four (text form : List ℕ) (set : ℕ → Parts) (p : Parts) : Type 0 wh
   pub is : text ≡ digit_at n 1000 ∷ digit_at n 100 ∷ digit_at n 10 ∷ digit_at n 1 ∷ rest
   pub left : filled_after (set n) form rest ≡ Some p
 
-two_step : (l : ℕ) (form text : List ℕ) (set : ℕ → Parts) (p : Parts) → is_digit_place l ≡ true
+two_step : (l : ℕ) (form text : List ℕ) (set : ℕ → Parts) (p : Parts) → is_digit_letter l ≡ true
     → ((n c : ℕ) → put_digit l c (set n) ≡ Some (set (with_digit n c))) → filled_after (set 0) (l ∷ l ∷ form) text ≡ Some p → Two text form set p
 two_step l form text set p place more e =
     let a = digit_step l (l ∷ form) text (set 0) p (λ (c : ℕ). set (with_digit 0 c)) place (more 0) e in
@@ -113,7 +113,7 @@ two_step l form text set p place more e =
       left = b.left;
     }
 
-four_step : (l : ℕ) (form text : List ℕ) (set : ℕ → Parts) (p : Parts) → is_digit_place l ≡ true
+four_step : (l : ℕ) (form text : List ℕ) (set : ℕ → Parts) (p : Parts) → is_digit_letter l ≡ true
     → ((n c : ℕ) → put_digit l c (set n) ≡ Some (set (with_digit n c))) → filled_after (set 0) (l ∷ l ∷ l ∷ l ∷ form) text ≡ Some p → Four text form set p
 four_step l form text set p place more e =
     let a = digit_step l (l ∷ l ∷ l ∷ form) text (set 0) p (λ (x : ℕ). set (with_digit 0 x)) place (more 0) e in

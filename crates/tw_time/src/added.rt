@@ -13,7 +13,7 @@ use tw_world::MOMENT_LIMIT;
 /// The moment so many times a length on. Months and days go by the zone's calendar and keep the
 /// time of day: a day past the month's end becomes its last day, and a time that the clock skips
 /// or shows twice is taken with the offset before the change. Seconds go by the instant. `None`
-/// where the result is not before the year 9999.
+/// if the result is not before the year 9999.
 #[tactic(auto, unfolding(crate::specs::Lengths::added))]
 pub fn add_length(at: u64, length: &Length, times: u32, zone: &Zone) -> Option<u64>
     requires in_range { at < limit }

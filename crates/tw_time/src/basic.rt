@@ -108,7 +108,7 @@ fn days_before(year: u64, month: u64) -> u64
 // The days from 0000-03-01 up to 1969-12-31.
 const DAYS_BEFORE_1970: u64 = 719_469;
 
-// The second at which UTC's clock shows these bytes, where it does; else some second.
+// The second at which UTC's clock shows these bytes, if it does; else some second.
 fn second_shown(text: &[u8]) -> u64
     requires { length text.now ≡ 16 }
 {

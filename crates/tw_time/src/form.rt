@@ -1,13 +1,13 @@
 ghost use Rattle.std.specs.Prelude.{◌≡◌, ◌<◌, ◌≤◌, IfOk};
 ghost use Rattle.tw_time.specs.Civil.{limit};
-ghost use Rattle.tw_time.specs.Forms.{put, filled, with_digit, digit_at, is_digit_place};
+ghost use Rattle.tw_time.specs.Forms.{put, filled, with_digit, digit_at, is_digit_letter};
 ghost use Rattle.tw_time.specs.Placed.{at_civil};
 
 use crate::calendar::{date_of, time_of};
 use crate::error::DateError;
 use crate::zone::{Zone, second_of};
 
-/// The numbers of a text of a form, each by its last four digits, and 0 where the form has none.
+/// The numbers of a text of a form, each by its last four digits, and 0 if the form has none.
 #[derive(Clone, Copy)]
 pub struct Parts {
     pub year: u16,
@@ -48,7 +48,7 @@ fn put(letter: u8, byte: u8, parts: Parts) -> Option<Parts>
     ensures { result ≡ put letter byte parts }
 {
     if !byte.is_ascii_digit() {
-        return if letter == byte && !is_digit_place(letter) {
+        return if letter == byte && !is_digit_letter(letter) {
             Some(parts)
         } else {
             None
@@ -84,8 +84,8 @@ fn put(letter: u8, byte: u8, parts: Parts) -> Option<Parts>
 }
 
 // Whether a character of a form stands for a digit.
-fn is_digit_place(letter: u8) -> bool
-    ensures { result ≡ is_digit_place letter }
+fn is_digit_letter(letter: u8) -> bool
+    ensures { result ≡ is_digit_letter letter }
 {
     letter == b'Y'
         || letter == b'M'
@@ -114,7 +114,7 @@ pub fn at_civil(parts: Parts, zone: &Zone) -> Result<u64, DateError>
     second_of(date, time, zone).ok_or(DateError::OutOfRange)
 }
 
-// A digit of a number, where `unit` is a power of ten.
+// A digit of a number; `unit` is a power of ten.
 pub fn digit(number: u16, unit: u16) -> u8
     requires { 0 < unit }
     ensures { result ≡ digit_at number unit }

@@ -7,7 +7,7 @@ ghost use Rattle.tw_time.specs.declared.named_day.NamedDay.TheVariants.{Next};
 
 use jiff::civil::{Date, Weekday};
 
-/// A weekday's name stands for the first such day after today, by `jiff`'s own weekdays.
+/// A weekday's name means the first such day after today, by `jiff`'s own weekdays.
 pub fn a_weekdays_name_is_the_next_such_day(today: Date, weekday: Weekday, day: Date)
     requires { date_on (number_of_day (Next (monday_zero weekday)) today) ≡ Some day }
     ensures { IsNthWeekday today (pos 1) weekday day }

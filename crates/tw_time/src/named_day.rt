@@ -9,7 +9,7 @@ use crate::zone::{Zone, second_of, shown_at};
 use jiff::civil::Date;
 use jiff_core::civil;
 
-/// A day that is told by today's date. Weekdays count from 0 for Monday.
+/// A day that follows from today's date. Weekdays count from 0 for Monday.
 #[derive(Clone, Copy)]
 pub enum NamedDay {
     Today,
