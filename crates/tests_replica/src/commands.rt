@@ -10,7 +10,7 @@ mod statuses;
 
 use std::alloc::Global;
 use std::test::Fail;
-use tw_commands::{Input, Ready, Refusal, Request, decide};
+use tw_commands::{Input, Ready, Refusal, Request, conclude, plan_of};
 use tw_filter::Filter;
 use tw_model::{Change, TaskMap, Tasks};
 use tw_replica::{Prepared, Replica};
@@ -151,7 +151,11 @@ fn decided_by(
     let Ok(replica) = Replica::open(alloc, disk) else {
         return Err(Fail::new("no replica"));
     };
-    match decide(alloc, request, ids, replica)? {
+    let plan = match plan_of(alloc, request, ids, &replica)? {
+        Ok(plan) => plan,
+        Err(refusal) => return Ok(Err(refusal)),
+    };
+    match conclude(alloc, request, plan, replica)? {
         Ok(Ready { prepared, text }) => match prepared.write(disk) {
             Ok(_) => Ok(Ok(text)),
             Err(_) => Err(Fail::new("not written")),

@@ -3,7 +3,7 @@ use Rattle.std.proofs.Common.{◌≡◌, ℕ, Bool, true, false, cond, List, [],
 use Rattle.std.specs.FinMap.{get, insert}
 use Rattle.tw_model.specs.Maps.{same_bytes, set_at, set_inside}
 use Rattle.tw_model.proofs.Maps.{same_bytes_itself, get-set_at}
-use Rattle.tw_model.specs.Ops.{TaskValue, TasksValue, uuid_of, left_there, apply, apply_all}
+use Rattle.tw_model.specs.Ops.{TaskValue, TasksValue, uuid_of, fits_there, fits, left_there, apply, apply_all}
 use Rattle.tw_model.specs.LocalOps.{is_task, has_value, fits_local, apply_some, synced, apply_local, apply_all_local, take_back, take_back_all}
 use Rattle.tw_model.specs.declared.SyncOp.{SyncOp}
 use Rattle.tw_model.specs.declared.SyncOp.TheVariants as sync
@@ -11,7 +11,7 @@ use Rattle.tw_model.specs.declared.Op.{Op}
 use Rattle.tw_model.specs.declared.Op.TheVariants.{Create, Delete, Update, UndoPoint}
 use Rattle.tw_numbers.specs.Assigned.{is_among}
 use Rattle.tw_replica.specs.Touched.{is_about, is_touched, is_about_synced, is_touched_by_synced}
-use Rattle.tw_replica.specs.State.{misfit}
+use Rattle.tw_replica.specs.State.{misfit, misfit_synced}
 use Rattle.tw_replica.specs.Part.{AgreeAmong}
 use Rattle.tw_numbers.proofs.AlikeOnPart.{or_first, or_second}
 
@@ -79,3 +79,10 @@ all_synced_alike us a b (op ∷ ops) agree inside =
     all_synced_alike us (apply a op) (apply b op) ops
     (agree_set us a b (uuid_of op) _ _ agree (ap (left_there op) (agree (uuid_of op) (inside (uuid_of op) (or_first (same_bytes (uuid_of op) (uuid_of op)) (is_touched_by_synced ops (uuid_of op)) (same_bytes_itself (uuid_of op)))))))
     (λ u e. inside u (or_second (is_about_synced u op) (is_touched_by_synced ops u) e))
+
+pub misfit_synced_alike : (us : List (List ℕ)) (n : ℕ) (a b : TasksValue) (ops : List SyncOp) → AgreeAmong us a b → ((u : List ℕ) → is_touched_by_synced ops u ≡ true → is_among us u ≡ true) → misfit_synced n a ops ≡ misfit_synced n b ops
+misfit_synced_alike us n a b [] agree inside = refl
+misfit_synced_alike us n a b (op ∷ ops) agree inside =
+    let here : get a (uuid_of op) ≡ get b (uuid_of op) = agree (uuid_of op) (inside (uuid_of op) (or_first (same_bytes (uuid_of op) (uuid_of op)) (is_touched_by_synced ops (uuid_of op)) (same_bytes_itself (uuid_of op)))) in
+    ap (λ o. cond (fits_there op o) (misfit_synced (n + 1) (apply a op) ops) (Some n)) here
+    ∙ ap (λ o. cond (fits b op) o (Some n)) (misfit_synced_alike us (n + 1) (apply a op) (apply b op) ops (agree_set us a b (uuid_of op) _ _ agree (ap (left_there op) here)) (λ u e. inside u (or_second (is_about_synced u op) (is_touched_by_synced ops u) e)))

@@ -6,8 +6,8 @@ use Rattle.std.proofs.lemmas.Option.{same_Some, cond_some}
 use Rattle.tw_model.specs.declared.Op.{Op}
 use Rattle.tw_model.specs.declared.Op.TheVariants.{Create, Delete, Update, UndoPoint}
 use Rattle.tw_replica.specs.Body.{Step, is_undo_point, has_no_point, is_group}
-use Rattle.tw_replica.specs.Body.Step.{Commit, Undo, Sync, Checkpoint}
-use Rattle.tw_replica.specs.Reading.{op_at, group_of, commit_of, sync_op_at, sync_of, place_at, tasks_at, checkpoint_of, step_of}
+use Rattle.tw_replica.specs.Body.Step.{Commit, Undo, Sync, Carried, Partial, Checkpoint}
+use Rattle.tw_replica.specs.Reading.{op_at, group_of, commit_of, sync_op_at, sync_of, carried_of, partial_of, place_at, tasks_at, checkpoint_of, step_of}
 use Rattle.tw_fields.specs.Reading.{◌>>=◌, number_at, uuid_at, many_at, counted_at}
 use Rattle.tw_replica.specs.State.{in_front, split_group}
 use Rattle.tw_replica.specs.Pending.{BeginsWithPoint}
@@ -48,6 +48,8 @@ abbrev pub IsOfGroup : Step → Type 0
 IsOfGroup (Commit renumber ops) = is_group ops ≡ true
 IsOfGroup Undo = Unit {0}
 IsOfGroup (Sync base ops) = Unit {0}
+IsOfGroup (Carried base ops) = Unit {0}
+IsOfGroup (Partial base ops pending) = Unit {0}
 IsOfGroup (Checkpoint base places tasks pending) = Unit {0}
 
 pub group_read : (bytes : List ℕ) (ops : List Op) → group_of bytes ≡ Some ops → is_group ops ≡ true
@@ -80,6 +82,26 @@ sync_read rest step e =
     let here : IsOfGroup made = tt in
     subst IsOfGroup (cond_some (length o.0.1 == 0) made step o.2).1 here
 
+carried_read : (rest : List ℕ) (step : Step) → carried_of rest ≡ Some step → IsOfGroup step
+unfolding carried_of
+carried_read rest step e =
+    let u = bind_some (uuid_at rest) _ step e in
+    let n = bind_some (number_at w32 u.0.1) _ step u.2 in
+    let o = bind_some (many_at sync_op_at n.0.0 n.0.1) _ step n.2 in
+    let made : Step = Carried u.0.0 o.0.0 in
+    let here : IsOfGroup made = tt in
+    subst IsOfGroup (cond_some (length o.0.1 == 0) made step o.2).1 here
+
+partial_read : (rest : List ℕ) (step : Step) → partial_of rest ≡ Some step → IsOfGroup step
+unfolding partial_of
+partial_read rest step e =
+    let u = bind_some (uuid_at rest) _ step e in
+    let o = bind_some (counted_at sync_op_at u.0.1) _ step u.2 in
+    let p = bind_some (counted_at op_at o.0.1) _ step o.2 in
+    let made : Step = Partial u.0.0 o.0.0 p.0.0 in
+    let here : IsOfGroup made = tt in
+    subst IsOfGroup {x = made} (cond_some (length p.0.1 == 0) made step p.2).1 here
+
 checkpoint_read : (rest : List ℕ) (step : Step) → checkpoint_of rest ≡ Some step → IsOfGroup step
 unfolding checkpoint_of
 checkpoint_read rest step e =
@@ -99,9 +121,10 @@ step_read (zero ∷ rest) step e = absurd cc
 step_read (suc zero ∷ rest) step e = commit_read rest step e
 step_read (suc (suc zero) ∷ rest) step e = subst IsOfGroup (cond_some _ _ step e).1 tt
 step_read (suc (suc (suc zero)) ∷ rest) step e = sync_read rest step e
-step_read (suc (suc (suc (suc zero))) ∷ rest) step e = absurd cc
+step_read (suc (suc (suc (suc zero))) ∷ rest) step e = carried_read rest step e
 step_read (suc (suc (suc (suc (suc zero)))) ∷ rest) step e = checkpoint_read rest step e
-step_read (suc (suc (suc (suc (suc (suc b))))) ∷ rest) step e = absurd cc
+step_read (suc (suc (suc (suc (suc (suc zero))))) ∷ rest) step e = partial_read rest step e
+step_read (suc (suc (suc (suc (suc (suc (suc b)))))) ∷ rest) step e = absurd cc
 
 -- ---- how the operations begin
 

@@ -1,23 +1,21 @@
 -- What a step makes of a part is the part of what it makes.
-use Rattle.std.proofs.Common.{◌≡◌, ℕ, Bool, false, ◌||◌, List, refl, sym, ap, subst, ◌∙◌}
+use Rattle.std.proofs.Common.{◌≡◌, ℕ, false, ◌||◌, List, sym, ap, subst, ◌∙◌}
 use Rattle.std.specs.FinMap.{get}
 use Rattle.tw_model.specs.Ops.{TasksValue, apply_all}
 use Rattle.tw_model.specs.LocalOps.{apply_all_local, take_back_all}
 use Rattle.tw_model.specs.declared.Op.{Op}
 use Rattle.tw_model.specs.declared.SyncOp.{SyncOp}
 use Rattle.tw_model.specs.Places.{Places}
-use Rattle.tw_numbers.specs.Numbering.{assigned}
 use Rattle.tw_numbers.specs.Assigned.{IsAssignedIn, IsAssignedExcept, is_among}
 use Rattle.tw_replica.specs.Touched.{is_touched, is_touched_by_synced}
-use Rattle.tw_replica.specs.State.{misfit, packed_if}
+use Rattle.tw_replica.specs.State.{misfit, misfit_synced}
 use Rattle.tw_replica.specs.Part.{with_part, part_of, taken_out, fresh_among, with_room, AgreeAmong, HasNone, HasRoom}
 use Rattle.tw_replica.specs.Next.{after, IsNextOf}
 use Rattle.tw_replica.specs.declared.keeping.next.Next.{Next}
 use Rattle.tw_replica.proofs.OthersUnchanged.{not_first, not_second, all_applied_apart, all_taken_back_apart, all_synced_apart}
 use Rattle.tw_replica.proofs.PartsTogether.{part_agrees, merged, room_taken_out, fresh_has_none, fresh_has_room, room_filled}
 use Rattle.tw_numbers.proofs.AlikeOnPart.{or_first, or_second}
-use Rattle.tw_replica.proofs.AlikeOnPart.{misfit_alike, all_applied_alike, all_taken_back_alike, all_synced_alike}
-use Rattle.tw_replica.proofs.StepsTaken.{assigned_then}
+use Rattle.tw_replica.proofs.AlikeOnPart.{misfit_alike, misfit_synced_alike, all_applied_alike, all_taken_back_alike, all_synced_alike}
 
 -- tasks were made of old ones, and a part has what was made of those among these uuids, which are all that were changed
 pub record IsMade (us : List (List ℕ)) (old made part : TasksValue) : Type 0 where
@@ -30,9 +28,6 @@ module _ (us : List (List ℕ)) (old made part : TasksValue) (is : IsMade us old
 
   pub made_ready : (places : Places) → IsAssignedIn places old → IsAssignedExcept places made us
   made_ready places assigned_there = record { before = old; assigned = assigned_there; same = is.apart }
-
-  pub made_assigned : (renumber : Bool) (places new : Places) → IsAssignedIn places old → new ≡ packed_if renumber (assigned places made) → IsAssignedIn new (with_part us part old)
-  made_assigned renumber places new assigned_there packed = subst (IsAssignedIn new) (sym made_after) (assigned_then renumber places (assigned places made) new old made assigned_there refl packed)
 
 module _ (us : List (List ℕ)) (old copy : TasksValue) (copied : copy ≡ part_of us old) where
   same_there : AgreeAmong us copy old
@@ -68,28 +63,31 @@ module _ (us : List (List ℕ)) (old copy : TasksValue) (copied : copy ≡ part_
         ∙ all_taken_back_apart old pending u (not_first (is_touched pending u) (is_touched_by_synced ops u) none);
   }
 
--- what it leads to has assigned places, and says which of its tasks were not there
-pub next_is : (tasks : TasksValue) (next : Next) (us : List (List ℕ)) (part : TasksValue) → IsAssignedIn next.numbers.items (with_part us part tasks) → after next tasks ≡ with_part us part tasks → next.fresh.items ≡ fresh_among next.part tasks next.touched.keys → IsNextOf tasks next
-next_is tasks next us part assigned_there leads fresh = record { assigned = subst (IsAssignedIn next.numbers.items) (sym leads) assigned_there; fresh = fresh }
+  module _ (ops : List SyncOp) (touched : (u : List ℕ) → is_among us u ≡ is_touched_by_synced ops u) where
+    pub misfit_synced_there : misfit_synced 0 copy ops ≡ misfit_synced 0 old ops
+    misfit_synced_there = misfit_synced_alike us 0 copy old ops same_there (λ u e. touched u ∙ e)
+
+    pub carried_made : (part : TasksValue) → part ≡ apply_all copy ops → IsMade us old (apply_all old ops) part
+    carried_made part e = record {
+      among = λ u inside. ap (λ (t : TasksValue). get t u) e ∙ all_synced_alike us copy old ops same_there (λ v f. touched v ∙ f) u inside;
+      apart = λ u outside. all_synced_apart old ops u (sym (touched u) ∙ outside);
+    }
 
 -- ---- what a step leads to takes the place of what was there
 
 module _ (tasks : TasksValue) (next : Next) (is : IsNextOf tasks next) where
   pub next_free : HasNone next.fresh.items tasks
-  next_free = subst (λ (us : List (List ℕ)). HasNone us tasks) (sym is.fresh) (fresh_has_none next.part tasks next.touched.keys)
+  next_free = subst (λ (us : List (List ℕ)). HasNone us tasks) (sym is) (fresh_has_none next.part tasks next.touched.keys)
 
   module _ (roomy : TasksValue) (made : roomy ≡ with_room next.fresh.items tasks) where
     made_so : roomy ≡ with_room (fresh_among next.part tasks next.touched.keys) tasks
-    made_so = made ∙ ap (λ (us : List (List ℕ)). with_room us tasks) is.fresh
+    made_so = made ∙ ap (λ (us : List (List ℕ)). with_room us tasks) is
 
     pub next_room : HasRoom next.touched.keys next.part roomy
     next_room = subst (HasRoom next.touched.keys next.part) (sym made_so) (fresh_has_room next.part tasks next.touched.keys)
 
     pub next_taken : (new : TasksValue) → new ≡ after next roomy → new ≡ after next tasks
     next_taken new e = e ∙ ap (with_part next.touched.keys next.part) made_so ∙ room_filled next.part tasks next.touched.keys
-
-    pub next_assigned : (new : TasksValue) → new ≡ after next roomy → (numbers : Places) → numbers ≡ next.numbers.items → IsAssignedIn numbers new
-    next_assigned new e numbers same = subst (λ (ps : Places). IsAssignedIn ps new) (sym same) (subst (IsAssignedIn next.numbers.items) (sym (next_taken new e)) is.assigned)
 
     pub next_left : (new : TasksValue) → new ≡ taken_out next.fresh.items roomy → new ≡ tasks
     next_left new e = e ∙ ap (taken_out next.fresh.items) made ∙ room_taken_out next.fresh.items tasks next_free

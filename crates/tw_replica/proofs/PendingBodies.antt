@@ -10,8 +10,8 @@ use Rattle.tw_model.specs.Ops.{TasksValue}
 use Rattle.tw_model.specs.LocalOps.{take_back_all}
 use Rattle.tw_model.specs.declared.Op.{Op}
 use Rattle.tw_replica.specs.Body.{Step, body_of, IsStep, is_undo_point, has_no_point, is_group}
-use Rattle.tw_replica.specs.Body.Step.{Commit, Undo, Sync, Checkpoint}
-use Rattle.tw_replica.specs.Reading.{op_at, group_of, commit_of, sync_op_at, sync_of, place_at, tasks_at, checkpoint_of, step_of}
+use Rattle.tw_replica.specs.Body.Step.{Commit, Undo, Sync, Carried, Partial, Checkpoint}
+use Rattle.tw_replica.specs.Reading.{op_at, group_of, commit_of, sync_op_at, sync_of, carried_of, partial_of, place_at, tasks_at, checkpoint_of, step_of}
 use Rattle.tw_fields.specs.Reading.{◌>>=◌, number_at, uuid_at, many_at, counted_at}
 use Rattle.tw_replica.specs.Touched.{is_about, is_touched}
 use Rattle.tw_replica.specs.State.{in_front, split_group}
@@ -180,6 +180,8 @@ abbrev Holds : List Op → Step → Type 0
 Holds found (Commit renumber ops) = found ≡ ops
 Holds found Undo = Unit {0}
 Holds found (Sync base ops) = Unit {0}
+Holds found (Carried base ops) = Unit {0}
+Holds found (Partial base ops pending) = Unit {0}
 Holds found (Checkpoint base places tasks pending) = Unit {0}
 
 with_flag : (flag : Bool) (rest : List ℕ) (step : Step) → (group_of rest >>= λ ops. Some (Commit flag ops)) ≡ Some step → Holds (ops_or_none (group_of rest)) step
@@ -204,6 +206,26 @@ in_sync found rest step e =
     let here : Holds found made = tt in
     subst (Holds found) (cond_some (length o.0.1 == 0) made step o.2).1 here
 
+in_carried : (found : List Op) (rest : List ℕ) (step : Step) → carried_of rest ≡ Some step → Holds found step
+unfolding carried_of
+in_carried found rest step e =
+    let u = bind_some (uuid_at rest) _ step e in
+    let n = bind_some (number_at w32 u.0.1) _ step u.2 in
+    let o = bind_some (many_at sync_op_at n.0.0 n.0.1) _ step n.2 in
+    let made : Step = Carried u.0.0 o.0.0 in
+    let here : Holds found made = tt in
+    subst (Holds found) (cond_some (length o.0.1 == 0) made step o.2).1 here
+
+in_partial : (found : List Op) (rest : List ℕ) (step : Step) → partial_of rest ≡ Some step → Holds found step
+unfolding partial_of
+in_partial found rest step e =
+    let u = bind_some (uuid_at rest) _ step e in
+    let o = bind_some (counted_at sync_op_at u.0.1) _ step u.2 in
+    let p = bind_some (counted_at op_at o.0.1) _ step o.2 in
+    let made : Step = Partial u.0.0 o.0.0 p.0.0 in
+    let here : Holds found made = tt in
+    subst (Holds found) {x = made} (cond_some (length p.0.1 == 0) made step p.2).1 here
+
 in_checkpoint : (found : List Op) (rest : List ℕ) (step : Step) → checkpoint_of rest ≡ Some step → Holds found step
 unfolding checkpoint_of
 in_checkpoint found rest step e =
@@ -223,9 +245,10 @@ in_body (zero ∷ rest) step e = absurd cc
 in_body (suc zero ∷ rest) step e = in_commit rest step e
 in_body (suc (suc zero) ∷ rest) step e = subst (Holds (group_in (2 ∷ rest))) (cond_some (length rest == 0) Undo step e).1 tt
 in_body (suc (suc (suc zero)) ∷ rest) step e = in_sync (group_in (3 ∷ rest)) rest step e
-in_body (suc (suc (suc (suc zero))) ∷ rest) step e = absurd cc
+in_body (suc (suc (suc (suc zero))) ∷ rest) step e = in_carried (group_in (4 ∷ rest)) rest step e
 in_body (suc (suc (suc (suc (suc zero)))) ∷ rest) step e = in_checkpoint (group_in (5 ∷ rest)) rest step e
-in_body (suc (suc (suc (suc (suc (suc b))))) ∷ rest) step e = absurd cc
+in_body (suc (suc (suc (suc (suc (suc zero))))) ∷ rest) step e = in_partial (group_in (6 ∷ rest)) rest step e
+in_body (suc (suc (suc (suc (suc (suc (suc b)))))) ∷ rest) step e = absurd cc
 
 -- a body that holds a commit holds its operations
 pub commit_holds : (body : List ℕ) (renumber : Bool) (ops : List Op) → step_of body ≡ Some (Commit renumber ops) → group_in body ≡ ops

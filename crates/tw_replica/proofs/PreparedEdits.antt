@@ -11,14 +11,14 @@ use Rattle.tw_replica.specs.Body.{IsOp, is_group, IsStep}
 use Rattle.tw_replica.specs.Body.Step.{Commit}
 use Rattle.tw_numbers.specs.Numbering.{assigned}
 use Rattle.tw_numbers.specs.Assigned.{IsAssignedIn, IsAssignedExcept}
-use Rattle.tw_replica.specs.State.{is_idle, packed_if, committed}
+use Rattle.tw_replica.specs.State.{is_idle, packed_if, committed, is_sound}
 use Rattle.tw_replica.specs.Core.{state_of}
 use Rattle.tw_replica.specs.Prepared.{IsEditing, ChangedAmong}
 use Rattle.tw_replica.specs.declared.state.Core.{Core}
 use Rattle.tw_replica.specs.declared.step.edit.Editing.{Editing}
 use Rattle.tw_replica.specs.declared.replica.Replica.{Replica}
-use Rattle.tw_replica.proofs.StepsTaken.{assigned_then}
-use Rattle.tw_replica.proofs.CommittedChanges.{no_ops, changes_are_group, idle_same, idle_is_committed, changes_are_committed}
+use Rattle.tw_replica.proofs.Soundness.{step_sound, held_assigned}
+use Rattle.tw_replica.proofs.CommittedChanges.{no_ops, changes_are_group, idle_is_committed, changes_are_committed}
 
 -- a step without operations is one of the program
 nothing_is : (renumber : Bool) (ops : List Op) → is_idle renumber (group_of ops) ≡ true → is_group (group_of ops) ≡ true → IsStep (Commit renumber (group_of ops))
@@ -26,7 +26,7 @@ nothing_is renumber ops idle group = (subst (λ o. AllByRecursion IsOp (group_of
 
 module _ (old : Replica) (made : List Change) (at : Moment) (editing : Editing) (is : IsEditing old made at editing) where
   pub editing_ready : IsAssignedExcept editing.core.numbers.items editing.core.tasks editing.touched.keys
-  editing_ready = record { before = old.core.tasks; assigned = subst (λ ps. IsAssignedIn ps old.core.tasks) (sym is.numbers) old.assigned; same = is.among }
+  editing_ready = record { before = old.core.tasks; assigned = subst (λ ps. IsAssignedIn ps old.core.tasks) (sym is.numbers) (held_assigned old.core old.sound); same = is.among }
 
   module _ (renumber : Bool) (core : Core) (base : core.base ≡ editing.core.base) (tasks : core.tasks ≡ editing.core.tasks)
       (idle : is_idle renumber (group_of editing.ops.items) ≡ true → core ≡ editing.core)
@@ -53,16 +53,8 @@ module _ (old : Replica) (made : List Change) (at : Moment) (editing : Editing) 
             changes_are_committed renumber made at (state_of old.core) (state_of core) (ap (is_idle renumber) (sym ops_are) ∙ e) (base ∙ is.base)
             (pending e ∙ ap (λ ps. ps ++ group_of editing.ops.items) is.pending ∙ ap (λ ops. old.core.pending ++ ops) ops_are) to (places e)
 
-    pub edited_assigned : IsAssignedIn core.numbers.items core.tasks
-    edited_assigned = by (is_idle renumber (group_of editing.ops.items)) refl
-      where
-        by : (b : Bool) → is_idle renumber (group_of editing.ops.items) ≡ b → IsAssignedIn core.numbers.items core.tasks
-        by true e =
-            let stays : core.tasks ≡ old.core.tasks = to ∙ idle_same renumber old.core.tasks made at (ap (is_idle renumber) (sym ops_are) ∙ e) in
-            subst (λ ts. IsAssignedIn core.numbers.items ts) (sym stays) (subst (λ ps. IsAssignedIn ps old.core.tasks) (sym (ap (λ (c : Core). c.numbers.items) (idle e) ∙ is.numbers)) old.assigned)
-        by false e =
-            assigned_then renumber old.core.numbers.items (assigned old.core.numbers.items core.tasks) core.numbers.items old.core.tasks core.tasks old.assigned refl
-            (places e ∙ ap (λ ts. packed_if renumber (assigned old.core.numbers.items ts)) (sym to))
+    pub edited_sound : is_sound (state_of core) ≡ true
+    edited_sound = step_sound (Commit renumber (group_of (ops_of_all old.core.tasks made at))) (state_of old.core) (state_of core) (changes_are_group old.core.tasks made at) old.sound edited_leads
 
     pub edited_is : (is_idle renumber (group_of editing.ops.items) ≡ false → AllByRecursion IsOp (group_of editing.ops.items)) → IsStep (Commit renumber (group_of (ops_of_all old.core.tasks made at)))
     edited_is all = subst (λ ops. IsStep (Commit renumber ops)) ops_are (by (is_idle renumber (group_of editing.ops.items)) refl)

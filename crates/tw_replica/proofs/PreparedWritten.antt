@@ -7,7 +7,7 @@ use Rattle.tw_journal.specs.Open.{Records}
 use Rattle.tw_journal.specs.Journal.{IsOpenOn}
 use Rattle.tw_journal.specs.declared.journal.Journal.{Journal}
 use Rattle.tw_replica.specs.Body.{Step, body_of}
-use Rattle.tw_replica.specs.Body.Step.{Commit, Undo, Sync, Checkpoint}
+use Rattle.tw_replica.specs.Body.Step.{Commit, Undo, Sync, Carried, Partial, Checkpoint}
 use Rattle.tw_replica.specs.State.{State, is_idle, misfit, unless, moved_to, applied, Stands}
 use Rattle.tw_model.specs.LocalOps.{apply_all_local}
 use Rattle.tw_replica.specs.Replica.{magic, OpensToEither, IsReplicaOn, held_state}
@@ -30,6 +30,8 @@ bodies_cases (Commit renumber ops) old new done = by (is_idle renumber ops) done
     by false e = inr refl
 bodies_cases Undo old new done = inr refl
 bodies_cases (Sync base ops) old new done = inr refl
+bodies_cases (Carried base ops) old new done = inr refl
+bodies_cases (Partial base ops pending) old new done = inr refl
 bodies_cases (Checkpoint base places tasks pending) old new done = inr refl
 
 last_length : {D : Type 0} (m : DiskModel D) (journal : Journal) (disk : D) (bodies : List (List ℕ)) (body : List ℕ) → IsOpenOn m magic journal disk (bodies ++ body ∷ []) → length body < 2 ^ 32

@@ -7,7 +7,7 @@ use Rattle.tw_journal.specs.Record.{IsRecordLength}
 use Rattle.tw_journal.proofs.Offsets.{open_records}
 use Rattle.tw_journal.specs.Open.{Records}
 use Rattle.tw_journal.specs.Journal.{IsOpenOn, RecordsOrMore}
-use Rattle.tw_model.specs.Ops.{apply_all}
+use Rattle.tw_model.specs.Ops.{TasksValue, apply_all}
 use Rattle.tw_model.specs.LocalOps.{apply_all_local, take_back_all}
 use Rattle.tw_model.specs.declared.Op.{Op}
 use Rattle.tw_model.specs.declared.SyncOp.{SyncOp}
@@ -16,7 +16,7 @@ use Rattle.tw_replica.specs.Body.Step.{Commit, Sync}
 use Rattle.tw_replica.specs.Reading.{step_of}
 use Rattle.tw_fields.specs.Reading.{◌>>=◌}
 use Rattle.tw_numbers.specs.Numbering.{assigned}
-use Rattle.tw_replica.specs.State.{State, start, is_idle, misfit, unless, packed_if, moved_to, committed, split_group, undone, start_of, synced, applied, stepped, replayed, Stands}
+use Rattle.tw_replica.specs.State.{State, start, is_idle, misfit, unless, packed_if, moved_to, committed, split_group, undone, start_of, misfit_synced, at_base, carried, moved, may_pend, partly, synced, applied, stepped, replayed, Stands}
 use Rattle.tw_replica.specs.Core.{state_of}
 use Rattle.tw_replica.specs.Replica.{magic, OpensToNext, OpensToEither, IsReplicaOn, bodies_after}
 use Rattle.tw_replica.specs.declared.replica.Replica.{Replica}
@@ -109,6 +109,45 @@ pub is_synced : (base : List ℕ) (ops : List SyncOp) (old new : State) → new.
 is_synced base ops old new at none tasks numbers =
     let same : synced base ops old ≡ new = λ i. record { base = sym at i; pending = sym none i; tasks = sym tasks i; numbers = sym numbers i } in
     ap (λ s. Some s) same
+
+-- the state that a sync in place leads to
+pub is_carried : (base : List ℕ) (ops : List SyncOp) (old new : State) → misfit_synced 0 old.tasks ops ≡ None → new.base ≡ base → new.pending ≡ [] → new.tasks ≡ apply_all old.tasks ops → new.numbers ≡ assigned old.numbers (apply_all old.tasks ops) → carried base ops old ≡ Some new
+is_carried base ops old new fits at none tasks numbers =
+    let made = at_base base (apply_all old.tasks ops) old in
+    let same : made ≡ new = λ i. record { base = sym at i; pending = sym none i; tasks = sym tasks i; numbers = sym numbers i } in
+    ap (λ o. unless o made) fits ∙ ap (λ s. Some s) same
+
+pub carries_on : (base : List ℕ) (ops : List SyncOp) (old : State) → misfit_synced 0 old.tasks ops ≡ None → carried base ops old ≡ Some (at_base base (apply_all old.tasks ops) old)
+carries_on base ops old fits = ap (λ o. unless o (at_base base (apply_all old.tasks ops) old)) fits
+
+-- the state that a sync leads to that was cut short, and when there is none
+pub partly_on : (base : List ℕ) (ops : List SyncOp) (pending : List Op) (old : State) → misfit_synced 0 old.tasks ops ≡ None → may_pend (apply_all old.tasks ops) pending ≡ true → partly base ops pending old ≡ Some (moved base pending (apply_all old.tasks ops) old)
+partly_on base ops pending old fits may =
+    let made = moved base pending (apply_all old.tasks ops) old in
+    ap (λ b. cond b (unless (misfit_synced 0 old.tasks ops) made) None) may ∙ ap (λ o. unless o made) fits
+
+pub is_partly : (base : List ℕ) (ops : List SyncOp) (pending : List Op) (old new : State) → misfit_synced 0 old.tasks ops ≡ None → may_pend (apply_all old.tasks ops) pending ≡ true → new.base ≡ base → new.pending ≡ pending → new.tasks ≡ apply_all old.tasks ops → new.numbers ≡ assigned old.numbers (apply_all old.tasks ops) → partly base ops pending old ≡ Some new
+is_partly base ops pending old new fits may at left tasks numbers =
+    let made = moved base pending (apply_all old.tasks ops) old in
+    let same : made ≡ new = λ i. record { base = sym at i; pending = sym left i; tasks = sym tasks i; numbers = sym numbers i } in
+    partly_on base ops pending old fits may ∙ ap (λ s. Some s) same
+
+pub not_carried : (base : List ℕ) (ops : List SyncOp) (pending : List Op) (old : State) (n : ℕ) → misfit_synced 0 old.tasks ops ≡ Some n → partly base ops pending old ≡ None
+not_carried base ops pending old n misfit = ap (λ o. cond (may_pend (apply_all old.tasks ops) pending) (unless o (moved base pending (apply_all old.tasks ops) old)) None) misfit ∙ by (may_pend (apply_all old.tasks ops) pending)
+  where
+    none : Option State
+    none = None
+
+    by : (b : Bool) → cond b none none ≡ none
+    by true = refl
+    by false = refl
+
+-- whether operations may be pending is tested once the carried ones are applied
+pub pends_then : (old there : TasksValue) (ops : List SyncOp) (pending : List Op) (may : Bool) → there ≡ apply_all old ops → may ≡ may_pend there pending → may_pend (apply_all old ops) pending ≡ may
+pends_then old there ops pending may made told = ap (λ (t : TasksValue). may_pend t pending) (sym made) ∙ sym told
+
+pub not_pending : (base : List ℕ) (ops : List SyncOp) (pending : List Op) (old : State) → may_pend (apply_all old.tasks ops) pending ≡ false → partly base ops pending old ≡ None
+not_pending base ops pending old not = ap (λ b. cond b (unless (misfit_synced 0 old.tasks ops) (moved base pending (apply_all old.tasks ops) old)) None) not
 
 -- a commit that has something to do adds its record
 pub one_more_body : (renumber : Bool) (ops : List Op) (bodies : List (List ℕ)) → is_idle renumber ops ≡ false → bodies_after renumber ops bodies ≡ bodies ++ body_of (Commit renumber ops) ∷ []

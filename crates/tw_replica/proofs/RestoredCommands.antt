@@ -85,7 +85,7 @@ pub begins_same : (ops : List Op) (op : Op) → 1 ≤ length ops → begins_with
 begins_same [] op some = absurd (omega arith)
 begins_same (x ∷ ops) op some = refl
 
-no_point_last : (ops : List Op) (op : Op) → has_no_point ops ≡ true → is_undo_point op ≡ false → has_no_point (ops ++ op ∷ []) ≡ true
+pub no_point_last : (ops : List Op) (op : Op) → has_no_point ops ≡ true → is_undo_point op ≡ false → has_no_point (ops ++ op ∷ []) ≡ true
 no_point_last [] op e not_one = ap (λ b. cond b false true) not_one
 no_point_last (x ∷ ops) op e not_one = by (is_undo_point x) (λ f. no_point_last ops op f not_one) e
   where
@@ -110,7 +110,7 @@ begins_more (x ∷ xs) ys first second = first
 no_some : {A : Type 0} (x : A) → None ≡ Some x → ⊥
 no_some x e = absurd cc
 
-not_both : (b : Bool) → b ≡ true → b ≡ false → ⊥
+pub not_both : (b : Bool) → b ≡ true → b ≡ false → ⊥
 not_both true p q = absurd cc
 not_both false p q = absurd cc
 

@@ -6,14 +6,14 @@ use Rattle.std.proofs.lemmas.List.{length-append, length-drop}
 use Rattle.std.proofs.lemmas.Option.{same_Some}
 use Rattle.tw_world.specs.Disk.{DiskModel, Tells, Rose, LeavesOnly, FaultsRise}
 use Rattle.tw_world.proofs.Moments.{CountsNow, OnlyNow, joined, weaker, started}
-use Rattle.tw_journal.specs.Form.{Records, HasRecords, has_areas, IsSameForm}
+use Rattle.tw_journal.specs.Form.{Records, HasRecords, has_areas, selector_in, IsSameOrEnded}
 use Rattle.tw_journal.specs.Open.{IsImageThen}
 use Rattle.tw_journal.specs.Record.{rows, IsLongerBy}
 use Rattle.tw_journal.specs.Journal.{IsOpenOn, IsOpened, RecordsOrOne, AppendRefused, can_checkpoint, is_closed}
 use Rattle.tw_journal.specs.declared.journal.Journal.{Journal}
 use Rattle.tw_journal.specs.declared.error.AppendError.{AppendError}
 use Rattle.tw_journal.specs.declared.error.AppendError.TheVariants as appends
-use Rattle.tw_journal.proofs.Offsets.{left_records}
+use Rattle.tw_journal.proofs.Offsets.{left_records, ended_areas}
 use Rattle.tw_replica.specs.Body.{IsStep}
 use Rattle.tw_replica.specs.State.{State, start, Stands, checkpoint}
 use Rattle.tw_replica.specs.Sound.{IsSound}
@@ -85,7 +85,7 @@ module _ {D : Type 0} (m : DiskModel D) where
       one_start : (a b : ℕ) → Some a ≡ Some b → a ≡ b
       one_start a b e = same_Some a b e
 
-      same : IsSameForm magic (m.seen before) (m.seen mid) → HasRecords magic (m.seen before) o.bodies → length (m.seen mid) ≤ length (m.seen before)
+      same : IsSameOrEnded magic (m.seen before) (m.seen mid) → HasRecords magic (m.seen before) o.bodies → length (m.seen mid) ≤ length (m.seen before)
       same form has =
           let at : has.start ≡ journal.start = one_start has.start journal.start (sym has.form ∙ sym form.start ∙ o.now.rest.form) in
           let l1 : length (drop journal.start (m.seen mid)) ≡ length (m.seen mid) - journal.start = length-drop journal.start (m.seen mid) in
@@ -140,8 +140,8 @@ module _ {D : Type 0} (m : DiskModel D) where
       none : o.bodies ≡ [] → opened_bodies (can_checkpoint journal) state o.bodies ≡ opened_bodies (has_areas (m.seen before)) state o.bodies
       none e = too_few (can_checkpoint journal) state o.bodies (few e) ∙ sym (too_few (has_areas (m.seen before)) state o.bodies (few e))
 
-      same : IsSameForm magic (m.seen before) (m.seen mid) → opened_bodies (can_checkpoint journal) state o.bodies ≡ opened_bodies (has_areas (m.seen before)) state o.bodies
-      same form = ap (λ n. opened_bodies (nat_le 2 n) state o.bodies) (sym o.now.rest.selector_is ∙ form.selector)
+      same : IsSameOrEnded magic (m.seen before) (m.seen mid) → opened_bodies (can_checkpoint journal) state o.bodies ≡ opened_bodies (has_areas (m.seen before)) state o.bodies
+      same form = ap (λ (b : Bool). opened_bodies b state o.bodies) (ap (nat_le 2) (sym o.now.rest.selector_is ∙ form.selector) ∙ ended_areas (selector_in (m.seen before)))
 
   pub shortened : (before mid new : D) (journal : Journal) (state : State) (bodies : List (List ℕ)) → Records magic (m.seen before) bodies → Stands bodies state → LeavesOnly m before mid (IsImageThen m before magic) → LeavesOnly m mid new (λ c. OpensTo c state) → LeavesOnly m before new (IsOpening m before)
   shortened before mid new journal state bodies records stands first second =

@@ -36,7 +36,7 @@ entry_has_bytes : (entry : List ℕ × TaskValue) → 0 < length (entry_bytes en
 entry_has_bytes entry = omega (arith, length-append entry.0 (task_bytes entry.1), length-append (to_be_bytes w32 (len entry.1)) (flat_map pair_bytes (entries entry.1)))
 
 module _ {A : Type 0} (one : List ℕ → Option (A × List ℕ)) (spell : A → List ℕ) (P : A → Type 0) (again : (x : A) (rest : List ℕ) → P x × (length (spell x) < 2 ^ 32) → one (spell x ++ rest) ≡ Some (x, rest)) (some : (x : A) → 0 < length (spell x)) where
-  counted_again : (xs : List A) (rest : List ℕ) → AllByRecursion P xs → length (flat_map spell xs) < 2 ^ 32 → counted_at one ((to_be_bytes w32 (length xs) ++ flat_map spell xs) ++ rest) ≡ Some (xs, rest)
+  pub counted_again : (xs : List A) (rest : List ℕ) → AllByRecursion P xs → length (flat_map spell xs) < 2 ^ 32 → counted_at one ((to_be_bytes w32 (length xs) ++ flat_map spell xs) ++ rest) ≡ Some (xs, rest)
   unfolding counted_at
   counted_again xs rest is lt =
       let less : length xs ≤ length (flat_map spell xs) = few one spell P again xs some in

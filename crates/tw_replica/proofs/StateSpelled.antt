@@ -43,7 +43,7 @@ module _ {A : Type 0} (one : List ℕ → Option (A × List ℕ)) (spell : A →
   abbrev counted : List A → List ℕ
   counted xs = to_be_bytes w32 (length xs) ++ flat_map spell xs
 
-  counted_spelled : (bytes : List ℕ) (r : List A × List ℕ) → AreBytes bytes → counted_at one bytes ≡ Some r → Spells counted (AllByRecursion P) bytes r
+  pub counted_spelled : (bytes : List ℕ) (r : List A × List ℕ) → AreBytes bytes → counted_at one bytes ≡ Some r → Spells counted (AllByRecursion P) bytes r
   unfolding counted_at
   counted_spelled bytes r are e =
       let n = bind_some _ _ r e in

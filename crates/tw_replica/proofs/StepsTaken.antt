@@ -40,6 +40,9 @@ synced_ready places old back new pending ops us is taken made touched = record {
       ∙ ap (λ (t : TasksValue). get t u) taken ∙ all_taken_back_apart old pending u (not_first (is_touched pending u) (is_touched_by_synced ops u) none);
 }
 
+pub carried_ready : (places : Places) (old new : TasksValue) (ops : List SyncOp) (us : List (List ℕ)) → IsAssignedIn places old → new ≡ apply_all old ops → ((u : List ℕ) → is_among us u ≡ is_touched_by_synced ops u) → IsAssignedExcept places new us
+carried_ready places old new ops us is made touched = record { before = old; assigned = is; same = λ u out. ap (λ (t : TasksValue). get t u) made ∙ all_synced_apart old ops u (sym (touched u) ∙ out) }
+
 -- the places after a step have the tasks assigned
 pub assigned_then : (renumber : Bool) (places looked new : Places) (old tasks : TasksValue) → IsAssignedIn places old → looked ≡ assigned places tasks → new ≡ packed_if renumber looked → IsAssignedIn new tasks
 assigned_then renumber places looked new old tasks is look pack =

@@ -7,7 +7,7 @@ use Rattle.tw_journal.specs.Open.{Records}
 use Rattle.tw_journal.specs.Journal.{is_closed, journal_end}
 use Rattle.tw_model.specs.Ops.{TasksValue}
 use Rattle.tw_replica.specs.Body.{Step, body_of, IsStep}
-use Rattle.tw_replica.specs.Body.Step.{Commit, Undo, Sync, Checkpoint}
+use Rattle.tw_replica.specs.Body.Step.{Commit, Undo, Sync, Carried, Partial, Checkpoint}
 use Rattle.tw_replica.specs.State.{State, is_idle, applied, split_group}
 use Rattle.tw_replica.specs.Core.{state_of}
 use Rattle.tw_replica.specs.Replica.{magic, held_state}
@@ -28,6 +28,8 @@ abbrev pub step_bodies : Step → List (List ℕ)
 step_bodies (Commit renumber ops) = cond (is_idle renumber ops) [] (body_of (Commit renumber ops) ∷ [])
 step_bodies Undo = body_of Undo ∷ []
 step_bodies (Sync base ops) = body_of (Sync base ops) ∷ []
+step_bodies (Carried base ops) = body_of (Carried base ops) ∷ []
+step_bodies (Partial base ops pending) = body_of (Partial base ops pending) ∷ []
 step_bodies (Checkpoint base places tasks pending) = body_of (Checkpoint base places tasks pending) ∷ []
 
 -- the body that is to be written, if there is one

@@ -1,6 +1,7 @@
 // The bodies of records: each is read and written in one place.
 
 pub(crate) mod op;
+pub(crate) mod partial;
 pub(crate) mod state;
 pub(crate) mod step;
 pub(crate) mod sync_op;

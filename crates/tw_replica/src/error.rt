@@ -17,7 +17,7 @@ pub enum OpenError {
     Memory,
 }
 
-/// Why a commit is refused.
+/// Why a commit, or the end of a sync in place, is refused.
 #[derive(Clone, Copy, Debug, PartialEq, Eq, Drop)]
 pub enum CommitError {
     /// The journal refused: a fault of the disk, which closes the replica, or a record above its limit.

@@ -3,5 +3,5 @@
 mod apply;
 mod indexed;
 pub(crate) mod replay;
-mod restore;
+pub(crate) mod restore;
 pub(crate) mod shorten;

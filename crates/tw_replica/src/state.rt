@@ -3,7 +3,7 @@ ghost use Rattle.std.specs.Prelude.{◌≡◌, ◌≤◌, ◌++◌, length, drop
 ghost use Rattle.tw_model.specs.Ops.{apply_all};
 ghost use Rattle.tw_model.specs.LocalOps.{apply_all_local, take_back_all};
 ghost use Rattle.tw_numbers.specs.Assigned.{RenewsByPart};
-ghost use Rattle.tw_replica.specs.State.{is_idle, misfit, start};
+ghost use Rattle.tw_replica.specs.State.{is_idle, misfit, misfit_synced, start};
 ghost use Rattle.tw_replica.specs.Core.{state_of};
 
 use crate::pending::Pending;
@@ -81,6 +81,26 @@ pub(crate) fn apply_sync_ops(
         at = tasks.apply_sync_run(alloc, ops, at)?;
     }
     Ok(())
+}
+
+/// Applies operations of versions one after another, and answers the number of the first that does not fit.
+pub(crate) fn apply_carried(
+    alloc: Global,
+    tasks: &mut Tasks,
+    ops: &Vec<SyncOp>,
+) -> Result<Option<u64>, Memory>
+    ensures fit { IfOk result (λ at. at ≡ misfit_synced 0 tasks.old ops.now.items) }
+    ensures left { IfOk result (λ at. IfNone at (tasks.new ≡ apply_all tasks.old ops.now.items)) }
+{
+    let mut at = 0;
+    while at < ops.len() {
+        if !tasks.apply_sync(alloc, &ops[at])? {
+            let misfit = at as u64;
+            return Ok(Some(misfit));
+        }
+        at += 1;
+    }
+    Ok(None)
 }
 
 /// The places for tasks once a part of them has changed, packed if it is asked.

@@ -105,6 +105,15 @@ pub(crate) fn add_all_synced(touched: &mut BTreeSet<Uuid>, ops: &Vec<SyncOp>) ->
     Ok(())
 }
 
+/// The uuids of the tasks that operations of versions are about.
+pub(crate) fn synced_uuids(alloc: Global, ops: &Vec<SyncOp>) -> Result<BTreeSet<Uuid>, Memory>
+    ensures { IfOk result (λ touched. (u : List ℕ) → set.contains bytes_cmp touched u ≡ is_touched_by_synced ops.now.items u) }
+{
+    let mut touched = BTreeSet::new(alloc);
+    add_all_synced(&mut touched, ops)?;
+    Ok(touched)
+}
+
 // Whether an operation is about the task of a uuid, or about none.
 fn stays_with(op: &Op, uuid: Uuid) -> bool
     ensures { result ≡ true → (u : List ℕ) → is_about u op.now ≡ true → same_bytes u uuid ≡ true }

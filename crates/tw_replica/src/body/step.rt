@@ -8,11 +8,12 @@ ghost use Rattle.tw_replica.specs.Reading.{group_of, commit_of, step_of};
 ghost use Rattle.tw_fields.specs.Reading.{Gives};
 
 use crate::body::op::{put_ops, read_ops};
+use crate::body::partial::read_partial;
 use crate::body::state::read_checkpoint;
-use crate::body::sync_op::read_sync;
+use crate::body::sync_op::{read_carried, read_sync};
 use std::alloc::Global;
 use tw_fields::{ReadError, put_count, u32_at};
-use tw_model::{Op, Tasks};
+use tw_model::{Op, SyncOp, Tasks};
 use tw_world::Memory;
 use uuid::Uuid;
 
@@ -71,6 +72,15 @@ pub(crate) enum Read<'a> {
         count: u32,
         ops: &'a [u8],
     },
+    Carried {
+        base: [u8; 16],
+        ops: Vec<SyncOp>,
+    },
+    Partial {
+        base: [u8; 16],
+        ops: Vec<SyncOp>,
+        pending: Vec<Op>,
+    },
     Checkpoint {
         base: [u8; 16],
         places: Vec<Option<Uuid>>,
@@ -106,7 +116,9 @@ pub(crate) fn read_step(alloc: Global, bytes: &[u8]) -> Result<Read<'_>, ReadErr
         [1, rest @ ..] => read_commit(alloc, rest),
         [2] => Ok(Read::Undo),
         [3, rest @ ..] => read_sync(rest),
+        [4, rest @ ..] => read_carried(alloc, rest),
         [5, rest @ ..] => read_checkpoint(alloc, rest),
+        [6, rest @ ..] => read_partial(alloc, rest),
         _ => Err(ReadError::Malformed),
     }
 }

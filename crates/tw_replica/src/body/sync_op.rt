@@ -3,9 +3,9 @@ ghost use Rattle.std.specs.Prelude.{◌≡◌, ◌++◌, ◌∷◌, IfOk, OnOk, 
 ghost use Rattle.std.specs.List.{flat_map, AllByRecursion};
 ghost use Rattle.tw_replica.specs.Body.{sync_op_bytes, sync_update_bytes, body_of, IsSyncOp, IsStep};
 ghost use Rattle.tw_fields.specs.Fields.{IsText, IsUuid};
-ghost use Rattle.tw_replica.specs.Body.Step.{Sync};
+ghost use Rattle.tw_replica.specs.Body.Step.{Sync, Carried};
 ghost use Rattle.tw_replica.specs.Views.{IsRead};
-ghost use Rattle.tw_replica.specs.Reading.{sync_create_at, sync_delete_at, sync_update_at, sync_op_at, sync_of};
+ghost use Rattle.tw_replica.specs.Reading.{sync_create_at, sync_delete_at, sync_update_at, sync_op_at, sync_of, carried_of};
 ghost use Rattle.tw_fields.specs.Reading.{Gives, many_at};
 
 use crate::body::room_for;
@@ -96,6 +96,21 @@ pub(crate) fn read_sync(bytes: &[u8]) -> Result<Read<'_>, ReadError>
     Ok(Read::Sync { base, count, ops })
 }
 
+/// The version and the operations of a sync in place, of the body after its first byte.
+#[tactic(auto, unfolding(crate::specs::Reading::carried_of))]
+pub(crate) fn read_carried(alloc: Global, bytes: &[u8]) -> Result<Read<'_>, ReadError>
+    ensures { IsRead result (carried_of bytes.now) }
+{
+    let (base, rest) = read_uuid(bytes)?;
+    let (count, rest) = u32_at(rest)?;
+    let (ops, rest) = read_sync_ops(alloc, count, rest)?;
+    if rest.len() == 0 {
+        Ok(Read::Carried { base, ops })
+    } else {
+        Err(ReadError::Malformed)
+    }
+}
+
 fn put_update(
     out: &mut Vec<u8>,
     uuid: &Uuid,
@@ -135,7 +150,7 @@ fn put_sync_op(out: &mut Vec<u8>, op: &SyncOp) -> Result<(), Memory>
     }
 }
 
-fn put_sync_ops(out: &mut Vec<u8>, ops: &Vec<SyncOp>) -> Result<(), Memory>
+pub(crate) fn put_sync_ops(out: &mut Vec<u8>, ops: &Vec<SyncOp>) -> Result<(), Memory>
     ensures put { OnOk result (out.new.items ≡ out.old.items ++ flat_map sync_op_bytes ops.now.items) }
     ensures is { OnOk result (AllByRecursion IsSyncOp ops.now.items) }
 {
@@ -152,6 +167,19 @@ pub(crate) fn sync_body(alloc: Global, base: &Uuid, ops: &Vec<SyncOp>) -> Result
 {
     let mut body = Vec::new(alloc);
     body.push(3)?;
+    put_uuid(&mut body, base)?;
+    put_count(&mut body, ops.len())?;
+    put_sync_ops(&mut body, ops)?;
+    Ok(body)
+}
+
+/// The body of the record of a sync in place.
+pub(crate) fn carried_body(alloc: Global, base: &Uuid, ops: &Vec<SyncOp>) -> Result<Vec<u8>, Memory>
+    ensures body { IfOk result (λ body. body.items ≡ body_of (Carried base.now ops.now.items)) }
+    ensures is { OnOk result (IsStep (Carried base.now ops.now.items)) }
+{
+    let mut body = Vec::new(alloc);
+    body.push(4)?;
     put_uuid(&mut body, base)?;
     put_count(&mut body, ops.len())?;
     put_sync_ops(&mut body, ops)?;

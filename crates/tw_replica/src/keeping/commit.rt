@@ -2,7 +2,7 @@
 ghost use Rattle.std.specs.Prelude.{◌≡◌, ◌≤◌, ◌+◌, ◌^◌, ◌++◌, List, length, None, Some, true, false, Err as AnErr, IfOk, OnOk, IfErr};
 ghost use Rattle.tw_world.specs.Disk.{FaultsRise};
 ghost use Rattle.tw_journal.specs.Record.{rows};
-ghost use Rattle.tw_journal.specs.Journal.{RecordsOrMore, is_closed};
+ghost use Rattle.tw_journal.specs.Journal.{RecordsOrMore, is_closed, journal_end};
 ghost use Rattle.tw_model.specs.declared.Op.{Op as AnyOp};
 ghost use Rattle.tw_model.specs.LocalOps.{apply_all_local};
 ghost use Rattle.tw_numbers.specs.Assigned.{IsAssignedIn};
@@ -20,12 +20,13 @@ use crate::body::step::commit_body;
 use crate::error::{CommitError, RecordError};
 use crate::keeping::copies::part_of;
 use crate::keeping::next::{Next, next_on};
+use crate::keeping::record::write_next;
 use crate::pending::{Pending, copy_of};
 use crate::replica::Replica;
 use crate::state::{Core, apply_ops, is_idle};
 use crate::touched::touched_uuids;
 use std::alloc::Global;
-use tw_journal::AppendError;
+use tw_journal::{AppendError, Journal};
 use tw_model::Op;
 use tw_world::{Disk, Memory};
 
@@ -94,6 +95,40 @@ fn take_out_again(pending: &mut Pending, count: usize)
     }
 }
 
+// Writes a commit's record, and then takes what it leads to. What is kept of it holds so many operations.
+fn commit_record<D: Disk>(
+    alloc: Global,
+    journal: &mut Journal,
+    disk: &mut D,
+    core: &mut Core,
+    kept: Vec<u8>,
+    count: usize,
+    next: Next,
+    body: &[u8],
+) -> Result<(), RecordError>
+    requires kept { count ≡ length (group_in kept.items) }
+    requires length { is_closed journal.old ≡ false → D.model.len disk.old ≡ journal_end journal.old }
+    requires next { IsNextOf core.old.tasks next }
+    ensures journal { IfOk result (λ u. RecordsAfter D.model journal.old journal.new disk.old disk.new (one_more body.now)) }
+    ensures any_moment { LeavesRecords D.model journal.old disk.old disk.new (λ bodies. RecordsOrMore magic bodies body.now) }
+    ensures growth { JournalGrowsBy D.model journal.old disk.old disk.new (length body.now + 5) }
+    ensures accepted { OnOk result ((is_closed journal.new ≡ false) × (length body.now + 5 ≤ 2 ^ 30)) }
+    ensures length { is_closed journal.new ≡ false → D.model.len disk.new ≡ journal_end journal.new }
+    ensures base { core.new.base ≡ core.old.base }
+    ensures pending { OnOk result (core.new.pending ≡ core.old.pending ++ group_in kept.items) }
+    ensures tasks { OnOk result (core.new.tasks ≡ after next core.old.tasks) }
+    ensures numbers { OnOk result (core.new.numbers.items ≡ next.numbers.items) }
+    ensures refused { IfErr result (λ e. RecordRefused D.model journal.old journal.new core.old core.new disk.old disk.new (length body.now) e) }
+    ensures kept { FaultsRise D.model disk.old disk.new }
+{
+    core.pending.keep(kept, count)?;
+    if let Err(error) = write_next(alloc, journal, disk, core, next, body) {
+        take_out_again(&mut core.pending, count);
+        return Err(error);
+    }
+    Ok(())
+}
+
 impl Replica {
     /// Applies operations and puts them after what is pending.
     pub fn commit<D: Disk>(
@@ -125,40 +160,16 @@ impl Replica {
         let next = next_of_commit(alloc, &self.core, &ops, renumber)?;
         let body = commit_body(alloc, &ops, renumber)?;
         let kept = copy_of(alloc, &body)?;
-        self.commit_record(alloc, disk, kept, ops.len(), next, &body)?;
-        Ok(())
-    }
-
-    // Writes a commit's record, and then takes what it leads to. What is kept of it holds so many operations.
-    fn commit_record<D: Disk>(
-        &mut self,
-        alloc: Global,
-        disk: &mut D,
-        kept: Vec<u8>,
-        count: usize,
-        next: Next,
-        body: &[u8],
-    ) -> Result<(), RecordError>
-        requires kept { count ≡ length (group_in kept.items) }
-        requires length { IsLengthKept D.model self.old disk.old }
-        requires next { IsNextOf self.old.core.tasks next }
-        ensures journal { IfOk result (λ u. RecordsAfter D.model self.old.journal self.new.journal disk.old disk.new (one_more body.now)) }
-        ensures any_moment { LeavesRecords D.model self.old.journal disk.old disk.new (λ bodies. RecordsOrMore magic bodies body.now) }
-        ensures growth { JournalGrowsBy D.model self.old.journal disk.old disk.new (length body.now + 5) }
-        ensures accepted { OnOk result ((is_closed self.new.journal ≡ false) × (length body.now + 5 ≤ 2 ^ 30)) }
-        ensures length { IsLengthKept D.model self.new disk.new }
-        ensures base { self.new.core.base ≡ self.old.core.base }
-        ensures pending { OnOk result (self.new.core.pending ≡ self.old.core.pending ++ group_in kept.items) }
-        ensures tasks { OnOk result (self.new.core.tasks ≡ after next self.old.core.tasks) }
-        ensures numbers { OnOk result (self.new.core.numbers.items ≡ next.numbers.items) }
-        ensures refused { IfErr result (λ e. RecordRefused D.model self.old self.new disk.old disk.new (length body.now) e) }
-        ensures kept { FaultsRise D.model disk.old disk.new }
-    {
-        self.core.pending.keep(kept, count)?;
-        if let Err(error) = self.write_next(alloc, disk, next, body) {
-            take_out_again(&mut self.core.pending, count);
-            return Err(error);
-        }
+        commit_record(
+            alloc,
+            &mut self.journal,
+            disk,
+            &mut self.core,
+            kept,
+            ops.len(),
+            next,
+            &body,
+        )?;
         Ok(())
     }
 }

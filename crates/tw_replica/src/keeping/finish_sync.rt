@@ -18,6 +18,7 @@ use crate::body::sync_op::sync_body;
 use crate::error::RecordError;
 use crate::keeping::copies::part_of;
 use crate::keeping::next::{Next, next_on};
+use crate::keeping::record::write_next;
 use crate::pending::Pending;
 use crate::replica::Replica;
 use crate::state::{Core, apply_sync_ops, take_back_from};
@@ -74,7 +75,7 @@ impl Replica {
         let next = next_of_sync(alloc, &self.core, &remote)?;
         let body = sync_body(alloc, &base, &remote)?;
         let none = Pending::new(alloc);
-        self.write_next(alloc, disk, next, &body)?;
+        write_next(alloc, &mut self.journal, disk, &mut self.core, next, &body)?;
         self.core.pending = none;
         self.core.base = base;
         Ok(())

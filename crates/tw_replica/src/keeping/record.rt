@@ -3,15 +3,14 @@ ghost use Rattle.std.specs.Prelude.{◌≡◌, ◌≤◌, ◌+◌, ◌^◌, leng
 ghost use Rattle.tw_world.specs.Disk.{FaultsRise};
 ghost use Rattle.tw_journal.specs.Journal.{RecordsOrMore, is_closed, journal_end};
 ghost use Rattle.tw_replica.specs.Part.{with_room};
-ghost use Rattle.tw_replica.specs.Core.{state_of};
 ghost use Rattle.tw_replica.specs.Next.{after, IsNextOf};
-ghost use Rattle.tw_replica.specs.Replica.{magic, IsLengthKept, RecordsAfter, LeavesRecords, JournalGrowsBy, one_more};
+ghost use Rattle.tw_replica.specs.Replica.{magic, RecordsAfter, LeavesRecords, JournalGrowsBy, one_more};
 ghost use Rattle.tw_replica.specs.Replica.{WritingRefused, RecordRefused};
 
 use crate::error::RecordError;
 use crate::keeping::copies::{make_room, take_out};
 use crate::keeping::next::Next;
-use crate::replica::Replica;
+use crate::state::Core;
 use std::alloc::Global;
 use tw_journal::Journal;
 use tw_model::Tasks;
@@ -46,39 +45,30 @@ fn write_record<D: Disk>(
     Ok(())
 }
 
-impl Replica {
-    /// Writes the record of a step, and then takes what it leads to. What is pending and the base stay, for the caller to change.
-    pub(crate) fn write_next<D: Disk>(
-        &mut self,
-        alloc: Global,
-        disk: &mut D,
-        next: Next,
-        body: &[u8],
-    ) -> Result<(), RecordError>
-        requires length { IsLengthKept D.model self.old disk.old }
-        requires next { IsNextOf self.old.core.tasks next }
-        ensures journal { IfOk result (λ u. RecordsAfter D.model self.old.journal self.new.journal disk.old disk.new (one_more body.now)) }
-        ensures any_moment { LeavesRecords D.model self.old.journal disk.old disk.new (λ bodies. RecordsOrMore magic bodies body.now) }
-        ensures growth { JournalGrowsBy D.model self.old.journal disk.old disk.new (length body.now + 5) }
-        ensures accepted { OnOk result ((is_closed self.new.journal ≡ false) × (length body.now + 5 ≤ 2 ^ 30)) }
-        ensures length { IsLengthKept D.model self.new disk.new }
-        ensures base { self.new.core.base ≡ self.old.core.base }
-        ensures pending { self.new.core.pending ≡ self.old.core.pending }
-        ensures tasks { OnOk result (self.new.core.tasks ≡ after next self.old.core.tasks) }
-        ensures numbers { OnOk result (self.new.core.numbers.items ≡ next.numbers.items) }
-        ensures left { OnErr result (state_of self.new.core ≡ state_of self.old.core) }
-        ensures refused { IfErr result (λ e. RecordRefused D.model self.old self.new disk.old disk.new (length body.now) e) }
-        ensures kept { FaultsRise D.model disk.old disk.new }
-    {
-        write_record(
-            alloc,
-            &mut self.journal,
-            disk,
-            &mut self.core.tasks,
-            &next,
-            body,
-        )?;
-        next.take_over(&mut self.core);
-        Ok(())
-    }
+/// Writes the record of a step, and then takes what it leads to. What is pending and the base stay, for the caller to change.
+pub(crate) fn write_next<D: Disk>(
+    alloc: Global,
+    journal: &mut Journal,
+    disk: &mut D,
+    core: &mut Core,
+    next: Next,
+    body: &[u8],
+) -> Result<(), RecordError>
+    requires length { is_closed journal.old ≡ false → D.model.len disk.old ≡ journal_end journal.old }
+    requires next { IsNextOf core.old.tasks next }
+    ensures journal { IfOk result (λ u. RecordsAfter D.model journal.old journal.new disk.old disk.new (one_more body.now)) }
+    ensures any_moment { LeavesRecords D.model journal.old disk.old disk.new (λ bodies. RecordsOrMore magic bodies body.now) }
+    ensures growth { JournalGrowsBy D.model journal.old disk.old disk.new (length body.now + 5) }
+    ensures accepted { OnOk result ((is_closed journal.new ≡ false) × (length body.now + 5 ≤ 2 ^ 30)) }
+    ensures length { is_closed journal.new ≡ false → D.model.len disk.new ≡ journal_end journal.new }
+    ensures base { core.new.base ≡ core.old.base }
+    ensures pending { core.new.pending ≡ core.old.pending }
+    ensures tasks { OnOk result (core.new.tasks ≡ after next core.old.tasks) }
+    ensures numbers { OnOk result (core.new.numbers.items ≡ next.numbers.items) }
+    ensures refused { IfErr result (λ e. RecordRefused D.model journal.old journal.new core.old core.new disk.old disk.new (length body.now) e) }
+    ensures kept { FaultsRise D.model disk.old disk.new }
+{
+    write_record(alloc, journal, disk, &mut core.tasks, &next, body)?;
+    next.take_over(core);
+    Ok(())
 }

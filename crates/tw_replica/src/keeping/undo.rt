@@ -18,6 +18,7 @@ use crate::body::step::UNDO;
 use crate::error::UndoError;
 use crate::keeping::copies::part_of;
 use crate::keeping::next::{Next, next_on};
+use crate::keeping::record::write_next;
 use crate::replica::Replica;
 use crate::state::{Core, take_back_from};
 use crate::touched::touched_uuids;
@@ -65,7 +66,7 @@ impl Replica {
         };
         let count = group.len() - 1;
         let next = next_of_undo(alloc, &self.core, &group)?;
-        self.write_next(alloc, disk, next, &UNDO)?;
+        write_next(alloc, &mut self.journal, disk, &mut self.core, next, &UNDO)?;
         self.core.pending.pop();
         Ok(count as u64)
     }

@@ -1,6 +1,6 @@
 // Taking one step after another in memory, with an index of the places.
 ghost use Rattle.std.specs.Prelude.{◌≡◌, true, false, IfOk};
-ghost use Rattle.tw_replica.specs.State.{start, stepped, committed, undone};
+ghost use Rattle.tw_replica.specs.State.{start, stepped, committed, undone, carried, partly, is_sound};
 ghost use Rattle.tw_replica.specs.Core.{state_of, StepsTo};
 ghost use Rattle.tw_replica.specs.Groups.{group_in};
 ghost use Rattle.tw_replica.specs.Applied.{synced_by};
@@ -11,12 +11,13 @@ use crate::body::step::{Read, read_step};
 use crate::open::apply::apply_read;
 use crate::open::restore::take_pending;
 use crate::pending::Pending;
-use crate::state::{Core, apply_ops, is_idle, take_back_from};
-use crate::touched::{made_task, touched_uuids};
+use crate::pends::{may_pend, pending_of};
+use crate::state::{Core, apply_carried, apply_ops, is_idle, take_back_from};
+use crate::touched::{made_task, synced_uuids, touched_uuids};
 use std::alloc::Global;
 use std::collections::BTreeMap;
 use tw_fields::ReadError;
-use tw_model::{Op, Tasks};
+use tw_model::{Op, SyncOp, Tasks};
 use tw_numbers::{LOOKS, assign, assign_new, is_assigned, pack_if};
 use tw_world::Memory;
 use uuid::Uuid;
@@ -43,6 +44,7 @@ impl Drop for Indexed {
 impl Indexed {
     pub(crate) fn new(alloc: Global) -> Indexed
         ensures state { state_of result.core ≡ start }
+        ensures sound { is_sound (state_of result.core) ≡ true }
         ensures ready { IsUpToDate result }
     {
         Indexed {
@@ -199,6 +201,62 @@ impl Indexed {
         Ok(true)
     }
 
+    // Applies what a sync in place carried to the tasks at hand, and answers whether all of it fits.
+    fn carried(&mut self, alloc: Global, base: Uuid, ops: &Vec<SyncOp>) -> Result<bool, Memory>
+        requires { IsUpToDate self.old }
+        ensures step { IfOk result (λ done. StepsTo done (carried base ops.now.items) self.old.core self.new.core) }
+        ensures ready { IfOk result (λ done. done ≡ true → IsUpToDate self.new) }
+    {
+        let touched = synced_uuids(alloc, ops)?;
+        if let Some(_) = apply_carried(alloc, &mut self.core.tasks, ops)? {
+            return Ok(false);
+        }
+        assign(
+            alloc,
+            &mut self.core.numbers,
+            &mut self.index,
+            &mut self.looks,
+            &self.core.tasks,
+            &touched,
+        )?;
+        self.core.pending = Pending::new(alloc);
+        self.core.base = base;
+        Ok(true)
+    }
+
+    // Applies what a sync that was cut short carried, and takes what is pending then. Answers whether the one fits and the other may be pending.
+    fn partly(
+        &mut self,
+        alloc: Global,
+        base: Uuid,
+        ops: &Vec<SyncOp>,
+        pending: &Vec<Op>,
+    ) -> Result<bool, Memory>
+        requires { IsUpToDate self.old }
+        ensures step { IfOk result (λ done. StepsTo done (partly base ops.now.items pending.now.items) self.old.core self.new.core) }
+        ensures ready { IfOk result (λ done. done ≡ true → IsUpToDate self.new) }
+    {
+        if let Some(_) = apply_carried(alloc, &mut self.core.tasks, ops)? {
+            return Ok(false);
+        }
+        if !may_pend(alloc, &mut self.core.tasks, pending)? {
+            return Ok(false);
+        }
+        let kept = pending_of(alloc, pending)?;
+        let touched = synced_uuids(alloc, ops)?;
+        assign(
+            alloc,
+            &mut self.core.numbers,
+            &mut self.index,
+            &mut self.looks,
+            &self.core.tasks,
+            &touched,
+        )?;
+        self.core.pending = kept;
+        self.core.base = base;
+        Ok(true)
+    }
+
     // Takes a whole state in place of what is there, and answers whether the bytes are so many pending operations and it is sound.
     fn restore(
         &mut self,
@@ -242,6 +300,10 @@ impl Indexed {
             Ok(Read::Undo) => self.undo(alloc),
             Ok(Read::Sync { base, count, ops }) => {
                 self.sync(alloc, Uuid::from_bytes(base), count, ops)
+            }
+            Ok(Read::Carried { base, ops }) => self.carried(alloc, Uuid::from_bytes(base), &ops),
+            Ok(Read::Partial { base, ops, pending }) => {
+                self.partly(alloc, Uuid::from_bytes(base), &ops, &pending)
             }
             Ok(
                 Read::Checkpoint {

@@ -1,10 +1,9 @@
 // Replaying the records of a journal.
-ghost use Rattle.std.specs.Prelude.{◌≡◌, ◌<◌, List, ℕ, false, IfOk, OnOk, IfErr};
+ghost use Rattle.std.specs.Prelude.{◌≡◌, ◌<◌, List, ℕ, true, false, IfOk, OnOk, IfErr};
 ghost use Rattle.tw_world.specs.Disk.{Untouched};
 ghost use Rattle.tw_journal.specs.Window.{IsWindowOn};
 ghost use Rattle.tw_journal.specs.Journal.{IsOpenOn, is_closed, journal_count, journal_end};
-ghost use Rattle.tw_numbers.specs.Assigned.{IsAssignedIn};
-ghost use Rattle.tw_replica.specs.State.{Stands};
+ghost use Rattle.tw_replica.specs.State.{Stands, is_sound};
 ghost use Rattle.tw_replica.specs.Core.{state_of};
 ghost use Rattle.tw_replica.specs.Indexed.{IsUpToDate};
 ghost use Rattle.tw_replica.specs.Replica.{magic, TakesRecord, TakingRefused, ReplayRefused};
@@ -32,6 +31,7 @@ fn take_record<D: Disk>(
     requires length { D.model.len disk.old ≡ journal_end journal.now }
     ensures step { OnOk result (TakesRecord D.model journal.now disk.old n (state_of indexed.old.core) (state_of indexed.new.core)) }
     ensures ready { OnOk result (IsUpToDate indexed.new) }
+    ensures sound { OnOk result (is_sound (state_of indexed.old.core) ≡ true → is_sound (state_of indexed.new.core) ≡ true) }
     ensures window { OnOk result (IsWindowOn D.model disk.new window.new) }
     ensures untouched { Untouched D.model disk.old disk.new }
     ensures refused { IfErr result (λ e. TakingRefused D.model disk.old disk.new journal.now n (state_of indexed.old.core) e) }
@@ -58,7 +58,7 @@ pub(crate) fn replay<D: Disk>(
     requires open_now { is_closed journal.now ≡ false }
     requires length { D.model.len disk.old ≡ journal_end journal.now }
     ensures stands { IfOk result (λ core. (bodies : List (List ℕ)) → IsOpenOn D.model magic journal.now disk.old bodies → Stands bodies (state_of core)) }
-    ensures assigned { IfOk result (λ core. IsAssignedIn core.numbers.items core.tasks) }
+    ensures sound { IfOk result (λ core. is_sound (state_of core) ≡ true) }
     ensures untouched { Untouched D.model disk.old disk.new }
     ensures refused { IfErr result (λ e. ReplayRefused D.model disk.old disk.new journal.now e) }
 {

@@ -51,7 +51,11 @@ fn read_command(alloc: Global, count: u32, bytes: &[u8]) -> Result<(Vec<Op>, u32
 }
 
 // Puts the operations of a command after those that are pending.
-fn keep_command(alloc: Global, pending: &mut Pending, ops: &Vec<Op>) -> Result<(), Memory>
+pub(crate) fn keep_command(
+    alloc: Global,
+    pending: &mut Pending,
+    ops: &Vec<Op>,
+) -> Result<(), Memory>
     requires { is_group ops.now.items ≡ true }
     ensures { OnOk result (pending.new ≡ pending.old ++ ops.now.items) }
 {

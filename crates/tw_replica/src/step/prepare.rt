@@ -84,7 +84,6 @@ pub(crate) fn take_back_core(alloc: Global, core: &mut Core, group: &Vec<Op>) ->
     ensures pending { OnOk result ((last : IsLastOf core.old.pending group.now.items) → core.new.pending ≡ last.left) }
     ensures tasks { OnOk result (core.new.tasks ≡ take_back_all core.old.tasks (drop 1 group.now.items)) }
     ensures numbers { OnOk result (core.new.numbers.items ≡ assigned core.old.numbers.items core.new.tasks) }
-    ensures assigned { OnOk result (IsAssignedIn core.new.numbers.items core.new.tasks) }
 {
     let touched = touched_uuids(alloc, group, 1)?;
     take_back_from(alloc, &mut core.tasks, group, 1)?;

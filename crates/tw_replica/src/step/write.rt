@@ -1,5 +1,7 @@
 // A step that is made in memory, and then written.
-ghost use Rattle.tw_numbers.specs.Assigned.{IsAssignedIn, assigned_prop};
+ghost use Rattle.std.specs.Prelude.{◌≡◌, true};
+ghost use Rattle.tw_replica.specs.State.{is_sound};
+ghost use Rattle.tw_replica.specs.Core.{state_of};
 
 use crate::error::WriteError;
 use crate::pending::Pending;
@@ -15,7 +17,7 @@ pub struct Prepared {
     pub(crate) journal: Journal,
     pub(crate) core: Core,
     pub(crate) body: Option<Vec<u8>>,
-    ghost assigned: { IsAssignedIn core.numbers.items core.tasks } by { assigned_prop core.numbers.items core.tasks },
+    pub ghost sound: { is_sound (state_of core) ≡ true },
 }
 
 // It is written out, so that a caller does not prove again how each part is dropped.

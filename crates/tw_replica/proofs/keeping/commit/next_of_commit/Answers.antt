@@ -1,7 +1,7 @@
 use Rattle.std.proofs.Common.{◌∙◌, sym}
 use Rattle.tw_model.specs.LocalOps.{apply_all_local}
 use Rattle.tw_replica.proofs.StepsTaken.{if_none}
-use Rattle.tw_replica.proofs.MadeOnPart.{IsMade, next_is, made_after, made_ready, made_assigned, misfit_there, applied_made}
+use Rattle.tw_replica.proofs.MadeOnPart.{IsMade, made_after, made_ready, misfit_there, applied_made}
 use Rattle.tw_replica.proofs.keeping.commit.next_of_commit.Goals as goal
 
 pub returns-in-Some-clause-refused : goal.returns-in-Some-clause-refused
@@ -18,6 +18,3 @@ returns-clause-tasks c = c.in_ok-next.ensures.leads c.args.core.now.tasks ∙ ma
 
 pub returns-clause-numbers : goal.returns-clause-numbers
 returns-clause-numbers c = c.in_ok-next.ensures.numbers _ (made c).among (made_ready _ _ _ _ (made c) c.args.core.now.numbers.items c.requires)
-
-pub returns-clause-next : goal.returns-clause-next
-returns-clause-next c = next_is c.args.core.now.tasks c.in_ok-next.next c.in_ok-touched.touched.keys c.apply_ops.new.tasks (made_assigned _ _ _ _ (made c) c.args.renumber c.args.core.now.numbers.items c.in_ok-next.next.numbers.items c.requires (returns-clause-numbers c)) (c.in_ok-next.ensures.leads c.args.core.now.tasks) c.in_ok-next.ensures.fresh

@@ -1,9 +1,9 @@
-use Rattle.std.proofs.Common.{◌||◌, ◌∙◌, List, ap, subst, false}
+use Rattle.std.proofs.Common.{◌||◌, ◌∙◌, List, ap, subst}
 use Rattle.tw_model.specs.Ops.{apply_all}
 use Rattle.tw_model.specs.LocalOps.{take_back_all}
 use Rattle.tw_model.specs.declared.Op.{Op}
 use Rattle.tw_replica.specs.Touched.{is_touched_by_synced}
-use Rattle.tw_replica.proofs.MadeOnPart.{IsMade, next_is, made_after, made_ready, made_assigned, synced_made}
+use Rattle.tw_replica.proofs.MadeOnPart.{IsMade, made_after, made_ready, synced_made}
 use Rattle.tw_replica.proofs.keeping.finish_sync.next_of_sync.Goals as goal
 
 made : (c : goal.After-drop-pending-2) → IsMade c.add_all_synced.new.touched.keys c.args.core.now.tasks (apply_all (take_back_all c.args.core.now.tasks c.args.core.now.pending) c.args.ops.now.items) c.apply_sync_ops.new.tasks
@@ -21,6 +21,3 @@ returns-clause-tasks c = c.in_ok-next.ensures.leads c.args.core.now.tasks ∙ ma
 
 pub returns-clause-numbers : goal.returns-clause-numbers
 returns-clause-numbers c = c.in_ok-next.ensures.numbers _ (made c).among (made_ready _ _ _ _ (made c) c.args.core.now.numbers.items c.requires)
-
-pub returns-clause-next : goal.returns-clause-next
-returns-clause-next c = next_is c.args.core.now.tasks c.in_ok-next.next c.add_all_synced.new.touched.keys c.apply_sync_ops.new.tasks (made_assigned _ _ _ _ (made c) false c.args.core.now.numbers.items c.in_ok-next.next.numbers.items c.requires (returns-clause-numbers c)) (c.in_ok-next.ensures.leads c.args.core.now.tasks) c.in_ok-next.ensures.fresh

@@ -1,6 +1,6 @@
-use Rattle.std.proofs.Common.{◌∙◌, drop, false}
+use Rattle.std.proofs.Common.{◌∙◌, drop}
 use Rattle.tw_model.specs.LocalOps.{take_back_all}
-use Rattle.tw_replica.proofs.MadeOnPart.{IsMade, next_is, made_after, made_ready, made_assigned, taken_back_made}
+use Rattle.tw_replica.proofs.MadeOnPart.{IsMade, made_after, made_ready, taken_back_made}
 use Rattle.tw_replica.proofs.keeping.undo.next_of_undo.Goals as goal
 
 made : (c : goal.In_ok-next) → IsMade c.in_ok-touched.touched.keys c.args.core.now.tasks (take_back_all c.args.core.now.tasks (drop 1 c.args.group.now.items)) c.take_back_from.new.tasks
@@ -11,6 +11,3 @@ returns-clause-tasks c = c.in_ok-next.ensures.leads c.args.core.now.tasks ∙ ma
 
 pub returns-clause-numbers : goal.returns-clause-numbers
 returns-clause-numbers c = c.in_ok-next.ensures.numbers _ (made c).among (made_ready _ _ _ _ (made c) c.args.core.now.numbers.items c.requires.assigned)
-
-pub returns-clause-next : goal.returns-clause-next
-returns-clause-next c = next_is c.args.core.now.tasks c.in_ok-next.next c.in_ok-touched.touched.keys c.take_back_from.new.tasks (made_assigned _ _ _ _ (made c) false c.args.core.now.numbers.items c.in_ok-next.next.numbers.items c.requires.assigned (returns-clause-numbers c)) (c.in_ok-next.ensures.leads c.args.core.now.tasks) c.in_ok-next.ensures.fresh

@@ -22,4 +22,5 @@ loop-n-preserved g c =
           (c.in_ok-take_record.ensures.step bodies (still_open m magic c.args.journal.now c.args.disk.now c.loop-n.disk bodies c.loop-n.invariant.0 on)),
       c.in_ok-take_record.ensures.ready,
       c.in_ok-take_record.ensures.window,
+      c.in_ok-take_record.ensures.sound c.loop-n.invariant.4,
     )

@@ -5,6 +5,7 @@ use Rattle.tw_replica.specs.State.{stepped}
 use Rattle.tw_replica.specs.Core.{state_of}
 use Rattle.tw_journal.proofs.Offsets.{still_open}
 use Rattle.tw_replica.specs.Replica.{magic}
+use Rattle.tw_replica.proofs.Soundness.{body_sound}
 use Rattle.tw_replica.proofs.Replaying.{step_taken, step_not_taken, reads_only, read_refused}
 use Rattle.tw_replica.proofs.open.replay.take_record.Goals as goal
 
@@ -17,6 +18,9 @@ returns-in-Err-clause-refused g c = read_refused g.D.Disk.model c.args.disk.now 
 pub returns-then-branch-clause-step : goal.returns-then-branch-clause-step
 returns-then-branch-clause-step g c = λ bodies on.
     ap (stepped (state_of c.args.indexed.now.core)) (sym (c.in-Ok.ensures.body magic bodies on)) ∙ step_taken _ _ _ c.if-branch.true c.in_ok-step.ensures.step
+
+pub returns-then-branch-clause-sound : goal.returns-then-branch-clause-sound
+returns-then-branch-clause-sound g c = body_sound _ _ _ (step_taken _ _ _ c.if-branch.true c.in_ok-step.ensures.step)
 
 pub returns-in-Ok-offset-clause-refused : goal.returns-in-Ok-offset-clause-refused
 returns-in-Ok-offset-clause-refused g c = λ tells bodies on. (

@@ -1,7 +1,11 @@
 use Rattle.std.proofs.Common.{ap}
-use Rattle.tw_replica.specs.State.{State}
+use Rattle.tw_replica.specs.State.{State, start}
 use Rattle.tw_replica.proofs.StepsTaken.{empty_assigned}
+use Rattle.tw_replica.proofs.Soundness.{start_sound, stays_sound}
 use Rattle.tw_replica.proofs.open.indexed.Indexed.new.Goals as goal
+
+pub returns-clause-sound : goal.returns-clause-sound
+returns-clause-sound c = stays_sound start _ c.new.ensures start_sound
 
 pub returns-clause-ready : goal.returns-clause-ready
 returns-clause-ready c = record {

@@ -2,7 +2,7 @@ use Rattle.std.proofs.Common.{◌∙◌, List, ap}
 use Rattle.tw_model.specs.Changes.{group_of}
 use Rattle.tw_replica.specs.Body.Step.{Commit}
 use Rattle.tw_replica.specs.Prepared.{step_bodies}
-use Rattle.tw_replica.proofs.PreparedEdits.{edited_leads, edited_assigned, edited_is}
+use Rattle.tw_replica.proofs.PreparedEdits.{edited_leads, edited_sound, edited_is}
 use Rattle.tw_model.specs.declared.Op.{Op}
 use Rattle.tw_replica.specs.Body.{is_group}
 use Rattle.tw_replica.proofs.CommittedChanges.{changes_are_group}
@@ -17,7 +17,7 @@ pub invariant_of-result : goal.invariant_of-result
 invariant_of-result c =
     let e = c.in_ok-body.ensures in
     let r = c.requires in
-    record { assigned = edited_assigned r.0 r.1 r.2 c.args.self r.3 c.args.renumber c.commit_core.new.core e.base e.tasks e.idle e.pending e.numbers }
+    record { sound = edited_sound r.0 r.1 r.2 c.args.self r.3 c.args.renumber c.commit_core.new.core e.base e.tasks e.idle e.pending e.numbers }
 
 pub returns : goal.returns
 returns c = λ old made at is.

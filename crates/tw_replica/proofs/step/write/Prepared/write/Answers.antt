@@ -1,11 +1,18 @@
-use Rattle.std.proofs.Common.{◌++◌, ◌∷◌, ◌∙◌, [], ap, sym, subst, List, ℕ, length}
+use Rattle.std.proofs.Common.{◌++◌, ◌∷◌, ◌∙◌, [], ap, sym, subst, List, ℕ, length, inl}
 use Rattle.tw_journal.specs.Record.{rows}
 use Rattle.tw_journal.specs.Journal.{IsOpenOn}
 use Rattle.tw_world.specs.Disk.{LeavesOnly}
+use Rattle.tw_world.proofs.Moments.{started}
+use Rattle.tw_journal.proofs.Offsets.{left_records}
 use Rattle.tw_replica.specs.Replica.{magic}
-use Rattle.tw_replica.specs.Prepared.{RecordsOrAll, bodies_in}
+use Rattle.tw_replica.specs.Prepared.{RecordsOrAll, bodies_in, prepared_bodies}
 use Rattle.tw_replica.proofs.RecordSizes.{one_size, grows_by}
 use Rattle.tw_replica.proofs.step.write.Prepared.write.Goals as goal
+
+pub returns-in_default-clause-any_moment : goal.returns-in_default-clause-any_moment
+returns-in_default-clause-any_moment g c = λ bodies on.
+    started g.D.Disk.model g.met.D.Disk.only_now c.args.disk.now (RecordsOrAll bodies (prepared_bodies c.args.self))
+    (λ f left. inl (left_records g.D.Disk.model magic c.args.self.journal c.args.disk.now bodies on f left))
 
 pub returns-in-Ok-clause-journal : goal.returns-in-Ok-clause-journal
 returns-in-Ok-clause-journal g c = λ bodies on.

@@ -1,0 +1,209 @@
+// Records of syncs that leave the tasks at hand in place, and of those that were cut short.
+ghost use Rattle.std.specs.Prelude.{◌≡◌, true, IfOk};
+ghost use Rattle.tw_model.specs.Ops.{TasksValue};
+ghost use Rattle.tw_replica.specs.State.{may_pend};
+
+use super::{ADDED, Counts, counts, disk_of, milk, opened, refusal, undone, version};
+use std::alloc::Global;
+use std::test::Fail;
+use tw_model::{Op, SyncOp};
+use tw_replica::{OpenError, Replica, ReplicaError, UndoError};
+use tw_world::Memory;
+use uuid::Uuid;
+
+// The record of a sync to version 9 that carried nothing: its body has 21 bytes.
+const NOTHING: [u8; 26] = [
+    1, 0, 0, 0, 21, 4, 9, 9, 9, 9, 9, 9, 9, 9, 9, 9, 9, 9, 9, 9, 9, 9, 0, 0, 0, 0,
+];
+
+// The record of one that carried another task, and that the milk is gone.
+const CARRIED: [u8; 60] = [
+    1, 0, 0, 0, 55, 4, 9, 9, 9, 9, 9, 9, 9, 9, 9, 9, 9, 9, 9, 9, 9, 9, 0, 0, 0, 2, 1, 8, 8, 8, 8,
+    8, 8, 8, 8, 8, 8, 8, 8, 8, 8, 8, 8, 2, 7, 7, 7, 7, 7, 7, 7, 7, 7, 7, 7, 7, 7, 7, 7, 7,
+];
+
+fn other(alloc: Global) -> Result<Vec<SyncOp>, Memory> {
+    let mut ops = Vec::new(alloc);
+    ops.push(SyncOp::Create {
+        uuid: Uuid::from_bytes([8; 16]),
+    })?;
+    Ok(ops)
+}
+
+fn carried(alloc: Global) -> Result<Vec<SyncOp>, Memory> {
+    let mut ops = other(alloc)?;
+    ops.push(SyncOp::Delete { uuid: milk() })?;
+    Ok(ops)
+}
+
+// Whether these operations are carried over the added task by this record, and it is opened to what they leave.
+fn is_carried(
+    alloc: Global,
+    ops: Vec<SyncOp>,
+    record: &[u8],
+    left: Counts,
+) -> Result<bool, ReplicaError> {
+    let mut disk = disk_of(alloc, &ADDED)?;
+    let mut replica = Replica::open(alloc, &mut disk)?;
+    replica.finish_carried(alloc, &mut disk, version(), ops)?;
+    let (held, base, _) = opened(alloc, disk.bytes())?;
+    Ok(
+        counts(&replica) == left
+            && replica.base() == version()
+            && disk.bytes().get(94..) == Some(record)
+            && held == left
+            && base == version(),
+    )
+}
+
+#[test]
+fn a_sync_in_place_writes_what_it_carried(rt: HostRuntime) -> Result<(), Fail> {
+    let alloc = rt.alloc();
+    assert!(rt; is_carried(alloc, Vec::new(alloc), &NOTHING, (1, 0, Some(1)))?);
+    assert!(rt; is_carried(alloc, carried(alloc)?, &CARRIED, (1, 0, None))?);
+    Ok(())
+}
+
+// Whether none of these is opened over an empty replica, since it is damaged.
+fn are_damaged(alloc: Global, rows: &[&[u8]]) -> Result<bool, Memory> {
+    for records in rows {
+        if refusal(alloc, records)? != Some(OpenError::Damaged { offset: 13 }) {
+            return Ok(false);
+        }
+    }
+    Ok(true)
+}
+
+// What was carried that does not fit, and fewer operations than are counted.
+#[test]
+fn a_record_of_a_sync_that_does_not_fit_is_damaged(rt: HostRuntime) -> Result<(), Fail> {
+    let mut longer = NOTHING;
+    longer[25] = 1;
+    let table: [&[u8]; 2] = [&CARRIED, &longer];
+    assert!(rt; are_damaged(rt.alloc(), &table)?);
+    Ok(())
+}
+
+// What is carried over the added task: another one, and a status.
+const OTHER: [u8; 21] = [
+    0, 0, 0, 1, 1, 8, 8, 8, 8, 8, 8, 8, 8, 8, 8, 8, 8, 8, 8, 8, 8,
+];
+
+const STATUS: [u8; 55] = [
+    0, 0, 0, 1, 3, 7, 7, 7, 7, 7, 7, 7, 7, 7, 7, 7, 7, 7, 7, 7, 7, 0, 0, 0, 6, 115, 116, 97, 116,
+    117, 115, 1, 0, 0, 0, 7, 119, 97, 105, 116, 105, 110, 103, 0, 0, 0, 0, 101, 83, 241, 0, 0, 0,
+    0, 0,
+];
+
+// The record of a sync that was cut short at version 9, whose body has so many bytes, with what it carried and what is pending then.
+fn partial(alloc: Global, size: u8, ops: &[u8], pending: &[u8]) -> Result<Vec<u8>, Memory> {
+    let mut record = Vec::new(alloc);
+    record.extend_from_slice(&[1, 0, 0, 0, size, 6])?;
+    record.extend_from_slice(&[9; 16])?;
+    record.extend_from_slice(ops)?;
+    record.extend_from_slice(pending)?;
+    Ok(record)
+}
+
+// The added task's file with such a record.
+fn cut_short(alloc: Global, size: u8, ops: &[u8], pending: &[u8]) -> Result<Vec<u8>, Memory> {
+    let mut bytes = ADDED.to_vec(alloc)?;
+    bytes.extend_from_slice(partial(alloc, size, ops, pending)?.as_slice())?;
+    Ok(bytes)
+}
+
+// Whether the added task is still pending behind another one, and is taken back.
+fn is_still_pending(alloc: Global) -> Result<bool, ReplicaError> {
+    let bytes = cut_short(alloc, 112, &OTHER, &ADDED[20..])?;
+    let (held, base, _) = opened(alloc, bytes.as_slice())?;
+    let nothing = Some(UndoError::NothingToUndo);
+    Ok(
+        held == (2, 3, Some(1))
+            && base == version()
+            && undone(alloc, bytes.as_slice())? == (2, (1, 0, None), nothing),
+    )
+}
+
+// An undo point alone may be pending on all tasks.
+fn point(alloc: Global) -> Result<Vec<Op>, Memory>
+    ensures { IfOk result (λ ops. (tasks : TasksValue) → may_pend tasks ops.items ≡ true) }
+{
+    let mut ops = Vec::new(alloc);
+    ops.push(Op::UndoPoint)?;
+    Ok(ops)
+}
+
+// Whether a sync that is cut short writes its record, which is opened to what it leaves.
+fn is_cut_short(alloc: Global) -> Result<bool, ReplicaError> {
+    let ops = other(alloc)?;
+    let pending = point(alloc)?;
+    let mut disk = disk_of(alloc, &ADDED)?;
+    let mut replica = Replica::open(alloc, &mut disk)?;
+    replica.finish_partial(alloc, &mut disk, version(), ops, pending)?;
+    let wanted = cut_short(alloc, 43, &OTHER, &[0, 0, 0, 1, 4])?;
+    let (held, base, _) = opened(alloc, disk.bytes())?;
+    Ok(
+        counts(&replica) == (2, 1, Some(1))
+            && disk.bytes() == wanted.as_slice()
+            && held == (2, 1, Some(1))
+            && base == version(),
+    )
+}
+
+#[test]
+fn a_sync_that_is_cut_short_keeps_what_is_pending(rt: HostRuntime) -> Result<(), Fail> {
+    assert!(rt; is_still_pending(rt.alloc())?);
+    assert!(rt; is_cut_short(rt.alloc())?);
+    Ok(())
+}
+
+// Operations with their number.
+type Row = (u8, &'static [u8], &'static [u8]);
+
+// Whether a record with each of these is damaged behind the added task.
+fn are_refused(alloc: Global, rows: &[Row]) -> Result<bool, Memory> {
+    for row in rows {
+        let (size, ops, pending) = *row;
+        let bytes = cut_short(alloc, size, ops, pending)?;
+        let mut disk = disk_of(alloc, bytes.as_slice())?;
+        if Replica::open(alloc, &mut disk).err() != Some(OpenError::Damaged { offset: 94 }) {
+            return Ok(false);
+        }
+    }
+    Ok(true)
+}
+
+// Each row is what was carried, and what is pending: old values of before what was carried, no undo point first, a task that is
+// not there, a task carried that is there, a byte that is left over.
+#[test]
+fn pending_operations_that_do_not_lead_to_the_tasks_are_damaged(
+    rt: HostRuntime,
+) -> Result<(), Fail> {
+    let table: [Row; 5] = [
+        (146, &STATUS, &ADDED[20..]),
+        (
+            59,
+            &OTHER,
+            &[
+                0, 0, 0, 1, 1, 5, 5, 5, 5, 5, 5, 5, 5, 5, 5, 5, 5, 5, 5, 5, 5,
+            ],
+        ),
+        (
+            60,
+            &OTHER,
+            &[
+                0, 0, 0, 2, 4, 1, 5, 5, 5, 5, 5, 5, 5, 5, 5, 5, 5, 5, 5, 5, 5, 5,
+            ],
+        ),
+        (
+            112,
+            &[
+                0, 0, 0, 1, 1, 7, 7, 7, 7, 7, 7, 7, 7, 7, 7, 7, 7, 7, 7, 7, 7,
+            ],
+            &ADDED[20..],
+        ),
+        (43, &OTHER, &[0, 0, 0, 0, 4]),
+    ];
+    assert!(rt; are_refused(rt.alloc(), &table)?);
+    Ok(())
+}

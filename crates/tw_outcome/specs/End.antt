@@ -1,0 +1,95 @@
+-- Where a sync ends, whatever it answers.
+use Rattle.std.specs.Prelude.{◌≡◌, ◌⊎◌, ℕ, ◌+◌, cond, List, [], ◌∷◌, ◌++◌, length}
+use Rattle.tw_model.specs.Ops.{TasksValue, apply_all}
+use Rattle.tw_model.specs.LocalOps.{plain}
+use Rattle.tw_model.specs.declared.Op.{Op}
+use Rattle.tw_model.specs.declared.SyncOp.{SyncOp}
+use Rattle.tw_protocol.specs.Chain.{Version, IsBetween, HoldsAll, Grows, same_id}
+use Rattle.tw_numbers.specs.Numbering.{assigned}
+use Rattle.tw_replica.specs.State.{State}
+use Rattle.tw_groups.specs.Groups.{joined, pending_on}
+use Rattle.tw_path.specs.Path.{Reached, Leg, come, IsPath, versions_of, added_of, pulled_of, sent_of}
+use Rattle.tw_path.specs.Path.Leg.{Push}
+use Rattle.tw_path.specs.Sent.{PushesBehind}
+use Rattle.tw_path.specs.Walk.{before_pending}
+
+-- what a link shows of a server's chain: its versions, and those of them that this replica's exchanges added
+pub record ServerChain : Type 0 where
+  pub chain : List Version
+  pub own : List Version
+
+-- where the path of a replica starts: at its base, where all that is pending is left
+abbrev pub starts_at : State → Reached
+starts_at state = before_pending state.base state.tasks state.pending
+
+-- the path that a sync has gone: through the versions after the base, of which it added those that are pushed and no other. If it has passed
+-- none, the chain need not know the base
+pub record Went (old : State) (before after : ServerChain) (legs : List Leg) : Type 0 where
+  pub path : IsPath (starts_at old) legs
+  pub between : (legs ≡ []) ⊎ IsBetween after.chain old.base (come (starts_at old) legs).at (versions_of legs)
+  pub mine : after.own ≡ before.own ++ added_of legs
+  pub behind : PushesBehind before.chain after.chain legs
+
+-- the state at a version, with these operations pending after it, and the numbers assigned
+abbrev pub moved : List ℕ → List Op → TasksValue → State → State
+moved base pending tasks state = record { base = base; pending = pending; tasks = tasks; numbers = assigned state.numbers tasks }
+
+-- the replica at the end of a path, with what is left pending
+abbrev pub stands_at : State → Reached → State
+stands_at old r = cond (same_id r.at old.base) old (moved r.at (pending_on r.tasks r.left) (apply_all r.tasks (joined r.left)) old)
+
+-- the same if nothing is left, also no undo point
+abbrev pub ends_at : State → Reached → State
+ends_at old r = cond (same_id r.at old.base) old (moved r.at [] r.tasks old)
+
+-- what a sync reports of itself
+pub record Counts : Type 0 where
+  pub pulled : ℕ
+  pub dropped : ℕ
+  pub pushed : ℕ
+  pub base : List ℕ
+
+-- it is done: the path ends after all that the chain held, and nothing is left
+pub record IsDone (old new : State) (before after : ServerChain) (report : Counts) : Type 0 where
+  pub legs : List Leg
+  pub went : Went old before after legs
+  pub nothing : joined (come (starts_at old) legs).left ≡ []
+  pub last : HoldsAll before.chain after.chain (come (starts_at old) legs).at
+  pub state : new ≡ ends_at old (come (starts_at old) legs)
+  pub pulled : report.pulled ≡ pulled_of legs
+  pub pushed : report.pushed ≡ sent_of legs
+  pub dropped : report.dropped + report.pushed ≡ length (plain old.pending)
+  pub base : report.base ≡ (come (starts_at old) legs).at
+
+-- no version, or one that was sent and whose answer did not come
+abbrev pub IsUntold : List Leg → Type 0
+IsUntold untold = (untold ≡ []) ⊎ ((v : Version) × (ops : List SyncOp) × (untold ≡ Push v ops ∷ []))
+
+-- it is stopped by the link or the server: the replica is where it was told that the path leads
+pub record IsStopped (old new : State) (before after : ServerChain) : Type 0 where
+  pub legs : List Leg
+  pub untold : List Leg
+  pub few : IsUntold untold
+  pub went : Went old before after (legs ++ untold)
+  pub state : new ≡ stands_at old (come (starts_at old) legs)
+
+-- its record is not written: the replica is as it was
+pub record IsKept (old new : State) (before after : ServerChain) : Type 0 where
+  pub legs : List Leg
+  pub went : Went old before after legs
+  pub state : new ≡ old
+
+-- what a sync answers, as far as its end depends on that: done, or a cause of the link or the server, or that the record was not written
+pub data Answer : Type 0 where
+  Done : Counts → Answer
+  Stopped : Answer
+  Unwritten : Answer
+
+abbrev pub EndsSo : Answer → (old new : State) (before after : ServerChain) → Type 0
+EndsSo (Done report) old new before after = IsDone old new before after report
+EndsSo Stopped old new before after = IsStopped old new before after
+EndsSo Unwritten old new before after = IsKept old new before after
+
+-- the end of a sync
+abbrev pub End : Answer → (old new : State) (before after : ServerChain) → Type 0
+End answer old new before after = Grows before.chain after.chain × EndsSo answer old new before after

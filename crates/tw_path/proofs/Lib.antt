@@ -1,0 +1,16 @@
+pub mod Turns
+pub mod Reading
+pub mod Folds
+pub mod Paths
+pub mod Lengths
+pub mod Counting
+pub mod Versions
+pub mod Sending
+pub mod Presences
+pub mod Walking
+pub mod Renewing
+pub mod Starting
+pub mod Pushing
+pub mod Batching
+pub mod Taking
+pub mod Parting

@@ -1,0 +1,10 @@
+pub mod Fold
+pub mod Path
+pub mod PathLaws
+pub mod Lengths
+pub mod Sent
+pub mod Over
+pub mod Presence
+pub mod Walk
+pub mod Sums
+pub mod Batch

@@ -1,0 +1,62 @@
+// The end of a sync that was cut short.
+ghost use Rattle.std.specs.Prelude.{◌≡◌, length, None, Some, true, false, Err as AnErr, IfOk, OnOk, IfErr};
+ghost use Rattle.tw_world.specs.Disk.{FaultsRise};
+ghost use Rattle.tw_journal.specs.Record.{rows};
+ghost use Rattle.tw_model.specs.Ops.{apply_all};
+ghost use Rattle.tw_replica.specs.Body.{body_of, body_size};
+ghost use Rattle.tw_replica.specs.Body.Step.{Partial};
+ghost use Rattle.tw_replica.specs.State.{misfit_synced, may_pend, partly};
+ghost use Rattle.tw_replica.specs.Core.{state_of};
+ghost use Rattle.tw_replica.specs.Prepared.{step_bodies, IsWithinLimit};
+ghost use Rattle.tw_replica.specs.Replica.{IsLengthKept, StandsAfter, LeavesStep, GrowsBy, one_more};
+ghost use Rattle.tw_replica.specs.Replica.{is_replica_closed, CarryingRefused};
+
+use crate::body::partial::partial_body;
+use crate::error::CommitError;
+use crate::keeping::finish_carried::next_of_carried;
+use crate::keeping::record::write_next;
+use crate::pends::pending_of;
+use crate::replica::Replica;
+use std::alloc::Global;
+use tw_journal::AppendError;
+use tw_model::{Op, SyncOp};
+use tw_world::Disk;
+use uuid::Uuid;
+
+impl Replica {
+    /// Takes what a sync brought that was cut short at the version `base`: what of all versions from the old base to it is to follow
+    /// on the tasks at hand, and what is pending then. The caller knows that this may be pending there; an operation that does not fit
+    /// is refused. A refusal leaves the replica as it was; after a fault of the disk it is closed.
+    pub fn finish_partial<D: Disk>(
+        &mut self,
+        alloc: Global,
+        disk: &mut D,
+        base: Uuid,
+        ops: Vec<SyncOp>,
+        pending: Vec<Op>,
+    ) -> Result<(), CommitError>
+        requires length { IsLengthKept D.model self.old disk.old }
+        requires pends { misfit_synced 0 self.old.core.tasks ops.items ≡ None → may_pend (apply_all self.old.core.tasks ops.items) pending.items ≡ true }
+        ensures partly { OnOk result (partly base ops.items pending.items (state_of self.old.core) ≡ Some (state_of self.new.core)) }
+        ensures stands { OnOk result (StandsAfter D.model self.old self.new disk.old disk.new (one_more (body_of (Partial base ops.items pending.items)))) }
+        ensures any_moment { LeavesStep D.model self.old disk.old disk.new (partly base ops.items pending.items (state_of self.old.core)) }
+        ensures growth { GrowsBy D.model self.old disk.old disk.new (length (rows (step_bodies (Partial base ops.items pending.items)))) }
+        ensures within { OnOk result (IsWithinLimit (step_bodies (Partial base ops.items pending.items))) }
+        ensures closed { is_replica_closed self.old ≡ true → result ≡ AnErr (CommitError.Journal AppendError.Closed) }
+        ensures live { OnOk result (is_replica_closed self.new ≡ false) }
+        ensures length { IsLengthKept D.model self.new disk.new }
+        ensures refused { IfErr result (λ e. CarryingRefused D.model self.old self.new disk.old disk.new ops.items (body_size (Partial base ops.items pending.items)) e) }
+        ensures kept { FaultsRise D.model disk.old disk.new }
+    {
+        if self.journal.is_closed() {
+            return Err(CommitError::Journal(AppendError::Closed));
+        }
+        let next = next_of_carried(alloc, &self.core, &ops)?;
+        let body = partial_body(alloc, &base, &ops, &pending)?;
+        let kept = pending_of(alloc, &pending)?;
+        write_next(alloc, &mut self.journal, disk, &mut self.core, next, &body)?;
+        self.core.pending = kept;
+        self.core.base = base;
+        Ok(())
+    }
+}
