@@ -4,7 +4,7 @@ use Rattle.tw_http.specs.Link.{LinkModel, IsExchange, IsAnswered, IsHonest, Tell
 use Rattle.tw_http.specs.declared.link.LinkError.{LinkError}
 use Rattle.tw_http.specs.declared.message.Request.{Request}
 use Rattle.tw_world.specs.declared.ids.IdWords.{IdWords}
-use Rattle.tw_server.specs.Log.{chain_of}
+use Rattle.tw_records.specs.Log.{chain_of}
 use Rattle.tw_server.specs.Memory.Holding.{Holding, log_of, own_of}
 use Rattle.tw_server.specs.Memory.Link.{IsAlone, IsNewLink}
 use Rattle.tw_server.specs.declared.memory.link.MemoryLink.{MemoryLink}

@@ -19,12 +19,14 @@ use Rattle.tw_protocol.proofs.Chains.{same_id_exact}
 use Rattle.tw_http.specs.declared.message.Request.TheVariants.{Add, Child}
 use Rattle.tw_http.specs.declared.message.Response.TheVariants as responses
 use Rattle.tw_http.specs.Serving.{response_of}
-use Rattle.tw_server.specs.Log.{Accepted, HasUuids, chain_of, body_of, bodies_of, entry_of, accepted_for, added, response_at}
+use Rattle.tw_records.specs.Log.{Accepted, HasUuids, chain_of, accepted_for}
+use Rattle.tw_records.specs.Bodies.{body_of, entry_of}
+use Rattle.tw_server.specs.Log.{bodies_of, added, response_at}
 use Rattle.tw_server.specs.Server.{magic, drawn_id, IsServerOn, IsAnswer, LogOrMore}
 use Rattle.tw_server.specs.Versions.{has_that_id}
 use Rattle.tw_server.specs.declared.server.Server.{Server}
 use Rattle.tw_server.proofs.Logs.{sound-push, list_any-id}
-use Rattle.tw_server.specs.declared.entry.Entry.{Entry}
+use Rattle.tw_records.specs.declared.entry.Entry.{Entry}
 use Rattle.std.specs.List.{list_any}
 
 -- ---- a drawn id

@@ -7,7 +7,8 @@ use Rattle.tw_journal.proofs.Offsets.{still_open, left_records}
 use Rattle.tw_http.specs.declared.message.Request.{Request}
 use Rattle.tw_http.specs.declared.message.Request.TheVariants.{Add, Child}
 use Rattle.tw_http.specs.Messages.{max_body, request_body}
-use Rattle.tw_server.specs.Log.{Accepted, bodies_of}
+use Rattle.tw_records.specs.Log.{Accepted}
+use Rattle.tw_server.specs.Log.{bodies_of}
 use Rattle.tw_server.specs.Server.{magic, most_added, IsServerOn, LogOrMore}
 use Rattle.tw_server.specs.declared.server.Server.{Server}
 

@@ -11,7 +11,8 @@ use Rattle.tw_protocol.proofs.Telling.{repeat_conflicts}
 use Rattle.tw_http.specs.declared.message.Request.TheVariants.{Add}
 use Rattle.tw_http.specs.declared.message.Response.TheVariants as responses
 use Rattle.tw_http.specs.Serving.{client_of, ask_of, response_of}
-use Rattle.tw_server.specs.Log.{chain_of, accepted_for, added}
+use Rattle.tw_records.specs.Log.{chain_of, accepted_for}
+use Rattle.tw_server.specs.Log.{added}
 use Rattle.tw_server.specs.Laws.{log_after, OtherChainsStay, OwnChainIsAnswered, AcceptedStandsLast, ParentIsAcceptedOnce}
 use Rattle.tw_server.proofs.Logs.{chain_of-append}
 

@@ -6,7 +6,8 @@ use Rattle.tw_http.specs.declared.message.Request.{Request}
 use Rattle.tw_http.specs.declared.message.HttpError.{HttpError}
 use Rattle.tw_http.specs.declared.link.LinkError.{LinkError}
 use Rattle.tw_http.specs.Requests.{IsRequestAnswer}
-use Rattle.tw_server.specs.Log.{Accepted, chain_of, added}
+use Rattle.tw_records.specs.Log.{Accepted, chain_of}
+use Rattle.tw_server.specs.Log.{added}
 use Rattle.tw_server.specs.Server.{drawn_id}
 use Rattle.tw_server.specs.declared.memory.link.MemoryLink.{MemoryLink}
 use Rattle.tw_server.specs.Memory.Holding.{Holding, log_of, stored_as, own_of, after_request, after_others, AfterSome, Acts, MayAct}

@@ -16,7 +16,8 @@ use Rattle.tw_http.specs.declared.message.Request.TheVariants.{Add}
 use Rattle.tw_http.specs.Link.{OthersAdd, Serves, IsAnswered}
 use Rattle.tw_http.specs.Messages.{response_text}
 use Rattle.tw_http.specs.Serving.{client_of, ask_of}
-use Rattle.tw_server.specs.Log.{Accepted, chain_of, accepted_for, added, response_at}
+use Rattle.tw_records.specs.Log.{Accepted, chain_of, accepted_for}
+use Rattle.tw_server.specs.Log.{added, response_at}
 use Rattle.tw_server.specs.Server.{drawn_id}
 use Rattle.tw_server.specs.declared.memory.server.MemoryVersion.{MemoryVersion}
 use Rattle.tw_server.specs.declared.memory.link.MemoryLink.{MemoryLink}

@@ -15,11 +15,13 @@ use Rattle.tw_http.specs.declared.message.Request.{Request}
 use Rattle.tw_http.specs.declared.message.Request.TheVariants.{Add, Child}
 use Rattle.tw_http.specs.Messages.{max_body, request_body}
 use Rattle.tw_http.specs.Serving.{response_of}
-use Rattle.tw_server.specs.Log.{Accepted, accepted_for, added, bodies_of, body_of, response_at, chain_of}
+use Rattle.tw_records.specs.Log.{Accepted, accepted_for, chain_of}
+use Rattle.tw_records.specs.Bodies.{body_of}
+use Rattle.tw_server.specs.Log.{added, bodies_of, response_at}
 use Rattle.tw_server.specs.Server.{magic, IsServerOn, IsOpenedOn}
 use Rattle.tw_server.specs.declared.server.Server.{Server}
 use Rattle.tw_server.specs.declared.memory.server.MemoryVersion.{MemoryVersion}
-use Rattle.tw_server.specs.Memory.Holding.{accepted_of, log_of, stored_as, stored_by}
+use Rattle.tw_server.specs.Memory.Holding.{Holding, accepted_of, log_of, stored_as, stored_by}
 
 -- ---- what is stored is what was added
 
@@ -82,3 +84,9 @@ pub opened_empty : (before after : MemoryDisk) (server : Server) → memory_mode
 opened_empty before after server none o =
     let none_there = one_records magic (memory_model.seen before) (bodies_of o.log) [] o.records (inr (refl, subst IsTail (sym none) tt)) in
     subst (λ log. IsServerOn memory_model server after log) (nil_log o.log none_there) o.now
+
+abbrev held : List MemoryVersion → (start step : ℕ) → Holding
+held versions start step = record { versions = versions; start = start; step = step }
+
+pub held_is : (vs ws : List MemoryVersion) (a b c d : ℕ) → vs ≡ ws → a ≡ b → c ≡ d → held vs a c ≡ held ws b d
+held_is vs ws a b c d versions start step = ap (λ (l : List MemoryVersion). held l a c) versions ∙ ap (λ (n : ℕ). held ws n c) start ∙ ap (λ (n : ℕ). held ws b n) step

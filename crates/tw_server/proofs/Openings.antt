@@ -1,9 +1,8 @@
 -- What an opening reads from body to body.
-use Rattle.std.proofs.Common.{◌≡◌, ◌∙◌, inl, inr, ℕ, ◌+◌, ◌<◌, ◌≤◌, Bool, true, false, not, ◌&&◌, ◌==◌, nat_le, if◌then◌else◌, Some, None, List, [], ◌∷◌, ◌++◌, length, get_or, take, drop, map, refl, sym, ap, subst, arith, All}
-use Rattle.std.proofs.lemmas.Bool.{false≢true, and_parts}
-use Rattle.std.proofs.lemmas.Bool.Decides.{nat_tests}
-use Rattle.std.proofs.lemmas.List.{map-append, take_all, take_more, drop-drop, take-append-drop, length-take, length-drop}
-use Rattle.std.proofs.lemmas.List.Elements.{All-take, All-drop, All-nil}
+use Rattle.std.proofs.Common.{◌≡◌, ◌∙◌, inl, inr, ℕ, ◌+◌, ◌<◌, ◌≤◌, Bool, true, false, not, ◌&&◌, if◌then◌else◌, Some, None, List, [], ◌∷◌, ◌++◌, length, get_or, take, map, refl, sym, ap, subst, arith}
+use Rattle.std.proofs.lemmas.Bool.{and_parts}
+use Rattle.std.proofs.lemmas.List.{map-append, take_all, take_more}
+use Rattle.std.proofs.lemmas.List.Elements.{All-nil}
 use Rattle.uuid.specs.Parts.{zero_bytes}
 use Rattle.tw_world.specs.Disk.{DiskModel, Tells, LeavesOnly, Untouched}
 use Rattle.tw_world.proofs.Moments.{CountsNow, joined, weaker}
@@ -20,15 +19,18 @@ use Rattle.tw_journal.specs.declared.error.ReadError.{ReadError}
 use Rattle.tw_journal.specs.declared.error.ReadError.TheVariants as reads
 use Rattle.tw_protocol.specs.Chain.{Version, IsUuid, same_id, latest, has_id}
 use Rattle.tw_protocol.proofs.Chains.{same_id_exact}
-use Rattle.tw_server.specs.declared.entry.Entry.{Entry}
+use Rattle.tw_records.specs.declared.entry.Entry.{Entry}
 use Rattle.tw_server.specs.declared.server.Server.{Server}
 use Rattle.tw_server.specs.Faults.{open_in_opening, read_in_opening}
-use Rattle.tw_server.specs.Log.{Accepted, HasUuids, IsSound, chain_of, body_of, bodies_of, entry_of, accepted_in, entry_in, is_body, is_next_entry, follows}
+use Rattle.tw_records.specs.Log.{Accepted, HasUuids, IsSound, chain_of}
+use Rattle.tw_records.specs.Bodies.{body_of, entry_of, accepted_in, entry_in, is_body, is_next_entry, follows}
+use Rattle.tw_server.specs.Log.{bodies_of}
 use Rattle.std.specs.List.{list_any}
 use Rattle.tw_server.specs.Versions.{has_that_id}
 use Rattle.tw_server.specs.Server.{magic, IsReadTo, IsBadBody, IsOpenedOn, TakeRefused, ServerOpenRefused}
 use Rattle.tw_server.proofs.Logs.{sound-push, list_any-id}
 use Rattle.tw_world.specs.Bytes.{IsBytes}
+use Rattle.tw_records.proofs.Spelled.{body_back, long_body, body_uuids}
 
 -- a journal that is not opened refuses the opening
 pub not_opened : {D : Type 0} (m : DiskModel D) (before after : D) (e : OpenError) → OpenRefused m before after magic e → ServerOpenRefused m before after (open_in_opening e)
@@ -76,47 +78,13 @@ some_either false u x y e = let no : ⊥ = cc in absurd no
 pub next_is : (log : List Accepted) (body : List ℕ) (e : Entry) (v : Bool) → entry_in body ≡ Some e → v ≡ is_next_entry log e → (if v then Some e else None) ≡ (if follows log body then Some (entry_of (accepted_in body)) else None)
 next_is log body e v some next = ap (λ b. if b then Some e else None) next ∙ some_either (is_body body) (is_next_entry log) (entry_of (accepted_in body)) e (sym some)
 
--- ---- a body's fields
-
-rejoin : (k n : ℕ) (xs : List ℕ) → take k (drop n xs) ++ drop (n + k) xs ≡ drop n xs
-rejoin k n xs = ap (λ ys. take k (drop n xs) ++ ys) (sym (drop-drop k n xs)) ∙ take-append-drop k (drop n xs)
-
-same_number : (k : ℕ) → (k == 1) ≡ true → k ≡ 1
-same_number k e = grind (arith, nat_tests)
-
-pub body_back : (body : List ℕ) → is_body body ≡ true → body_of (accepted_in body) ≡ body
-body_back [] e = absurd (false≢true e)
-body_back (kind ∷ fields) e =
-    let one : kind ≡ 1 = same_number kind (and_parts (nat_le 48 (length fields)) (kind == 1) e).1 in
-    let rest : take 16 fields ++ (take 16 (drop 16 fields) ++ (take 16 (drop 32 fields) ++ drop 48 fields)) ≡ fields =
-    ap (λ xs. take 16 fields ++ (take 16 (drop 16 fields) ++ xs)) (rejoin 16 32 fields) ∙ ap (λ xs. take 16 fields ++ xs) (rejoin 16 16 fields) ∙ take-append-drop 16 fields in
-    ap (λ xs. 1 ∷ xs) rest ∙ ap (λ k. k ∷ fields) (sym one)
-
-field_uuid : (n : ℕ) (xs : List ℕ) → n + 16 ≤ length xs → IsBytes xs → IsUuid (take 16 (drop n xs))
-field_uuid n xs long small = record {
-  long = let a = length-take 16 (drop n xs) in let b = length-drop n xs in omega (arith, a, b, long);
-  bytes = All-take (λ b. b < 256) 16 (drop n xs) (All-drop (λ b. b < 256) n xs small);
-}
-
-pub long_body : (body : List ℕ) → is_body body ≡ true → 49 ≤ length body
-long_body [] e = absurd (false≢true e)
-long_body (kind ∷ fields) e =
-    let t = (and_parts (nat_le 48 (length fields)) (kind == 1) e).0 in
-    let many : 48 ≤ length fields = grind (arith, nat_tests) in
-    omega (arith, many)
-
-pub body_uuids : (body : List ℕ) → 49 ≤ length body → IsBytes body → HasUuids (accepted_in body)
-body_uuids body long small = record {
-  client = (field_uuid 1 body (omega (arith, long)) small).long;
-  id = field_uuid 17 body (omega (arith, long)) small;
-  parent = field_uuid 33 body (omega (arith, long)) small;
-}
+-- ---- the next body
 
 not_true : (b : Bool) → not b ≡ true → b ≡ false
 not_true true e = let no : ⊥ = cc in absurd no
 not_true false e = refl
 
--- the next body is read
+-- it is read
 pub read_on : (server next : Server) (bodies : List (List ℕ)) (n : ℕ) (body : List ℕ) (read : IsReadTo server bodies n) → n < length bodies → body ≡ get_or bodies n [] → IsBytes body → follows read.log body ≡ true
     → next.versions.entries.items ≡ server.versions.entries.items ++ entry_of (accepted_in body) ∷ [] → IsReadTo next bodies (n + 1)
 read_on server next bodies n body read inside is small ok entries =

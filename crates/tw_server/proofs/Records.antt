@@ -12,9 +12,11 @@ use Rattle.tw_protocol.proofs.Chains.{same_id_exact}
 use Rattle.tw_http.specs.declared.message.Response.TheVariants as answer
 use Rattle.tw_http.specs.declared.message.Request.TheVariants.{Child}
 use Rattle.tw_http.specs.Serving.{response_of}
-use Rattle.tw_server.specs.declared.entry.Entry.{Entry}
+use Rattle.tw_records.specs.declared.entry.Entry.{Entry}
 use Rattle.tw_server.specs.declared.server.Server.{Server}
-use Rattle.tw_server.specs.Log.{Accepted, chain_of, HasUuids, body_of, bodies_of, entry_of, IsSegmentOf, IsSound, response_at}
+use Rattle.tw_records.specs.Log.{Accepted, chain_of, HasUuids, IsSound}
+use Rattle.tw_records.specs.Bodies.{body_of, entry_of}
+use Rattle.tw_server.specs.Log.{bodies_of, IsSegmentOf, response_at}
 use Rattle.tw_server.specs.Server.{IsServerOn}
 use Rattle.tw_server.specs.Versions.{is_child}
 use Rattle.tw_server.proofs.Logs.{body_long, segment_behind, child_at, child_none, position_none}

@@ -1,5 +1,5 @@
 -- Why a request is not answered if the journal refuses.
-use Rattle.std.proofs.Common.{◌≡◌, ◌∙◌, ◌⊎◌, inl, inr, ℕ, ◌<◌, Bool, ◌&&◌, ◌==◌, nat_le, List, [], ◌∷◌, length, drop, ap, true, false, Result, Ok, Err, refl, sym, subst, arith}
+use Rattle.std.proofs.Common.{◌≡◌, ◌∙◌, ◌⊎◌, inl, inr, ℕ, ◌<◌, Bool, ◌&&◌, nat_le, List, [], length, drop, ap, true, false, Result, Ok, Err, refl, sym, subst, arith}
 use Rattle.std.specs.Result.{IsErrAnd, IfErr, IfOk}
 use Rattle.std.proofs.lemmas.Bool.{true≢false}
 use Rattle.tw_world.specs.Disk.{DiskModel, Untouched}
@@ -17,17 +17,20 @@ use Rattle.tw_journal.specs.declared.error.ReadError.{ReadError}
 use Rattle.tw_journal.specs.declared.error.ReadError.TheVariants as reads
 use Rattle.tw_server.specs.declared.server.Server.{Server}
 use Rattle.tw_server.specs.Faults.{read_in_answer, append_in_answer}
-use Rattle.tw_server.specs.Log.{bodies_of, is_body}
+use Rattle.tw_records.specs.Bodies.{is_kind, is_body}
+use Rattle.tw_server.specs.Log.{bodies_of}
 use Rattle.tw_server.specs.Server.{magic, AnswerRefused, IsNoVersionAt, sized_body, is_closed}
 
 -- ---- damage
 
 short_is_none : (body : List ℕ) → length body < 49 → is_body body ≡ false
-short_is_none [] few = refl
-short_is_none (kind ∷ fields) few =
-    let short : length fields < 48 = omega (arith, few) in
-    let no : nat_le 48 (length fields) ≡ false = grind (arith, nat_tests) in
-    ap (λ (t : Bool). t && kind == 1) no
+short_is_none body few =
+    let no : nat_le 49 (length body) ≡ false = grind (arith, nat_tests) in
+    ap (λ (t : Bool). is_kind 1 body && t) no ∙ and_false (is_kind 1 body)
+  where
+    and_false : (t : Bool) → t && false ≡ false
+    and_false true = refl
+    and_false false = refl
 
 no_version : (journal : Journal) (file : List ℕ) (n offset : ℕ) → StopsAt journal.start journal.offsets.items n file offset ⊎ HasNoPart journal file n 49 0 offset → IsNoVersionAt file offset
 no_version journal file n offset (inl stops) = inl stops.none
@@ -39,7 +42,7 @@ on_way journal file n offset (inr (size, stands, few)) = (n, stands.way)
 
 -- a read leaves the journal
 same_journal : (journal : Journal) → IsSameBesideRoom journal journal
-same_journal journal = record { selector = refl; start = refl; offsets = refl; end = refl; count = refl; closed = refl }
+same_journal journal = record { selector = refl; version = refl; start = refl; offsets = refl; firsts = refl; end = refl; count = refl; closed = refl }
 
 pub read_refused : {D : Type 0} (m : DiskModel D) (server : Server) (old new : D) (n : ℕ) (e : ReadError) → is_closed server ≡ false → n < length server.versions.entries.items → ReadRefused m old new server.journal e → IsNoRecordAt m old server.journal n e
     → AnswerRefused m server server old new (read_in_answer e)

@@ -15,9 +15,11 @@ use Rattle.tw_http.specs.declared.message.Request.TheVariants.{Add, Child}
 use Rattle.tw_http.specs.declared.message.Response.{Response}
 use Rattle.tw_http.specs.declared.message.Response.TheVariants as responses
 use Rattle.tw_http.specs.Serving.{response_of}
-use Rattle.tw_server.specs.declared.entry.Entry.{Entry}
+use Rattle.tw_records.specs.declared.entry.Entry.{Entry}
 use Rattle.tw_server.specs.declared.server.Server.{Server}
-use Rattle.tw_server.specs.Log.{Accepted, IsSound, IsSegmentOf, chain_of, entry_of, accepted_for, response_at}
+use Rattle.tw_records.specs.Log.{Accepted, IsSound, chain_of, accepted_for}
+use Rattle.tw_records.specs.Bodies.{entry_of}
+use Rattle.tw_server.specs.Log.{IsSegmentOf, response_at}
 use Rattle.tw_server.specs.Server.{Knows, drawn_id}
 use Rattle.tw_server.specs.Versions.{is_child}
 use Rattle.tw_server.specs.Remembered.{IsAnswerByMemory, IsSegmentIn, without_segment}

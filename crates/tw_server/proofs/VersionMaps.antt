@@ -14,7 +14,7 @@ use Rattle.std.proofs.lemmas.List.Folds.{list_any-append, position_or_len_push}
 use Rattle.std.proofs.lemmas.List.Sums.{prefix_len-le-length}
 use Rattle.std.proofs.lemmas.Map.Lookups.{CmpEqualImpliesEq, exact_bytes, exact_pairs}
 use Rattle.tw_protocol.specs.Chain.{same_id}
-use Rattle.tw_server.specs.declared.entry.Entry.{Entry}
+use Rattle.tw_records.specs.declared.entry.Entry.{Entry}
 use Rattle.tw_server.specs.Versions.{latest_in, has_that_id, is_child, uuid_cmp, pair_cmp, first_of}
 
 pub exact_uuids : CmpEqualImpliesEq uuid_cmp

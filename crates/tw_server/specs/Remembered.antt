@@ -9,7 +9,8 @@ use Rattle.tw_http.specs.declared.message.Response.{Response}
 use Rattle.tw_http.specs.declared.message.Response.TheVariants as responses
 use Rattle.tw_http.specs.Serving.{client_of}
 use Rattle.tw_server.specs.declared.server.Server.{Server}
-use Rattle.tw_server.specs.Log.{Accepted, IsSound, added, response_at}
+use Rattle.tw_records.specs.Log.{Accepted, IsSound}
+use Rattle.tw_server.specs.Log.{added, response_at}
 use Rattle.tw_server.specs.Server.{Knows, drawn_id, IsDrawn, is_accepted}
 use Rattle.tw_server.specs.Versions.{is_child}
 

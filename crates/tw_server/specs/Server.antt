@@ -20,7 +20,9 @@ use Rattle.tw_http.specs.declared.message.Response.{Response}
 use Rattle.tw_http.specs.declared.message.Response.TheVariants as responses
 use Rattle.tw_http.specs.declared.message.Asked.{Asked}
 use Rattle.tw_http.specs.Responses.{answers}
-use Rattle.tw_server.specs.Log.{Accepted, IsSound, bodies_of, entry_of, chain_of, added, response_at, is_body, follows}
+use Rattle.tw_records.specs.Log.{Accepted, IsSound, chain_of}
+use Rattle.tw_records.specs.Bodies.{entry_of, is_body, follows}
+use Rattle.tw_server.specs.Log.{bodies_of, added, response_at}
 
 abbrev pub magic : List ℕ
 magic = codes "TWSERV01"

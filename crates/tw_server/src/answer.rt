@@ -5,16 +5,17 @@ ghost use Rattle.tw_http.specs.declared.message.Request.TheVariants as asks;
 ghost use Rattle.tw_http.specs.declared.message.Asked.TheVariants as kinds;
 ghost use Rattle.tw_http.specs.Serving.{kind_of};
 ghost use Rattle.tw_server.specs.declared.error.AnswerError.TheVariants as refused;
-ghost use Rattle.tw_server.specs.Log.{Accepted, added};
+ghost use Rattle.tw_records.specs.Log.{Accepted};
+ghost use Rattle.tw_server.specs.Log.{added};
 ghost use Rattle.tw_server.specs.Server.{Knows, drawn_id, Replies, most_added, IsServerOn, OnLog, IsAnswered, is_closed, server_end};
 ghost use Rattle.tw_server.specs.Remembered.{IsRemembered, IsRememberedChild, IsSegmentIn};
 ghost use Rattle.tw_server.specs.Server.{LeavesLog, GrowsLogBy, RespondsAt, AnswerRefused};
 
-use crate::entry::{BEFORE_SEGMENT, Entry, body_of};
 use crate::error::AnswerError;
 use crate::server::Server;
 use std::alloc::Global;
 use tw_http::{Bytes, Request, Response};
+use tw_records::{BEFORE_SEGMENT, Entry, body_of};
 use tw_world::{Disk, IdWords};
 use uuid::Uuid;
 

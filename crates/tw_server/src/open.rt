@@ -5,16 +5,17 @@ ghost use Rattle.tw_journal.specs.Journal.{journal_count};
 ghost use Rattle.tw_journal.specs.Window.{IsWindowOn};
 ghost use Rattle.tw_journal.specs.Open.{IsImageThen};
 ghost use Rattle.tw_journal.specs.Record.{IsLongerBy};
-ghost use Rattle.tw_server.specs.Log.{Accepted, follows, is_next_entry, entry_of, accepted_in};
+ghost use Rattle.tw_records.specs.Log.{Accepted};
+ghost use Rattle.tw_records.specs.Bodies.{follows, is_next_entry, entry_of, accepted_in};
 ghost use Rattle.tw_server.specs.Server.{magic, Knows, OnRead, IsReadTo, IsOpenedOn, TakeRefused, IsBadBody, ServerOpenRefused, is_closed, server_end};
 ghost use Rattle.tw_world.specs.Bytes.{IsBytes};
 
-use crate::entry::{Entry, read_entry};
 use crate::error::ServerOpenError;
 use crate::server::Server;
 use crate::versions::Versions;
 use std::alloc::Global;
 use tw_journal::{Journal, Window};
+use tw_records::{Entry, read_entry};
 use tw_world::Disk;
 use uuid::Uuid;
 

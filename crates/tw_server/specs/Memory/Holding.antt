@@ -10,7 +10,8 @@ use Rattle.tw_http.specs.declared.message.HttpError.{HttpError}
 use Rattle.tw_http.specs.Messages.{response_text}
 use Rattle.tw_http.specs.Requests.{IsRequestAnswer}
 use Rattle.tw_http.specs.Serving.{refusal_of}
-use Rattle.tw_server.specs.Log.{Accepted, chain_of, added, response_at}
+use Rattle.tw_records.specs.Log.{Accepted, chain_of}
+use Rattle.tw_server.specs.Log.{added, response_at}
 use Rattle.tw_server.specs.Server.{drawn_id, is_accepted}
 use Rattle.tw_server.specs.declared.memory.server.MemoryVersion.{MemoryVersion}
 

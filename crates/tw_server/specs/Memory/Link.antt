@@ -7,7 +7,7 @@ use Rattle.tw_http.specs.declared.link.LinkError.{LinkError}
 use Rattle.tw_http.specs.declared.link.LinkError.TheVariants.{Failed, Memory}
 use Rattle.tw_http.specs.Messages.{max_body}
 use Rattle.tw_http.specs.Serving.{SegmentsFit}
-use Rattle.tw_server.specs.Log.{chain_of}
+use Rattle.tw_records.specs.Log.{chain_of}
 use Rattle.tw_server.specs.Memory.Holding.{Holding, accepted_of, log_of, own_of, after_others, Acts, IsReply}
 use Rattle.tw_server.specs.Memory.Exchange.{exchanges_of}
 use Rattle.tw_server.specs.Memory.Server.{holding_of, nothing_held}

@@ -3,7 +3,9 @@ use Rattle.std.proofs.Common.{◌+◌, length, arith, ◌/◌, map, ◌≡◌, �
 use Rattle.tw_protocol.specs.Answer.{version}
 use Rattle.tw_journal.specs.Journal.{IsOpenOn}
 use Rattle.tw_journal.proofs.Offsets.{same_open}
-use Rattle.tw_server.specs.Log.{bodies_of, body_of, entry_of, accepted_for}
+use Rattle.tw_records.specs.Log.{accepted_for}
+use Rattle.tw_records.specs.Bodies.{body_of, entry_of}
+use Rattle.tw_server.specs.Log.{bodies_of}
 use Rattle.tw_server.specs.Server.{magic, drawn_id}
 use Rattle.tw_server.proofs.Disks.{first_moment, no_growth, growth_is}
 use Rattle.tw_server.proofs.Refusals.{append_closes, is_err}

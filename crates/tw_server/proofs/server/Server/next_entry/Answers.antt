@@ -1,5 +1,5 @@
 use Rattle.std.proofs.Common.{◌∙◌, sym, true, false}
-use Rattle.tw_server.specs.Log.{entry_of, accepted_in, is_body, is_next_entry}
+use Rattle.tw_records.specs.Bodies.{entry_of, accepted_in, is_body, is_next_entry}
 use Rattle.tw_server.proofs.Openings.{none_either, next_is}
 use Rattle.tw_server.proofs.server.Server.next_entry.Goals as goal
 

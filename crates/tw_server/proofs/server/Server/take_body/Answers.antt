@@ -1,6 +1,6 @@
 use Rattle.std.proofs.Common.{◌≡◌, ◌∙◌, ◌<◌, false, List, [], ◌∷◌, ◌++◌, ℕ, length, sym, ap, subst, arith}
 use Rattle.tw_server.specs.Faults.{read_in_opening}
-use Rattle.tw_server.specs.Log.{follows, entry_of, accepted_in}
+use Rattle.tw_records.specs.Bodies.{follows, entry_of, accepted_in}
 use Rattle.tw_server.specs.Server.{magic, OnRead, IsBadBody}
 use Rattle.tw_server.specs.declared.error.ServerOpenError.{ServerOpenError}
 use Rattle.tw_journal.proofs.Offsets.{still_open}

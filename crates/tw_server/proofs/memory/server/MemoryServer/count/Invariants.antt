@@ -1,5 +1,5 @@
 use Rattle.std.proofs.Common.{◌≡◌, ◌+◌, ◌≤◌, drop, length}
-use Rattle.tw_server.specs.Log.{chain_of}
+use Rattle.tw_records.specs.Log.{chain_of}
 use Rattle.tw_server.specs.Memory.Holding.{log_of}
 use Rattle.tw_server.proofs.memory.server.MemoryServer.count.Given as goal
 

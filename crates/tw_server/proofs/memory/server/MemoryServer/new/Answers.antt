@@ -2,7 +2,7 @@ use Rattle.std.proofs.Common.{◌≡◌, ◌∙◌, [], List, refl, sym, subst}
 use Rattle.std.specs.Prelude.{All}
 use Rattle.std.proofs.lemmas.List.Elements.{All-nil}
 use Rattle.tw_world.specs.Memory.{memory_model}
-use Rattle.tw_server.specs.Log.{IsSound}
+use Rattle.tw_records.specs.Log.{IsSound}
 use Rattle.tw_server.specs.Server.{IsServerOn, Knows}
 use Rattle.tw_server.specs.declared.memory.server.MemoryVersion.{MemoryVersion}
 use Rattle.tw_server.specs.Memory.Holding.{log_of}

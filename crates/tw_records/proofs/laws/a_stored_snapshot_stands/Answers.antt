@@ -1,0 +1,5 @@
+use Rattle.tw_records.proofs.Standing.{snapshot_stands_after}
+use Rattle.tw_records.proofs.laws.a_stored_snapshot_stands.Goals as goal
+
+pub returns : goal.returns
+returns c = snapshot_stands_after

@@ -1,0 +1,5 @@
+use Rattle.tw_records.proofs.Standing.{version_stands_after}
+use Rattle.tw_records.proofs.laws.an_added_version_stands.Goals as goal
+
+pub returns : goal.returns
+returns c = version_stands_after

@@ -1,0 +1,106 @@
+// Where an opening finds each version and each snapshot: the walk over records, from the last one back.
+ghost use Rattle.std.specs.Prelude.{◌≡◌, ◌++◌, [], ◌∷◌, zero, List, ℕ, map, length, reverse, OnOk, IfOk};
+ghost use Rattle.tw_records.specs.Bodies.{block_size, kind_in};
+ghost use Rattle.tw_records.specs.Table.{sources_of, passing_after, block_after, found_at, version_at, missing};
+
+use std::alloc::{AllocError, Global};
+
+/// What tells of a record.
+#[derive(Clone, Copy)]
+pub enum Source {
+    /// The version is told by its own record.
+    Own { number: u64 },
+    /// The version is told by a block, at this place in it.
+    Named { block: u64, place: u64, number: u64 },
+    /// The record is a block.
+    Block { number: u64 },
+    /// The record is a stored snapshot.
+    Stored { number: u64 },
+    /// The record is none of these, or a block that names records that are not there.
+    Odd { number: u64 },
+}
+
+// How many versions are still to be passed over, for which block.
+#[derive(Clone, Copy)]
+struct Walk {
+    passing: u64,
+    block: u64,
+}
+
+/// The sources of records with these kinds, in the order of the file.
+pub fn sources_of(alloc: Global, kinds: &[u8]) -> Result<Vec<Source>, AllocError>
+    ensures { IfOk result (λ sources. (bodies : List (List ℕ)) → kinds.now ≡ map kind_in bodies
+        → sources.items ≡ sources_of block_size zero zero (reverse bodies)) }
+{
+    let mut found = Vec::new(alloc);
+    let mut walk = Walk {
+        passing: 0,
+        block: 0,
+    };
+    let mut n = kinds.len();
+    while 0 < n {
+        n -= 1;
+        let next = step(&mut found, walk, kinds[n], n as u64)?;
+        walk = next;
+    }
+    end(&mut found, walk)?;
+    found.reverse();
+    Ok(found)
+}
+
+// One record before those that were walked over.
+fn step(found: &mut Vec<Source>, walk: Walk, kind: u8, number: u64) -> Result<Walk, AllocError>
+    ensures passing { IfOk result (λ w. w.passing ≡ passing_after block_size walk.passing kind) }
+    ensures block { IfOk result (λ w. w.block ≡ block_after walk.block kind number) }
+    ensures found { OnOk result (found.new.items ≡ found.old.items ++ reverse (found_at walk.passing walk.block kind number)) }
+{
+    match kind {
+        1 => {
+            found.push(version_at(walk, number))?;
+            Ok(Walk {
+                passing: walk.passing.saturating_sub(1),
+                block: walk.block,
+            })
+        }
+        2 => {
+            end(found, walk)?;
+            found.push(Source::Block { number })?;
+            Ok(Walk {
+                passing: 256,
+                block: number,
+            })
+        }
+        3 => {
+            found.push(Source::Stored { number })?;
+            Ok(walk)
+        }
+        _ => {
+            found.push(Source::Odd { number })?;
+            Ok(walk)
+        }
+    }
+}
+
+fn version_at(walk: Walk, number: u64) -> Source
+    ensures { result ≡ version_at walk.passing walk.block number }
+{
+    if 0 < walk.passing {
+        Source::Named {
+            block: walk.block,
+            place: walk.passing - 1,
+            number,
+        }
+    } else {
+        Source::Own { number }
+    }
+}
+
+// If versions are still to be passed over, the block names records that are not there.
+fn end(found: &mut Vec<Source>, walk: Walk) -> Result<(), AllocError>
+    ensures { OnOk result (found.new.items ≡ found.old.items ++ missing walk.passing walk.block) }
+{
+    if 0 < walk.passing {
+        found.push(Source::Odd { number: walk.block })?;
+    }
+    Ok(())
+}
