@@ -5,7 +5,7 @@ ghost use Rattle.tw_filter.specs.Holds.{scene_of, has_status, test_holds, term_h
 ghost use Rattle.tw_urgency.specs.Dependencies.{depends_on};
 ghost use Rattle.tw_model.specs.Places.{uuid_of};
 
-use crate::facts::{Facts, id_of, is_blocking};
+use crate::facts::{Facts, id_for, is_blocking};
 use crate::id_word::Name;
 use crate::task_test::{
     after, at, before, begins, contains, ends, has_the_word, is_annotated, is_tagged, is_value,
@@ -89,7 +89,7 @@ pub(crate) fn name_holds(facts: &Facts, view: &View<'_>, uuid: Uuid, name: Name)
     ensures { result ≡ name_holds (scene_of view.entry.now) uuid name }
 {
     match name {
-        Name::Numbers(first, last) => match id_of(facts, view, uuid) {
+        Name::Numbers(first, last) => match id_for(facts, view, uuid, first, last) {
             Some(id) => first <= id && id <= last,
             None => false,
         },

@@ -7,4 +7,5 @@ pub mod FirstFaults
 pub mod UnnamedWords
 pub mod PlacedWords
 pub mod NamingWords
+pub mod EmptyWords
 pub mod KeptModified

@@ -1,6 +1,7 @@
 -- What modification words make of a task: task(1), under "MODIFICATIONS".
 use Rattle.std.specs.Prelude.{ℕ, ◌+◌, ◌==◌, not, Bool, true, false, cond, is_some, List, [], ◌∷◌, ◌++◌, Option, Some, None, Result, Ok, Err}
-use Rattle.std.specs.Prelude.{codes, drop, refl, filter}
+use Rattle.std.specs.Prelude.{codes, drop, refl, filter, length}
+use Rattle.std.specs.List.{list_any}
 use Rattle.std.specs.Coded.{Coded, code_by, coded×, coded_ℕ, coded_list, coded_option, coded_bool}
 use Rattle.std.specs.FinMap as map
 use Rattle.std.specs.Fmt.{decimal}
@@ -13,11 +14,13 @@ use Rattle.tw_time.specs.declared.error.DateError.{DateError}
 use Rattle.tw_urgency.specs.Dependencies.{dependency_in}
 use Rattle.tw_filter.specs.Cuts.{parts}
 use Rattle.tw_filter.specs.Holds.{Scene}
+use Rattle.tw_filter.specs.Tags.{is_virtual}
 use Rattle.tw_model.specs.Places.{uuid_of}
 use Rattle.tw_filter.specs.declared.bad_word.WordKind.{WordKind}
 use Rattle.tw_filter.specs.declared.bad_word.WordKind.TheVariants as bad
 use Rattle.tw_words.specs.Lines.{Parts}
-use Rattle.tw_words.specs.Modifications.{field_named, item_in, takes_out, is_plain, is_add, tag_of, pair_of, word_fault, tally_of, rest_words, number_at}
+use Rattle.tw_words.specs.Modifications.{Clock, field_named, item_in, takes_out, are_items, is_plain, is_add, tag_of, pair_of}
+use Rattle.tw_words.specs.Modifications.{unless, moment_fault, full_fault, field_fault, word_fault, tally_of, rest_words, number_at}
 use Rattle.tw_words.specs.declared.changes.field.Field.{Field}
 use Rattle.tw_words.specs.declared.changes.field.Field.TheVariants as field
 use Rattle.tw_words.specs.declared.changes.depends_part.Named.{Named}
@@ -156,10 +159,30 @@ abbrev pub unless_wrong : {X : Type 0} → Option WordKind → Result X WordKind
 unless_wrong None made = made
 unless_wrong (Some kind) made = Err kind
 
+-- the moment and the zone of what is looked at
+abbrev pub clock_in : Scene → Clock
+clock_in scene = Some (scene.now, scene.tz)
+
+-- the same of a tag, of a moment, of dependencies, of a value that is not empty, and of a field and its value
+abbrev pub taken_tag : Draft → Bool → List ℕ → Result Draft WordKind
+taken_tag m wanted tag = unless_wrong (unless (not (is_virtual tag)) bad.Attribute) (Ok (with_task m (set_to m.task wanted (codes "tag_" ++ tag))))
+
+abbrev pub taken_date : Scene → Draft → (name value : List ℕ) → Result Draft WordKind
+taken_date scene m name value = unless_wrong (moment_fault (clock_in scene) value) (with_date scene m name value)
+
+abbrev pub taken_items : Scene → Draft → List (List ℕ) → Result Draft WordKind
+taken_items scene m texts = unless_wrong (unless (are_items texts) bad.Value) (draft_of m (with_items scene m.task texts))
+
+abbrev pub taken_value : Scene → Draft → Field → (name value : List ℕ) → Result Draft WordKind
+taken_value scene m field name value = unless_wrong (full_fault (clock_in scene) field value) (with_value scene m field name value)
+
+abbrev pub taken_pair : Scene → Draft → Option Field → (name value : List ℕ) → Result Draft WordKind
+taken_pair scene m field name value = unless_wrong (field_fault (clock_in scene) field value) (with_pair scene m field name value)
+
 -- the task after one more word, or why it is wrong
 abbrev pub with_word : Scene → (adding sole plain : Bool) → Draft → List ℕ → Result Draft WordKind
 with_word scene adding sole plain m word =
-    unless_wrong (word_fault (Some (scene.now, scene.tz)) adding sole plain word) (tag_or_pair scene adding plain m word (tag_of plain word))
+    unless_wrong (word_fault (clock_in scene) adding sole plain word) (tag_or_pair scene adding plain m word (tag_of plain word))
 
 -- ---- all words
 
@@ -171,6 +194,10 @@ abbrev pub with_words : Scene → (sole : Bool) → Parts → Draft → ℕ → 
 with_words scene sole line m n [] = Ok m
 with_words scene sole line m n (word ∷ words) =
     going_on_behind line n (with_word scene (is_add line.command) sole (is_plain line n) m word) (λ made. with_words scene sole line made (n + 1) words)
+
+-- whether one of these words is empty
+abbrev pub has_empty : List (List ℕ) → Bool
+has_empty words = list_any (λ word. length word == 0) words
 
 -- what the words of a line from a number on make of a task
 abbrev pub with_words_from : Scene → (sole : Bool) → Parts → Draft → ℕ → Result Draft WordError
@@ -190,6 +217,10 @@ abbrev pub made_of : Result Draft WordError → Result TaskValue WordError
 made_of (Ok m) = Ok (made m)
 made_of (Err e) = Err e
 
+-- with all words after the command's word
+abbrev pub with_rest : Scene → Parts → Draft → Result Draft WordError
+with_rest scene line m = with_words scene ((tally_of line).texts == 1) line m line.rest_from (rest_words line)
+
 -- what the modification words of a line make of a task, or the first word that is wrong
 abbrev pub changed : Scene → Parts → TaskValue → Result TaskValue WordError
-changed scene line task = made_of (with_words scene ((tally_of line).texts == 1) line (beginning task) line.rest_from (rest_words line))
+changed scene line task = made_of (with_rest scene line (beginning task))

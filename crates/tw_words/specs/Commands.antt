@@ -1,5 +1,5 @@
 -- The commands: task(1), under "SUBCOMMANDS".
-use Rattle.std.specs.Prelude.{◌≡◌, ℕ, List, [], ◌∷◌, ◌++◌, Option, Some, map, codes}
+use Rattle.std.specs.Prelude.{◌≡◌, ℕ, Bool, true, false, List, [], ◌∷◌, ◌++◌, Option, Some, map, codes}
 use Rattle.tw_time.specs.Tables.{look_up}
 use Rattle.tw_words.specs.declared.command.AnyCommand.{AnyCommand}
 use Rattle.tw_words.specs.declared.command.AnyCommand.TheVariants.{Tasks, Sync, Generate}
@@ -83,3 +83,21 @@ filtering_of command = (form_of command).filtering
 -- what the words after a command are
 abbrev pub rest_of : AnyCommand → Rest
 rest_of command = (form_of command).rest
+
+-- whether a command changes tasks that drive intervals: all that write a record but the import and the reports
+abbrev pub drives : Command → Bool
+drives Import = false
+drives Count = false
+drives Ids = false
+drives Uuids = false
+drives Export = false
+drives Information = false
+drives Projects = false
+drives Tags = false
+drives command.List = false
+drives Next = false
+drives All = false
+drives Completed = false
+drives Waiting = false
+drives Blocked = false
+drives command = true

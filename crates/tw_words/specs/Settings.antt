@@ -27,6 +27,8 @@ known =
     (codes "gc", kind.Switch)
     ∷ (codes "recurrence", kind.Switch)
     ∷ (codes "recurrence.limit", kind.UpTo 100)
+    ∷ (codes "hooks", kind.Switch)
+    ∷ (codes "timetrack", kind.Switch)
     ∷ (codes "data.location", kind.Text)
     ∷ (codes "sync.server.url", kind.Url)
     ∷ (codes "sync.server.client_id", kind.Uuid)

@@ -1,4 +1,4 @@
--- What settings turn on and off: taskrc(5), the variables `gc`, `recurrence` and `recurrence.limit`.
+-- What settings turn on and off: `timetrack`, and of taskrc(5) the variables `gc`, `recurrence`, `hooks` and `recurrence.limit`.
 use Rattle.std.specs.Prelude.{ℕ, ◌||◌, Bool, true, false, cond, List, Option, Some, None, codes}
 use Rattle.tw_model.specs.Maps.{same_bytes}
 use Rattle.tw_words.specs.Settings.{Pair, value_of}
@@ -13,9 +13,18 @@ abbrev pub switched : Option (List ℕ) → Bool
 switched None = true
 switched (Some value) = cond (is_off value) false true
 
--- whether a name is on, as both names are by default
+-- whether a name is on, as all these names are by default
 abbrev pub is_set_on : List ℕ → List Pair → Bool
 is_set_on name pairs = switched (value_of name pairs)
+
+-- off where nothing else is said
+abbrev pub turned_on : Option (List ℕ) → Bool
+turned_on None = false
+turned_on (Some value) = cond (is_off value) false true
+
+-- whether a name is on, if it is off by default
+abbrev pub is_turned_on : List ℕ → List Pair → Bool
+is_turned_on name pairs = turned_on (value_of name pairs)
 
 -- the value of `recurrence.limit`
 abbrev pub recurrence_limit : List Pair → ℕ

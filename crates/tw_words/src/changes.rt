@@ -1,8 +1,8 @@
 // What modification words make of a task: task(1), under "MODIFICATIONS".
-ghost use Rattle.std.specs.Prelude.{◌≡◌, ◌<◌, ◌+◌, length};
+ghost use Rattle.std.specs.Prelude.{◌≡◌, ◌<◌, ◌+◌, ◌&&◌, ◌==◌, length};
 ghost use Rattle.tw_filter.specs.Holds.{scene_of};
-ghost use Rattle.tw_words.specs.Changed.{with_words, changed};
-ghost use Rattle.tw_words.specs.Modifications.{rest_words};
+ghost use Rattle.tw_words.specs.Changed.{has_empty, with_words, with_rest, changed};
+ghost use Rattle.tw_words.specs.Modifications.{rest_words, tally_of};
 ghost use Rattle.tw_words.specs.Gives.{Gives};
 ghost use Rattle.tw_words.specs.Makes.{MakesAll, Takes};
 
@@ -44,8 +44,27 @@ fn take_word(
     }
 }
 
-// Takes the words after the command's word.
-fn take_rest(
+// Whether a word after the command's word is empty.
+fn has_empty(line: &Line) -> bool
+    ensures { result ≡ has_empty (rest_words line.now) }
+{
+    for n in line.rest_from..line.words.len() as u64 {
+        if line.word(n).is_empty() {
+            return true;
+        }
+    }
+    false
+}
+
+// Whether one word alone is a text. It is asked only if one is empty.
+fn is_sole(line: &Line) -> bool
+    ensures { result ≡ (has_empty (rest_words line.now) && (tally_of line.now).texts == 1) }
+{
+    has_empty(line) && tally_of(line).texts == 1
+}
+
+// Takes the words after the command's word. If one of them alone is a text, it may not be empty.
+fn take_words(
     alloc: Global,
     draft: &mut Draft,
     line: &Line,
@@ -60,9 +79,21 @@ fn take_rest(
     Ok(())
 }
 
+// Takes the words after the command's word.
+fn take_rest(
+    alloc: Global,
+    draft: &mut Draft,
+    line: &Line,
+    view: &View<'_>,
+) -> Result<(), WordError>
+    ensures { MakesAll result (with_rest (scene_of view.entry.now) line.now draft.old) draft.new }
+{
+    take_words(alloc, draft, line, view, is_sole(line))
+}
+
 /// What the modification words of a line make of a task, or the first word that is wrong: task(1), under "MODIFICATIONS". The words are
 /// taken in their order, so that a later one wins. Moments are stored in decimal seconds, a tag as `tag_` and its name and a dependency
-/// as `dep_` and its uuid, both with an empty value.
+/// as `dep_` and its uuid, both with an empty value. Each word is read once.
 ///
 /// It is meant for the commands whose rest is `Rest::Modifications`. Of the others each word counts as a modification.
 pub fn changed(
@@ -74,6 +105,6 @@ pub fn changed(
     ensures { Gives (λ task. task) result (changed (scene_of view.entry.now) line.now map.now) }
 {
     let mut draft = Draft::new(map.copy(alloc)?);
-    take_rest(alloc, &mut draft, line, view, tally_of(line).texts == 1)?;
+    take_rest(alloc, &mut draft, line, view)?;
     Ok(draft.made(alloc)?)
 }

@@ -1,6 +1,6 @@
 // The commands: task(1), under "SUBCOMMANDS".
 ghost use Rattle.std.specs.Prelude.{◌≡◌};
-ghost use Rattle.tw_words.specs.Commands.{command_named, form_over, filtering_of, rest_of};
+ghost use Rattle.tw_words.specs.Commands.{command_named, drives, form_over, filtering_of, rest_of};
 
 use tw_time::look_up;
 
@@ -175,6 +175,29 @@ impl Command {
             | Command::Waiting
             | Command::Blocked => (Filtering::Free, Rest::Filter),
             Command::Information => (Filtering::Needed, Rest::Filter),
+        }
+    }
+
+    /// Whether it changes tasks that drive intervals: all that write a record but the import and the reports.
+    pub fn drives(self) -> bool
+        ensures { result ≡ drives self }
+    {
+        match self {
+            Command::Import
+            | Command::Count
+            | Command::Ids
+            | Command::Uuids
+            | Command::Export
+            | Command::Information
+            | Command::Projects
+            | Command::Tags
+            | Command::List
+            | Command::Next
+            | Command::All
+            | Command::Completed
+            | Command::Waiting
+            | Command::Blocked => false,
+            _ => true,
         }
     }
 }

@@ -1,24 +1,26 @@
 // A task that is being modified.
-ghost use Rattle.std.specs.Prelude.{◌≡◌, ◌++◌, codes, Some, option_map, string_bytes, IfOk, OnOk};
+ghost use Rattle.std.specs.Prelude.{◌≡◌, ◌++◌, codes, Some, Ok, option_map, string_bytes, IfOk, OnOk};
 ghost use Rattle.std.specs.Option.{option_copied};
 ghost use Rattle.std.specs.Fmt.{decimal};
 ghost use Rattle.tw_model.specs.Maps.{set_at};
 ghost use Rattle.tw_filter.specs.Holds.{scene_of};
-ghost use Rattle.tw_words.specs.Changed.{set_to, given, with_task, with_date, with_value, without_value, with_pair, with_text, tag_or_pair};
-ghost use Rattle.tw_words.specs.Changed.{with_word, with_description, made, beginning};
-ghost use Rattle.tw_words.specs.Modifications.{tag_of};
+ghost use Rattle.tw_filter.specs.Cuts.{parts};
+ghost use Rattle.tw_filter.specs.declared.bad_word.WordKind.TheVariants as bad;
+ghost use Rattle.tw_words.specs.Changed.{given, with_task, without_value, with_text, with_word, with_description, made, beginning};
+ghost use Rattle.tw_words.specs.Changed.{unless_wrong, taken_tag, taken_date, taken_items, taken_value, taken_pair};
+ghost use Rattle.tw_words.specs.Modifications.{unless, empty_fault, text_fault};
 ghost use Rattle.tw_words.specs.Makes.{Makes};
 
 use crate::changes::dependencies::{clear_dependencies, put_items, set_to};
+use crate::changes::depends_part::are_items;
 use crate::changes::field::{Field, field_named};
 use crate::changes::modification::{pair_of, tag_of};
-use crate::clock::Clock;
-use crate::judging::fault::word_fault;
+use crate::judging::fault::{empty_fault, text_fault};
 use std::alloc::Global;
 use std::marker::Model;
-use tw_filter::{KindError, View, WordKind};
+use tw_filter::{KindError, View, WordKind, is_priority, is_virtual};
 use tw_model::TaskMap;
-use tw_time::read_moment;
+use tw_time::{read_duration, read_moment};
 use tw_world::Memory;
 
 /// A task that is being modified, with the texts of its description so far.
@@ -104,15 +106,15 @@ impl Draft {
         self.task.set(alloc, name, Some(text.as_str()))
     }
 
-    // Puts in the moment that a value says.
-    fn set_date(
+    // Takes the moment that a value says.
+    fn take_date(
         &mut self,
         alloc: Global,
         view: &View<'_>,
         name: &str,
         value: &str,
     ) -> Result<(), KindError>
-        ensures { Makes result (with_date (scene_of view.entry.now) self.old name.now value.now) self.new }
+        ensures { Makes result (taken_date (scene_of view.entry.now) self.old name.now value.now) self.new }
     {
         match read_moment(value, view.now.seconds, view.zone) {
             Ok(at) => {
@@ -123,8 +125,36 @@ impl Draft {
         }
     }
 
-    // Puts in a value that is not empty and is known to be right.
-    fn put_value(
+    // Puts in a value, if it is right.
+    fn set_if(
+        &mut self,
+        alloc: Global,
+        right: bool,
+        name: &str,
+        value: &str,
+    ) -> Result<(), KindError>
+        ensures { Makes result (unless_wrong (unless right bad.Value) (Ok (with_task self.old (set_at self.old.task name.now (Some value.now))))) self.new }
+    {
+        if !right {
+            return Err(KindError::Bad(WordKind::Value));
+        }
+        self.set(alloc, name, Some(value))?;
+        Ok(())
+    }
+
+    // Puts in dependencies, or takes them out.
+    fn take_items(&mut self, alloc: Global, view: &View<'_>, value: &str) -> Result<(), KindError>
+        ensures { Makes result (taken_items (scene_of view.entry.now) self.old (parts 44 value.now)) self.new }
+    {
+        if !are_items(value) {
+            return Err(KindError::Bad(WordKind::Value));
+        }
+        put_items(alloc, &mut self.task, view, value)
+    }
+
+    // Takes a value that is not empty.
+    #[tactic(auto, unfolding(crate::specs::Modifications::full_fault))]
+    fn take_value(
         &mut self,
         alloc: Global,
         view: &View<'_>,
@@ -132,19 +162,18 @@ impl Draft {
         name: &str,
         value: &str,
     ) -> Result<(), KindError>
-        ensures { Makes result (with_value (scene_of view.entry.now) self.old field name.now value.now) self.new }
+        ensures { Makes result (taken_value (scene_of view.entry.now) self.old field name.now value.now) self.new }
     {
         match field {
             Field::Description => {
                 self.give(alloc, value)?;
                 Ok(())
             }
-            Field::Moment => self.set_date(alloc, view, name, value),
-            Field::Depends => put_items(alloc, &mut self.task, view, value),
-            _ => {
-                self.set(alloc, name, Some(value))?;
-                Ok(())
-            }
+            Field::Project => self.set_if(alloc, true, name, value),
+            Field::Priority => self.set_if(alloc, is_priority(value), name, value),
+            Field::Moment => self.take_date(alloc, view, name, value),
+            Field::Depends => self.take_items(alloc, view, value),
+            Field::Recur => self.set_if(alloc, read_duration(value).is_ok(), name, value),
         }
     }
 
@@ -157,7 +186,18 @@ impl Draft {
         }
     }
 
-    fn put_pair(
+    // Takes an empty value. A description has none.
+    fn take_empty(&mut self, alloc: Global, field: Field, name: &str) -> Result<(), KindError>
+        ensures { Makes result (unless_wrong (empty_fault field) (Ok (without_value self.old field name.now))) self.new }
+    {
+        if let Some(kind) = empty_fault(field) {
+            return Err(KindError::Bad(kind));
+        }
+        self.clear_value(alloc, field, name)?;
+        Ok(())
+    }
+
+    fn take_pair(
         &mut self,
         alloc: Global,
         view: &View<'_>,
@@ -165,16 +205,16 @@ impl Draft {
         name: &str,
         value: &str,
     ) -> Result<(), KindError>
-        ensures { Makes result (with_pair (scene_of view.entry.now) self.old field name.now value.now) self.new }
+        ensures { Makes result (taken_pair (scene_of view.entry.now) self.old field name.now value.now) self.new }
     {
         let Some(field) = field else {
             return Err(KindError::Bad(WordKind::Attribute));
         };
         if value.is_empty() {
-            self.clear_value(alloc, field, name)?;
-            return Ok(());
+            self.take_empty(alloc, field, name)
+        } else {
+            self.take_value(alloc, view, field, name, value)
         }
-        self.put_value(alloc, view, field, name, value)
     }
 
     fn put_text(&mut self, alloc: Global, word: &str) -> Result<(), Memory>
@@ -191,43 +231,28 @@ impl Draft {
         Ok(())
     }
 
-    fn put_tag(&mut self, alloc: Global, wanted: bool, tag: &str) -> Result<(), Memory>
-        ensures { OnOk result (self.new ≡ with_task self.old (set_to self.old.task wanted (codes "tag_" ++ tag.now))) }
+    fn take_text(&mut self, alloc: Global, sole: bool, word: &str) -> Result<(), KindError>
+        ensures { Makes result (unless_wrong (text_fault sole word.now) (Ok (with_text self.old word.now))) self.new }
     {
+        if let Some(kind) = text_fault(sole, word) {
+            return Err(KindError::Bad(kind));
+        }
+        self.put_text(alloc, word)?;
+        Ok(())
+    }
+
+    fn take_tag(&mut self, alloc: Global, wanted: bool, tag: &str) -> Result<(), KindError>
+        ensures { Makes result (taken_tag self.old wanted tag.now) self.new }
+    {
+        if is_virtual(tag) {
+            return Err(KindError::Bad(WordKind::Attribute));
+        }
         let name = property_of(alloc, tag)?;
-        set_to(alloc, &mut self.task, wanted, name.as_str())
+        set_to(alloc, &mut self.task, wanted, name.as_str())?;
+        Ok(())
     }
 
-    fn put_right(
-        &mut self,
-        alloc: Global,
-        view: &View<'_>,
-        adding: bool,
-        plain: bool,
-        word: &str,
-    ) -> Result<(), KindError>
-        ensures { Makes result (tag_or_pair (scene_of view.entry.now) adding plain self.old word.now (tag_of plain word.now)) self.new }
-    {
-        if let Some((wanted, tag)) = tag_of(plain, word) {
-            self.put_tag(alloc, wanted, tag)?;
-            return Ok(());
-        }
-        match pair_of(plain, word) {
-            Some((name, value)) => self.put_pair(
-                alloc,
-                view,
-                field_named(adding, name),
-                name,
-                value,
-            ),
-            None => {
-                self.put_text(alloc, word)?;
-                Ok(())
-            }
-        }
-    }
-
-    /// Takes one more word.
+    /// Takes one more word. It is read once.
     pub(crate) fn take(
         &mut self,
         alloc: Global,
@@ -239,14 +264,19 @@ impl Draft {
     ) -> Result<(), KindError>
         ensures { Makes result (with_word (scene_of view.entry.now) adding sole plain self.old word.now) self.new }
     {
-        let clock = Clock {
-            now: view.now,
-            zone: view.zone,
-        };
-        if let Some(kind) = word_fault(Some(clock), adding, sole, plain, word) {
-            return Err(KindError::Bad(kind));
+        if let Some((wanted, tag)) = tag_of(plain, word) {
+            return self.take_tag(alloc, wanted, tag);
         }
-        self.put_right(alloc, view, adding, plain, word)
+        match pair_of(plain, word) {
+            Some((name, value)) => self.take_pair(
+                alloc,
+                view,
+                field_named(adding, name),
+                name,
+                value,
+            ),
+            None => self.take_text(alloc, sole, word),
+        }
     }
 
     /// The task, with its description.

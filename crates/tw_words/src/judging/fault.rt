@@ -57,7 +57,7 @@ fn full_fault(clock: Option<Clock<'_>>, field: Field, value: &str) -> Option<Wor
     }
 }
 
-fn empty_fault(field: Field) -> Option<WordKind>
+pub(crate) fn empty_fault(field: Field) -> Option<WordKind>
     ensures { result ≡ empty_fault field }
 {
     match field {

@@ -29,10 +29,12 @@ pub(crate) enum Kind {
 }
 
 // The names that are known. Others have no effect.
-const KNOWN: [(&str, Kind); 22] = [
+const KNOWN: [(&str, Kind); 24] = [
     ("gc", Kind::Switch),
     ("recurrence", Kind::Switch),
     ("recurrence.limit", Kind::UpTo(100)),
+    ("hooks", Kind::Switch),
+    ("timetrack", Kind::Switch),
     ("data.location", Kind::Text),
     ("sync.server.url", Kind::Url),
     ("sync.server.client_id", Kind::Uuid),

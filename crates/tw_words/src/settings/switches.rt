@@ -1,6 +1,6 @@
-// What settings turn on and off: taskrc(5), the variables `gc`, `recurrence` and `recurrence.limit`.
+// What settings turn on and off: `timetrack`, and of taskrc(5) the variables `gc`, `recurrence`, `hooks` and `recurrence.limit`.
 ghost use Rattle.std.specs.Prelude.{◌≡◌, ◌≤◌, codes};
-ghost use Rattle.tw_words.specs.Switches.{is_off, is_set_on, recurrence_limit};
+ghost use Rattle.tw_words.specs.Switches.{is_off, is_set_on, is_turned_on, recurrence_limit};
 
 use crate::settings::Settings;
 use tw_text::read_u64;
@@ -37,6 +37,23 @@ impl Settings {
         ensures { result ≡ is_set_on (codes "recurrence") self.now }
     {
         self.is_set_on("recurrence")
+    }
+
+    /// Whether hooks are asked about the tasks that a command makes or changes, as they are where nothing else is set. It takes no memory.
+    pub fn hooks(&self) -> bool
+        ensures { result ≡ is_set_on (codes "hooks") self.now }
+    {
+        self.is_set_on("hooks")
+    }
+
+    /// Whether active tasks drive intervals of time, which they do only if it is set. It takes no memory.
+    pub fn timetrack(&self) -> bool
+        ensures { result ≡ is_turned_on (codes "timetrack") self.now }
+    {
+        match self.get("timetrack") {
+            Some(value) => !is_off(value),
+            None => false,
+        }
     }
 
     /// How many instances of a recurring task there are to be in the future: 1 where nothing else is set. It takes no memory.

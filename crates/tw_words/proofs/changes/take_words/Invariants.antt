@@ -3,7 +3,7 @@ use Rattle.std.proofs.Common.{◌≡◌, drop}
 use Rattle.tw_filter.specs.Holds.{scene_of}
 use Rattle.tw_words.specs.Changed.{with_words}
 use Rattle.tw_words.specs.Modifications.{rest_words}
-use Rattle.tw_words.proofs.changes.take_rest.Given as goal
+use Rattle.tw_words.proofs.changes.take_words.Given as goal
 
 abbrev pub invariant-loop-n : goal.invariant-loop-n
 invariant-loop-n l =
