@@ -4,6 +4,8 @@ use timew_cli::timew_run;
 use tw_time::Zone;
 use tw_world::{Folder, MemoryDisk, MemoryFolder, MemorySink, Moment};
 
+mod many;
+
 const ONE: &str = "inc 20260105T090000Z - 20260105T090005Z # code\n";
 
 const TWO: &str =

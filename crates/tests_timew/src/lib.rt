@@ -1,8 +1,10 @@
-//! Tests of hours: the store of intervals, the commands, their reports and the top call, over the public calls of timew_store, timew_cmd,
-//! timew_report and timew_cli.
+//! Tests of hours: the store of intervals, the commands, reports, the intervals of tasks and the top call, over the public calls of
+//! timew_store, timew_cmd, timew_report, timew_bridge and timew_cli.
 //! A module is named after the crate that it tests.
 #![tactic(auto)]
 
+#[cfg(test)]
+mod bridge;
 #[cfg(test)]
 mod cli;
 #[cfg(test)]

@@ -25,6 +25,7 @@ pub mod OneLine
 pub mod FilesHold
 pub mod RowsReadBack
 pub mod SeatedRows
+pub mod StableSeats
 pub mod LateRows
 pub mod FirstSpot
 pub mod FilesInOrder
@@ -39,6 +40,7 @@ pub mod FilesRead
 pub mod LoadRefusals
 pub mod RisingMonths
 pub mod MonthsAfter
+pub mod MonthsPut
 pub mod Prepares
 pub mod LastChange
 pub mod Undoes
@@ -47,3 +49,4 @@ pub mod SplicedRows
 pub mod Edits
 pub mod RestoredStore
 pub mod Stays
+pub mod PreparedEdits

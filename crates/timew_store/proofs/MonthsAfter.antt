@@ -72,7 +72,7 @@ pub named_by_names : (files : List MonthFile) → are_named files ≡ list_all i
 named_by_names [] = refl
 named_by_names (f ∷ files) = ap (λ (b : Bool). is_month_name f.name && b) (named_by_names files)
 
-names_with_good : (changes : List FileChange) (names : List (List ℕ)) → AreMonths changes → AreMonthNames names → AreMonthNames (fold (λ had f. add_name f.name had) names changes)
+pub names_with_good : (changes : List FileChange) (names : List (List ℕ)) → AreMonths changes → AreMonthNames names → AreMonthNames (fold (λ had f. add_name f.name had) names changes)
 names_with_good [] names are good = good
 names_with_good (f ∷ changes) names are good = names_with_good changes (add_name f.name names) are.1 (added_good f.name names are.0 good)
 

@@ -17,10 +17,10 @@ use Rattle.timew_store.specs.Known.{AreKnown}
 use Rattle.timew_store.specs.Rows.{rows_of}
 use Rattle.timew_store.specs.Store.{HoldMonths}
 
-named_once : (files : List MonthFile) → IsProp (are_named files ≡ true)
+pub named_once : (files : List MonthFile) → IsProp (are_named files ≡ true)
 named_once files = hlevel props
 
-known_once : (files : List MonthFile) (rows : List Interval) (known : List KnownText) → IsProp (AreKnown files rows known)
+pub known_once : (files : List MonthFile) (rows : List Interval) (known : List KnownText) → IsProp (AreKnown files rows known)
 known_once files rows known = hlevel (props, IsEnd-prop)
 
 -- month files with these intervals

@@ -26,7 +26,7 @@ use Rattle.timew_store.proofs.ChangedFiles.{month_names_rise}
 abbrev pub IsBelow : List ℕ → List (List ℕ) → Type 0
 IsBelow low names = AllByRecursion (λ m. bytes_cmp low m ≡ Less) names
 
-below_lower : (low k : List ℕ) (names : List (List ℕ)) → bytes_cmp low k ≡ Less → IsBelow k names → IsBelow low names
+pub below_lower : (low k : List ℕ) (names : List (List ℕ)) → bytes_cmp low k ≡ Less → IsBelow k names → IsBelow low names
 below_lower low k [] less below = tt
 below_lower low k (n ∷ names) less below = (nat_list_cmp_total.trans low k n less below.0, below_lower low k names less below.1)
 

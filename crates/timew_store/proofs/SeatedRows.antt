@@ -1,17 +1,13 @@
 -- Intervals in the order of start and end.
-use Rattle.std.proofs.Common.{◌≡◌, ℕ, ◌+◌, ◌<◌, Bool, true, false, cond, ◌&&◌, ◌||◌, ◌==◌, List, [], ◌∷◌, ◌++◌, length, take, drop, Option, Some, None, refl, sym, ap, subst, ◌∙◌, arith}
-use Rattle.std.specs.Prelude.{nat_lt}
+use Rattle.std.proofs.Common.{◌≡◌, ℕ, Bool, true, false, cond, ◌&&◌, ◌||◌, ◌==◌, [], ◌∷◌, ◌++◌, Option, Some, None, refl, arith}
+use Rattle.std.specs.Prelude.{nat_lt, fold}
 use Rattle.std.specs.List.{AllByRecursion}
-use Rattle.std.specs.List.{insert as insert_at}
-use Rattle.std.proofs.Common.{get_or}
 use Rattle.std.proofs.lemmas.Bool.Decides.{nat_tests}
-use Rattle.std.proofs.lemmas.List.{take-append-drop, map-append, take-map, drop-map, drop_more, take_more, drop_all}
-use Rattle.timew_store.specs.declared.read.gathered.Seat.{Seat}
 use Rattle.timew_store.specs.declared.interval.Interval.{Interval}
 use Rattle.timew_store.specs.Interval.{IsRow}
 use Rattle.timew_store.specs.Placing.{is_not_after, end_le}
 use Rattle.timew_store.specs.Rows.{Seats, seated}
-use Rattle.timew_store.specs.Gathered.{AreSorted, AreSeats, seat_of, seats_of}
+use Rattle.timew_store.specs.Gathered.{AreSorted, AreSeats}
 
 -- ---- the order
 
@@ -50,16 +46,6 @@ order_total r s p = before_total r.start s.start (end_le r.end s.end) (end_le s.
 abbrev pub AllBefore : Seats → Interval → Type 0
 AllBefore seats r = AllByRecursion (λ t. is_not_after t.1 r ≡ true) seats
 
--- the first of these is after the interval
-abbrev pub StopsAt : Interval → Seats → Type 0
-StopsAt r [] = Unit {0}
-StopsAt r (t ∷ seats) = is_not_after t.1 r ≡ false
-
-seated_between : (front back : Seats) (s : ℕ × Interval) → AllBefore front s.1 → StopsAt s.1 back → seated s (front ++ back) ≡ front ++ s ∷ back
-seated_between [] [] s all stop = refl
-seated_between [] (t ∷ back) s all stop = ap (λ b. cond b (t ∷ seated s back) (s ∷ t ∷ back)) stop
-seated_between (t ∷ front) back s all stop = ap (λ b. cond b (t ∷ seated s (front ++ back)) (s ∷ t ∷ (front ++ back))) all.0 ∙ ap (λ (l : Seats). t ∷ l) (seated_between front back s all.1 stop)
-
 pub all_seated : (P : ℕ × Interval → Type 0) (s : ℕ × Interval) (seats : Seats) → P s → AllByRecursion P seats → AllByRecursion P (seated s seats)
 all_seated P s [] here all = (here, tt)
 all_seated P s (t ∷ seats) here all = by_case (is_not_after t.1 s.1) (all_seated P s seats here all.1)
@@ -83,45 +69,13 @@ sorted_seated s (t ∷ seats) sorted = by_case (is_not_after t.1 s.1) refl (sort
 pub are_seated : (s : ℕ × Interval) (seats : Seats) → IsRow s.1 → AreSeats seats → AreSeats (seated s seats)
 are_seated s seats row are = all_seated (λ t. IsRow t.1) s seats row are
 
--- those before an index are before what is not before the last of them
-front_before : (front : Seats) (last : ℕ × Interval) (back : Seats) (r : Interval) → AreSorted (front ++ last ∷ back) → is_not_after last.1 r ≡ true → AllBefore (front ++ last ∷ []) r
-front_before [] last back r sorted le = (le, tt)
-front_before (t ∷ front) last back r sorted le = (order_trans t.1 last.1 r (seen front sorted.0) le, front_before front last back r sorted.1 le)
-  where
-    seen : (front : Seats) → AllByRecursion (λ u. is_not_after t.1 u.1 ≡ true) (front ++ last ∷ back) → is_not_after t.1 last.1 ≡ true
-    seen [] all = all.0
-    seen (u ∷ front) all = seen front all.1
+pub in_sorted : (had seats : Seats) → AreSorted had → AreSorted (fold (λ had s. seated s had) had seats)
+in_sorted had [] sorted = sorted
+in_sorted had (s ∷ seats) sorted = in_sorted (seated s had) seats (sorted_seated s had sorted)
 
--- An index after an interval that is not after the new one, with one after it that is, is the index for it.
-pub seated_behind : (items : List Seat) (m : ℕ) (x : Seat) (s : ℕ × Interval) → AreSorted (seats_of items) → m < length items → x ≡ get_or items m x → is_not_after x.row s.1 ≡ true → StopsAt s.1 (drop (m + 1) (seats_of items))
-    → seated s (seats_of items) ≡ insert_at (seats_of items) (m + 1) s
-seated_behind items m x s sorted lt is le stop =
-    let all = seats_of items in
-    let front = seats_of (take m items) in
-    let behind : drop m items ≡ x ∷ drop (m + 1) items = drop_more items m x lt ∙ ap (λ (y : Seat). y ∷ drop (m + 1) items) (sym is) in
-    let parts : all ≡ front ++ seat_of x ∷ seats_of (drop (m + 1) items) =
-    ap seats_of (sym (take-append-drop m items)) ∙ map-append seat_of (take m items) (drop m items) ∙ ap (λ (l : List Seat). front ++ seats_of l) behind in
-    let up_to : take (m + 1) all ≡ front ++ seat_of x ∷ [] =
-    take-map seat_of (m + 1) items ∙ ap seats_of (take_more items m x lt) ∙ map-append seat_of (take m items) (get_or items m x ∷ []) ∙ ap (λ (y : Seat). front ++ seat_of y ∷ []) (sym is) in
-    let early : AllBefore (take (m + 1) all) s.1 = subst (λ (l : Seats). AllBefore l s.1) (sym up_to) (front_before front (seat_of x) (seats_of (drop (m + 1) items)) s.1 (subst AreSorted parts sorted) le) in
-    ap (seated s) (sym (take-append-drop (m + 1) all)) ∙ seated_between (take (m + 1) all) (drop (m + 1) all) s early stop
-
--- if each is after the new one, it is first
-pub seated_first : (items : List Seat) (s : ℕ × Interval) → StopsAt s.1 (drop 0 (seats_of items)) → seated s (seats_of items) ≡ insert_at (seats_of items) 0 s
-seated_first items s stop = seated_between [] (seats_of items) s tt stop
-
-pub none_behind : (items : List Seat) (r : Interval) → StopsAt r (drop (length items) (seats_of items))
-none_behind items r = subst (StopsAt r) (sym (drop-map seat_of (length items) items ∙ ap seats_of (drop_all (length items) items (omega arith)))) tt
-
-pub one_behind : (items : List Seat) (r : Interval) (m : ℕ) (x : Seat) → m < length items → x ≡ get_or items m x → is_not_after x.row r ≡ false → StopsAt r (drop m (seats_of items))
-one_behind items r m x lt is not =
-    subst (StopsAt r) (sym (drop-map seat_of m items ∙ ap seats_of (drop_more items m x lt ∙ ap (λ (y : Seat). y ∷ drop (m + 1) items) (sym is)))) not
-
-pub seats_inserted : (items : List Seat) (at : ℕ) (x : Seat) → seats_of (insert_at items at x) ≡ insert_at (seats_of items) at (seat_of x)
-seats_inserted items at x =
-    map-append seat_of (take at items) (x ∷ drop at items)
-    ∙ ap (λ (l : Seats). l ++ seat_of x ∷ seats_of (drop at items)) (sym (take-map seat_of at items))
-    ∙ ap (λ (l : Seats). take at (seats_of items) ++ seat_of x ∷ l) (sym (drop-map seat_of at items))
+pub in_are : (had seats : Seats) → AreSeats had → AreSeats seats → AreSeats (fold (λ had s. seated s had) had seats)
+in_are had [] are more = are
+in_are had (s ∷ seats) are more = in_are (seated s had) seats (are_seated s had more.0 are) more.1
 
 -- each is before those after it
 pub sorted_before : (front : Seats) (s : ℕ × Interval) (back : Seats) → AreSorted (front ++ s ∷ back) → AllBefore front s.1

@@ -1,5 +1,5 @@
 -- The lines of month files with their intervals in order, as they are gathered.
-use Rattle.std.specs.Prelude.{◌≡◌, ℕ, ◌+◌, Bool, true, false, cond, not, ◌||◌, ◌==◌, nat_lt, List}
+use Rattle.std.specs.Prelude.{◌≡◌, ℕ, ◌+◌, ◌*◌, Bool, true, false, cond, not, ◌||◌, ◌==◌, nat_lt, List}
 use Rattle.std.specs.Prelude.{[], ◌∷◌, ◌++◌, map, fold, Option, Some, None, is_some, Result, Err}
 use Rattle.std.specs.List.{flat_map, AllByRecursion}
 use Rattle.tw_world.specs.Folder.{Files}
@@ -14,7 +14,7 @@ use Rattle.timew_store.specs.Held.{bytes_of}
 use Rattle.timew_store.specs.Interval.{IsRow}
 use Rattle.timew_store.specs.Month.{lines}
 use Rattle.timew_store.specs.Placing.{is_not_after}
-use Rattle.timew_store.specs.Rows.{Found, Seats, seated, found_from, month_names, seats_from, in_seats, late_from}
+use Rattle.timew_store.specs.Rows.{Found, Seats, found_from, month_names, seats_from, in_seats, late_from}
 use Rattle.timew_store.specs.Line.{row_of}
 
 -- ---- month files
@@ -67,11 +67,6 @@ abbrev pub line_found : List ℕ → ℕ → List ℕ → List Found
 line_found file n [] = []
 line_found file n (b ∷ line) = record { file = file; line = n; row = row_of (b ∷ line) } ∷ []
 
--- an interval takes its seat, if the line is one
-abbrev pub with_row : ℕ → Option Interval → Seats → Seats
-with_row index None seats = seats
-with_row index (Some r) seats = seated (index, r) seats
-
 -- each is before those that follow it, or equal to them
 abbrev pub AreSorted : Seats → Type 0
 AreSorted [] = Unit {0}
@@ -80,16 +75,30 @@ AreSorted (s ∷ seats) = AllByRecursion (λ t. is_not_after s.1 t.1 ≡ true) s
 abbrev pub AreSeats : Seats → Type 0
 AreSeats seats = AllByRecursion (λ s. IsRow s.1) seats
 
--- what was gathered of lines
+-- lines as they were gathered, one after another
+pub record AreLines (found : List Found) (g : Gathered) : Type 0 where
+  pub spots : map spot_of g.spots.items ≡ map line_spot found
+  pub seats : seats_of g.seats.items ≡ seats_from 0 found
+  pub are : AreSeats (seats_of g.seats.items)
+
+-- these lines are gathered after whatever was
+abbrev pub Gathers : List Found → (before after : Gathered) → Type 0
+Gathers more before after = (found : List Found) → AreLines found before → AreLines (found ++ more) after
+
+-- a number that rises in the order of start and end
+abbrev pub end_rank : Option ℕ → ℕ
+end_rank None = 18446744073709551615
+end_rank (Some end) = end
+
+abbrev pub rank : Interval → ℕ
+rank r = r.start * 18446744073709551616 + end_rank r.end
+
+-- what was gathered of lines, with their intervals in order
 pub record IsGathered (found : List Found) (g : Gathered) : Type 0 where
   pub spots : map spot_of g.spots.items ≡ map line_spot found
   pub seats : seats_of g.seats.items ≡ in_seats (seats_from 0 found)
   pub sorted : AreSorted (seats_of g.seats.items)
   pub are : AreSeats (seats_of g.seats.items)
-
--- these lines are gathered after whatever was
-abbrev pub Gathers : List Found → (before after : Gathered) → Type 0
-Gathers more before after = (found : List Found) → IsGathered found before → IsGathered (found ++ more) after
 
 -- ---- judging
 

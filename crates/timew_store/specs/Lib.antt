@@ -17,6 +17,7 @@ pub mod Growth
 pub mod ReadBack
 pub mod Store
 pub mod StoreUndo
+pub mod Prepared
 pub mod Exact
 pub mod Known
 pub mod Few

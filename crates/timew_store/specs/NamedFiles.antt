@@ -1,11 +1,12 @@
 -- Month files in memory, each with its name, and what a change makes of them.
 use Rattle.std.specs.Prelude.{◌≡◌, ℕ, Bool, cond, List, [], ◌∷◌, ◌++◌, map, fold, Option, Some, None}
 use Rattle.std.specs.List.{list_all}
-use Rattle.tw_world.specs.Folder.{Files, same_bytes, add_name}
+use Rattle.std.specs.FinMap.Entries.{by_order}
+use Rattle.tw_world.specs.Folder.{Files, bytes_cmp, same_bytes, add_name}
 use Rattle.timew_store.specs.declared.interval.Interval.{Interval}
 use Rattle.timew_store.specs.declared.months.MonthFile.{MonthFile}
 use Rattle.timew_store.specs.Body.{FileChange, is_month_name}
-use Rattle.timew_store.specs.Gathered.{NamedBytes, files_of, months_in}
+use Rattle.timew_store.specs.Gathered.{NamedBytes, file_of, files_of, months_in}
 use Rattle.timew_store.specs.Changes.{month_name, file_change, changes_to}
 
 -- the bytes under a name; if there is no file of that name, there are none
@@ -62,3 +63,16 @@ file_after files changes name = (name, bytes_after changes name (bytes_in files 
 
 abbrev pub files_after : List NamedBytes → List FileChange → List NamedBytes
 files_after files changes = map (λ name. file_after files changes name) (names_after files changes)
+
+-- the files with one more in the order of names, in the place of the one of its name
+abbrev pub with_file : NamedBytes → List NamedBytes → List NamedBytes
+with_file f [] = f ∷ []
+with_file f (g ∷ files) = by_order (bytes_cmp f.0 g.0) (f ∷ g ∷ files) (f ∷ files) (g ∷ with_file f files)
+
+-- the files, each with its new bytes
+abbrev pub with_changes : List NamedBytes → List FileChange → List NamedBytes
+with_changes files changes = fold (λ had f. with_file (f.name, f.new) had) files changes
+
+-- the file of a name is put among files by this
+abbrev pub IsPlaceOf : List ℕ → List MonthFile → (MonthFile → List MonthFile) → Type 0
+IsPlaceOf name files put = (file : MonthFile) → file.name ≡ name → files_of (put file) ≡ with_file (file_of file) (files_of files)

@@ -15,11 +15,12 @@ pub struct Edit {
 }
 
 impl Edit {
-    /// The edit that makes the one list of intervals of the other. What both have at the front and at the end stays.
+    /// The edit that makes the one list of intervals of the other.
     pub fn between(rows: &[Interval], next: Vec<Interval>) -> Result<Edit, Memory>
         ensures inside { IfOk result (λ e. e.at + e.count ≤ length rows.now) }
         ensures next { IfOk result (λ e. edited e rows.now ≡ next.items) }
     {
+        // What both have at the front and at the end is left out for speed: its lines need not be made anew.
         let mut next = next;
         let front = same_in_front(rows, &next);
         let (_, old) = rows.split_at(front);

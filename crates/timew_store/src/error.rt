@@ -76,6 +76,26 @@ impl<T: Drop> From<AllocFailed<T>> for StoreError {
     }
 }
 
+/// Why a change is not prepared. Nothing was written.
+#[derive(Clone, Copy, Drop)]
+pub enum PrepareError {
+    /// The store is closed: it is to be loaded again.
+    Closed,
+    /// The record would have so many bytes, more than 2^30.
+    TooLong { bytes: u64 },
+    /// There was no memory.
+    Memory,
+}
+
+/// Why a change that was prepared is not written. The store is to be loaded again.
+#[derive(Clone, Copy, Drop)]
+pub enum WriteError {
+    /// The folder failed. The record is written, and the next load finishes the change.
+    Folder,
+    /// The disk of the journal failed, and the record may be there or not. The folder was not used.
+    Disk,
+}
+
 /// Why a store is not loaded.
 #[derive(Drop)]
 pub enum LoadError {

@@ -1,13 +1,12 @@
 // A store of intervals.
-ghost use Rattle.std.specs.Prelude.{◌≡◌, ◌≤◌, ◌+◌, IfOk, IfErr, OnOk, OnErr, Err as AnErr, true, false};
-ghost use Rattle.std.specs.Vec.{vec_len, vec_capacity};
+ghost use Rattle.std.specs.Prelude.{◌≡◌, IfOk, IfErr, OnOk, OnErr, Err as AnErr, true, false};
 ghost use Rattle.tw_world.specs.Disk as tells;
 ghost use Rattle.tw_world.specs.Crash.{FaultsRise};
 ghost use Rattle.tw_journal.specs.Record.{IsLongerBy};
 ghost use Rattle.timew_store.specs.Body.{AreMonths};
-ghost use Rattle.timew_store.specs.Edit.{edited, IsEditOf};
-ghost use Rattle.timew_store.specs.Held.{replaced, IfTheyOpen, Replaces};
-ghost use Rattle.timew_store.specs.NamedFiles.{are_named};
+ghost use Rattle.timew_store.specs.Edit.{IsEditOf};
+ghost use Rattle.timew_store.specs.Held.{IfTheyOpen, Replaces};
+ghost use Rattle.timew_store.specs.Prepared.{IsPreparedChange, PrepareRefused};
 ghost use Rattle.timew_store.specs.Loading.{Stays, LeavesAlike};
 ghost use Rattle.timew_store.specs.Store.{LoadRefused, IsLoadFault, LoadSparesDisk, intervals_of, is_store_closed, store_end, ChangeRefused};
 ghost use Rattle.timew_store.specs.Store.{LoadsStore, rows_after, IsChangedTo, LeavesChange, ChangeGrows, RestsOnPrepared, LeavesPrepared, PreparedRefused};
@@ -16,11 +15,11 @@ ghost use Rattle.timew_store.specs.Writing.{changes_of};
 ghost use Rattle.timew_store.specs.Growth.{record_size, JournalGrowsBy};
 
 use crate::edit::Edit;
-use crate::error::{LoadError, StoreError, UndoError};
-use crate::interval::Interval;
-use crate::interval::list::{Intervals, splice};
+use crate::error::{LoadError, PrepareError, StoreError, UndoError};
+use crate::interval::list::Intervals;
 use crate::load::open_and_finish;
-use crate::months::{MonthFile, Months};
+use crate::months::Months;
+use crate::prepare::PreparedChange;
 use crate::read::folder::read_months;
 use crate::undo::{last_change, prepared_undo};
 use crate::write::change::write_change;
@@ -30,6 +29,9 @@ use std::mem::replace;
 use tw_journal::{Journal, JournalError};
 use tw_world::{Disk, Folder};
 
+// The bytes that a record has at most, with its gate and length.
+const MAX_RECORD: usize = 1 << 30;
+
 /// The intervals of a folder's month files, over a journal of their changes.
 ///
 /// A change is in the journal before the files are replaced, so that loading finishes one that was cut off.
@@ -38,7 +40,7 @@ pub struct Store {
     pub(crate) journal: Journal,
     pub(crate) months: Months,
     // The months before the last undo: they go with the store, since to let them go takes time with each interval.
-    before: Option<Months>,
+    pub(crate) before: Option<Months>,
 }
 
 // It is written out, so that a caller does not prove again how each part is dropped.
@@ -115,36 +117,54 @@ impl Store {
         if self.journal.is_closed() {
             return Err(StoreError::Journal(JournalError::Closed));
         }
-        let prepared = prepared_edit(alloc, &self.months, &edit)?;
-        let Months { files, rows, known } = replace(&mut self.months, Months::none(alloc));
-        let rows = match rows.with_room(edit.rows.len()) {
-            Ok(rows) => rows,
-            Err(rows) => {
-                self.months = Months { files, rows, known };
+        let months = replace(&mut self.months, Months::none(alloc));
+        let made = match prepared_edit(alloc, months, edit) {
+            Ok(made) => made,
+            Err(months) => {
+                self.months = months;
                 return Err(StoreError::Memory);
             }
         };
-        if prepared.changes.len() == 0 {
-            self.months = months_after(alloc, prepared.into_files(), rows, edit);
-            return Ok(());
-        }
-        match write_change(
-            &mut self.journal,
-            folder,
-            disk,
-            &prepared.changes,
-            &prepared.body,
-        ) {
+        match made.write(&mut self.journal, folder, disk) {
             Ok(()) => {
-                self.months = months_after(alloc, prepared.into_files(), rows, edit);
+                self.months = made.into_after();
                 Ok(())
             }
             Err(error) => {
-                let rows = Intervals::from_rows(rows);
-                self.months = Months { files, rows, known };
+                self.months = made.into_before();
                 Err(error)
             }
         }
+    }
+
+    /// Prepares what `change` does: all that wants memory is done, and nothing is written.
+    pub fn prepare(self, alloc: Global, edit: Edit) -> Result<PreparedChange, PrepareError>
+        requires edit { IsEditOf (intervals_of self) edit }
+        ensures prepared { IfOk result (λ p. IsPreparedChange self edit p) }
+        ensures refused { IfErr result (λ e. PrepareRefused self (rows_after edit self) e) }
+    {
+        let Store {
+            journal,
+            months,
+            before,
+        } = self;
+        if journal.is_closed() {
+            return Err(PrepareError::Closed);
+        }
+        let Ok(made) = prepared_edit(alloc, months, edit) else {
+            return Err(PrepareError::Memory);
+        };
+        let bytes = made.body.len() + 5;
+        if bytes > MAX_RECORD {
+            return Err(PrepareError::TooLong {
+                bytes: bytes as u64,
+            });
+        }
+        Ok(PreparedChange {
+            journal,
+            made,
+            before,
+        })
     }
 
     /// Takes back the last change that is not undone: its files get their old bytes back.
@@ -217,27 +237,5 @@ impl Store {
         ensures journal { self.new.journal ≡ self.old.journal }
     {
         self.before = Some(replace(&mut self.months, months));
-    }
-}
-
-// These month files with the intervals after an edit, for which there is room.
-fn months_after(alloc: Global, files: Vec<MonthFile>, rows: Vec<Interval>, edit: Edit) -> Months
-    requires edit { IsEditOf rows.items edit }
-    requires room { vec_len rows + vec_len edit.rows ≤ vec_capacity rows }
-    requires named { are_named files.items ≡ true }
-    ensures files { result.files ≡ files }
-    ensures rows { result.rows ≡ edited edit rows.items }
-{
-    let Edit {
-        at,
-        count,
-        rows: new,
-    } = edit;
-    let mut rows = rows;
-    splice(&mut rows, at, count, new);
-    Months {
-        files,
-        rows: Intervals::from_rows(rows),
-        known: Vec::new(alloc),
     }
 }

@@ -61,6 +61,18 @@ impl Kept {
         Ok(store.change(alloc, &mut self.folder, &mut self.disk, edit))
     }
 
+    // Loads a store, prepares that it gets the intervals of lines, and writes that.
+    fn prepare(&mut self, lines: &str) -> Result<bool, Fail> {
+        let alloc = self.alloc;
+        let rows = read_month(alloc, lines.as_bytes()).or(Err("a bad line"))?;
+        let next = Intervals::in_order(rows).ok_or("out of order")?.into_rows();
+        let store = Store::load(alloc, &mut self.folder, &mut self.disk);
+        let store = store.or(Err("no store"))?;
+        let edit = Edit::between(store.intervals().as_slice(), next)?;
+        let prepared = store.prepare(alloc, edit).or(Err("not prepared"))?;
+        Ok(prepared.write(&mut self.folder, &mut self.disk).is_ok())
+    }
+
     // Whether the intervals of lines get into the store.
     fn change(&mut self, lines: &str) -> Result<bool, Fail> {
         Ok(self.changed(lines)?.is_ok())
@@ -168,6 +180,14 @@ fn changes_are_taken_back_one_after_another(rt: HostRuntime) -> Result<(), Fail>
     let mut kept = keeping(rt.alloc(), &[], &[])?;
     assert!(rt; kept.change_in_turn(&[FIRST, FIRST, SECOND, ""])?);
     assert!(rt; kept.undo_in_turn(&[SECOND, FIRST, ""])? && kept.undo_says("nothing")?);
+    Ok(())
+}
+
+#[test]
+fn a_prepared_change_is_written(rt: HostRuntime) -> Result<(), Fail> {
+    let mut kept = keeping(rt.alloc(), &[], &[])?;
+    assert!(rt; kept.prepare(FIRST)? && kept.prepare(SECOND)? && kept.prepare(SECOND)?);
+    assert!(rt; kept.holds("2026-01.data", SECOND) && kept.undo_in_turn(&[FIRST, ""])?);
     Ok(())
 }
 

@@ -127,6 +127,7 @@ impl Intervals {
         ensures rows { IfOk result (λ rows. rows.items ≡ self) }
         ensures room { IfOk result (λ rows. vec_len rows + more ≤ vec_capacity rows) }
         ensures err { IfErr result (λ same. same ≡ self) }
+        ensures are { AreRows self }
     {
         let Intervals { rows } = self;
         let mut rows = rows;

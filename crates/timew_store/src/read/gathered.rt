@@ -1,12 +1,10 @@
 // Gathering the lines of month files, with their intervals in order.
-ghost use Rattle.std.specs.Prelude.{◌≡◌, ◌≤◌, ℕ, length, OnOk, IfOk};
-ghost use Rattle.std.specs.List.{insert as insert_at};
-ghost use Rattle.timew_store.specs.Gathered.{files_of, lines_in, line_found, seats_of, AreSorted, IsGathered, with_row, Gathers};
+ghost use Rattle.std.specs.Prelude.{[], ◌++◌, ◌≡◌, OnOk, IfOk};
+ghost use Rattle.timew_store.specs.Gathered.{files_of, lines_in, line_found, seats_of, AreSeats, IsGathered, Gathers, end_rank, rank};
 ghost use Rattle.timew_store.specs.Month.{lines};
-ghost use Rattle.timew_store.specs.Rows.{found_from, seated};
+ghost use Rattle.timew_store.specs.Rows.{found_from, seat, in_seats};
 
 use crate::interval::Interval;
-use crate::interval::order::is_not_after;
 use crate::months::MonthFile;
 use crate::read::line::read_line;
 use crate::read::month::line_length;
@@ -35,37 +33,14 @@ pub(crate) struct Gathered {
     pub seats: Vec<Seat>,
 }
 
-// The index after the last interval that is not after this one. Lines are mostly in order, so it is sought from the end.
-fn index_for(seats: &Vec<Seat>, row: &Interval) -> usize
-    requires { AreSorted (seats_of seats.now.items) }
-    ensures inside { result ≤ length seats.now.items }
-    ensures index { (n : ℕ) → seated (n, row.now) (seats_of seats.now.items) ≡ insert_at (seats_of seats.now.items) result (n, row.now) }
-{
-    let mut at = seats.len();
-    while at > 0 && !is_not_after(&seats[at - 1].row, row) {
-        at -= 1;
-    }
-    at
-}
-
-fn add_seat(seats: &mut Vec<Seat>, index: usize, row: Interval) -> Result<(), Memory>
-    requires { AreSorted (seats_of seats.old.items) }
-    ensures { OnOk result (seats_of seats.new.items ≡ seated (index, row) (seats_of seats.old.items)) }
-{
-    let at = index_for(seats, &row);
-    seats.insert(at, Seat { index, row })?;
-    Ok(())
-}
-
-// An interval takes its seat, if the line is one.
+// An interval is put after the others, if the line is one.
 fn add_row(seats: &mut Vec<Seat>, index: usize, row: Option<Interval>) -> Result<(), Memory>
-    requires { AreSorted (seats_of seats.old.items) }
-    ensures { OnOk result (seats_of seats.new.items ≡ with_row index row (seats_of seats.old.items)) }
+    ensures { OnOk result (seats_of seats.new.items ≡ seats_of seats.old.items ++ seat index row []) }
 {
-    match row {
-        Some(row) => add_seat(seats, index, row),
-        None => Ok(()),
+    if let Some(row) = row {
+        seats.push(Seat { index, row })?;
     }
+    Ok(())
 }
 
 // Gathers one line, if it is not empty.
@@ -76,9 +51,7 @@ fn add_line(
     line: u64,
     bytes: &[u8],
 ) -> Result<(), Memory>
-    requires { AreSorted (seats_of gathered.old.seats.items) }
-    ensures gathered { OnOk result (Gathers (line_found file.now line bytes.now) gathered.old gathered.new) }
-    ensures sorted { OnOk result (AreSorted (seats_of gathered.new.seats.items)) }
+    ensures { OnOk result (Gathers (line_found file.now line bytes.now) gathered.old gathered.new) }
 {
     if bytes.len() == 0 {
         return Ok(());
@@ -94,9 +67,7 @@ fn add_line(
 
 // Gathers the lines of a file.
 fn gather_file(alloc: Global, gathered: &mut Gathered, file: &MonthFile) -> Result<(), Memory>
-    requires { AreSorted (seats_of gathered.old.seats.items) }
-    ensures gathered { OnOk result (Gathers (found_from file.now.name 1 (lines file.now.bytes.items)) gathered.old gathered.new) }
-    ensures sorted { OnOk result (AreSorted (seats_of gathered.new.seats.items)) }
+    ensures { OnOk result (Gathers (found_from file.now.name 1 (lines file.now.bytes.items)) gathered.old gathered.new) }
 {
     let mut rest = file.bytes.as_slice();
     let mut number = 1;
@@ -112,6 +83,30 @@ fn gather_file(alloc: Global, gathered: &mut Gathered, file: &MonthFile) -> Resu
     }
 }
 
+fn end_rank(end: Option<u64>) -> u64
+    ensures { result ≡ end_rank end }
+{
+    match end {
+        Some(end) => end,
+        None => u64::MAX,
+    }
+}
+
+fn rank(row: &Interval) -> u128
+    ensures { result ≡ rank row.now }
+{
+    u128::from(row.start) * 18_446_744_073_709_551_616 + u128::from(end_rank(row.end))
+}
+
+// Puts intervals in order. Equals stay in the order of their lines.
+fn sort(seats: &mut Vec<Seat>) -> Result<(), Memory>
+    requires { AreSeats (seats_of seats.old.items) }
+    ensures { OnOk result (seats_of seats.new.items ≡ in_seats (seats_of seats.old.items)) }
+{
+    seats.sort_by_key(|seat| rank(&seat.row))?;
+    Ok(())
+}
+
 /// Gathers the lines of files, in their order.
 pub(crate) fn gather(alloc: Global, files: &Vec<MonthFile>) -> Result<Gathered, Memory>
     ensures { IfOk result (IsGathered (lines_in (files_of files.now.items))) }
@@ -123,5 +118,6 @@ pub(crate) fn gather(alloc: Global, files: &Vec<MonthFile>) -> Result<Gathered, 
     for file in files {
         gather_file(alloc, &mut gathered, file)?;
     }
+    sort(&mut gathered.seats)?;
     Ok(gathered)
 }

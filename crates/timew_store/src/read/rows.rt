@@ -182,6 +182,7 @@ fn rows_in_order(alloc: Global, files: &Vec<MonthFile>) -> Result<Intervals, Row
 }
 
 /// The intervals of month files in order, or the first bad line: one that is no interval, or overlaps one before it.
+/// That a file is known to be their text is for speed: a change need not make its lines anew.
 pub(crate) fn read_known(alloc: Global, files: &Vec<MonthFile>) -> Result<ReadRows, RowsError>
     ensures ok { IfOk result (λ read. judged (lines_in (files_of files.now.items)) ≡ Ok read.rows) }
     ensures err { IfErr result (λ e. RowsRefused e (judged (lines_in (files_of files.now.items)))) }

@@ -3,13 +3,13 @@ use Rattle.std.specs.Prelude.{is_some}
 use Rattle.timew_store.specs.declared.interval.Interval.{Interval}
 use Rattle.timew_store.specs.declared.read.gathered.Gathered.{Gathered}
 use Rattle.timew_store.specs.declared.read.gathered.Spot.{Spot}
-use Rattle.timew_store.specs.Rows.{Found}
-use Rattle.timew_store.specs.Gathered.{IsGathered, line_found, seats_of, with_row}
-use Rattle.timew_store.proofs.GatheredLines.{gathered_more, gathered_none, line_is, place_is, row_kept_sorted}
+use Rattle.timew_store.specs.Rows.{Found, seat}
+use Rattle.timew_store.specs.Gathered.{AreLines, line_found, seats_of}
+use Rattle.timew_store.proofs.GatheredLines.{lines_more, lines_none, line_is, place_is}
 use Rattle.timew_store.proofs.read.gathered.add_line.Goals as goal
 
-pub returns-clause-gathered : goal.returns-clause-gathered
-returns-clause-gathered c = λ found was.
+pub returns : goal.returns
+returns c = λ found was.
     let row = c.in_ok-row.row in
     let new : Gathered = record { spots = c.push.new.self; seats = c.add_row.new.seats } in
     let f : Found = record { file = c.args.file.now; line = c.args.line; row = row } in
@@ -17,12 +17,9 @@ returns-clause-gathered c = λ found was.
     let so_many : c.len-index.result ≡ length c.args.gathered.now.spots.items = omega (arith, c.args.gathered.now.spots.ok.0) in
     let one : line_found c.args.file.now c.args.line c.args.bytes.now ≡ f ∷ [] =
     line_is c.args.file.now c.args.line c.args.bytes.now (λ none. omega (arith, c.if-bytes-eq0.false, none)) ∙ ap (λ (o : Option Interval). (let g : Found = record { file = c.args.file.now; line = c.args.line; row = o } in g ∷ [])) (sym c.in_ok-row.ensures.row) in
-    subst (λ (l : List Found). IsGathered (found ++ l) new) (sym one)
-    (gathered_more found c.args.gathered.now new spot f was c.in_ok-row.ensures.is (place_is spot.file f.file c.args.line spot.is_row (is_some row) c.in_ok-file.ensures c.is_some-is_row.ensures) c.in_ok-push.ensures.items
-    (c.in_ok-add_row.ensures ∙ ap (λ (n : ℕ). with_row n row (seats_of c.args.gathered.now.seats.items)) so_many))
+    subst (λ (l : List Found). AreLines (found ++ l) new) (sym one)
+    (lines_more found c.args.gathered.now new spot f was c.in_ok-row.ensures.is (place_is spot.file f.file c.args.line spot.is_row (is_some row) c.in_ok-file.ensures c.is_some-is_row.ensures) c.in_ok-push.ensures.items
+    (c.in_ok-add_row.ensures ∙ ap (λ (n : ℕ). seats_of c.args.gathered.now.seats.items ++ seat n row []) so_many))
 
-pub returns-clause-sorted : goal.returns-clause-sorted
-returns-clause-sorted c = row_kept_sorted c.len-index.result c.in_ok-row.row (seats_of c.args.gathered.now.seats.items) (seats_of c.add_row.new.seats.items) c.requires c.in_ok-add_row.ensures
-
-pub returns-then-bytes-eq0-clause-gathered : goal.returns-then-bytes-eq0-clause-gathered
-returns-then-bytes-eq0-clause-gathered c = λ found was. gathered_none found c.args.file.now c.args.line c.args.bytes.now c.args.gathered.now c.if-bytes-eq0.true was
+pub returns-then-bytes-eq0 : goal.returns-then-bytes-eq0
+returns-then-bytes-eq0 c = λ found was. lines_none found c.args.file.now c.args.line c.args.bytes.now c.args.gathered.now c.if-bytes-eq0.true was

@@ -2,18 +2,18 @@ use Rattle.std.proofs.Common.{arith, ◌≡◌, ◌+◌, ◌++◌, ap, subst, �
 use Rattle.std.proofs.lemmas.List.{take_all}
 use Rattle.timew_store.specs.Month.{lines}
 use Rattle.timew_store.specs.Rows.{Found, found_from}
-use Rattle.timew_store.specs.Gathered.{IsGathered, line_found}
+use Rattle.timew_store.specs.Gathered.{AreLines, line_found}
 use Rattle.timew_store.proofs.LinesOfFile.{no_more, some_more}
 use Rattle.timew_store.proofs.GatheredLines.{found_goes_on, found_ends}
 use Rattle.timew_store.proofs.read.gathered.gather_file.Goals as goal
 
-pub returns-then-more-eq0-clause-gathered : goal.returns-then-more-eq0-clause-gathered
-returns-then-more-eq0-clause-gathered c = λ found was.
+pub returns-then-more-eq0 : goal.returns-then-more-eq0
+returns-then-more-eq0 c = λ found was.
     let st = c.loop-rest.invariant.1 found was in
     let name = c.args.file.now.name in
     let last = no_more c.loop-rest.rest.now c.split_at.result.0.now c.split_at.result.1.now c.line_length-size.result c.line_length-size.ensures.value c.split_at.ensures.front c.split_at.ensures.back c.line_length-size.ensures.inside c.if-more-eq0.true in
-    subst (λ (l : List Found). IsGathered l c.add_line.new.gathered) (found_ends st.0 name c.loop-rest.number c.split_at.result.0.now (lines c.loop-rest.rest.now) (found ++ found_from name 1 (lines c.args.file.now.bytes.items)) last st.2)
-    (c.in_ok-add_line.ensures.gathered st.0 st.1)
+    subst (λ (l : List Found). AreLines l c.add_line.new.gathered) (found_ends st.0 name c.loop-rest.number c.split_at.result.0.now (lines c.loop-rest.rest.now) (found ++ found_from name 1 (lines c.args.file.now.bytes.items)) last st.2)
+    (c.in_ok-add_line.ensures st.0 st.1)
 
 pub loop-rest-preserved : goal.loop-rest-preserved
 loop-rest-preserved c =
@@ -27,9 +27,8 @@ loop-rest-preserved c =
           let st = c.loop-rest.invariant.1 found was in
           let total = found ++ found_from name 1 (lines c.args.file.now.bytes.items) in (
             st.0 ++ line_found name c.loop-rest.number c.split_at.result.0.now,
-            c.in_ok-add_line.ensures.gathered st.0 st.1,
+            c.in_ok-add_line.ensures st.0 st.1,
             ap (λ (l : List ℕ). (st.0 ++ line_found name c.loop-rest.number c.split_at.result.0.now) ++ found_from name (c.loop-rest.number + 1) (lines l)) cut
                 ∙ found_goes_on st.0 name c.loop-rest.number c.split_at.result.0.now (lines c.loop-rest.rest.now) (lines (drop 1 back)) total more st.2,
           ),
-      c.in_ok-add_line.ensures.sorted,
     )

@@ -1,17 +1,24 @@
-use Rattle.std.proofs.Common.{List, ap, ◌∙◌}
-use Rattle.timew_store.specs.Body.{FileChange}
-use Rattle.timew_store.specs.Gathered.{files_of}
-use Rattle.timew_store.specs.Held.{replaced}
-use Rattle.timew_store.specs.Rows.{rows_of}
-use Rattle.timew_store.specs.Writing.{changes_of}
-use Rattle.timew_store.proofs.MonthsAfter.{months_after, named_after}
+use Rattle.std.proofs.Common.{refl, sym, subst, rules}
+use Rattle.timew_store.specs.Interval.{AreRows}
+use Rattle.timew_store.proofs.PreparedEdits.{put_back}
 use Rattle.timew_store.proofs.write.prepared.prepared_edit.Goals as goal
 
-pub returns-clause-files : goal.returns-clause-files
-returns-clause-files c = λ files hold. c.in_ok-files.ensures ∙ months_after files (files_of c.args.months.now.files.items) (changes_of c.in_ok-changes.changes.items) hold.files_are c.in_ok-changes.ensures.named
+pub returns-in-Ok-with_room-clause-prepared : goal.returns-in-Ok-with_room-clause-prepared
+returns-in-Ok-with_room-clause-prepared c = record {
+  files = refl;
+  rows = c.in-Ok-with_room.ensures.rows;
+  are = subst AreRows (sym c.in-Ok-with_room.ensures.rows) c.with_room.ensures.are;
+  known = refl;
+  edit_is = refl;
+  edits = c.requires;
+  room = search rules;
+  empty = search rules;
+  places = search rules;
+  named = search rules;
+  body = search rules;
+  changes = search rules;
+  hold = search rules;
+}
 
-pub returns-clause-rows : goal.returns-clause-rows
-returns-clause-rows c = λ files hold. ap (λ (changes : List FileChange). rows_of (replaced files changes)) (c.in_ok-changes.ensures.changes files hold.files_are) ∙ c.in_ok-changes.ensures.hold files
-
-pub returns-clause-good : goal.returns-clause-good
-returns-clause-good c = named_after c.in_ok-files.files.items c.args.months.now.files.items (changes_of c.in_ok-changes.changes.items) c.in_ok-files.ensures c.args.months.now.named c.in_ok-changes.ensures.named
+pub returns-in-Err-clause-same : goal.returns-in-Err-clause-same
+returns-in-Err-clause-same c = put_back c.args.months c.args.months.files c.in-Err.rows c.args.months.known refl c.in-Err.ensures.err refl _ _

@@ -1,0 +1,14 @@
+//! Hours that follow tasks: which intervals there are once active tasks have driven them.
+//! The intervals are one function of the tasks, the intervals and the moment, and a second use of it changes nothing.
+//! It stands on timew_store (intervals), tw_urgency (what properties mean) and tw_model (tasks).
+#![tactic(auto)]
+
+mod active;
+mod closing;
+mod driving;
+mod free;
+mod label;
+pub mod laws;
+mod named;
+
+pub use driving::{tail_of, track, track_tail};
