@@ -8,6 +8,8 @@ mod commands;
 #[cfg(test)]
 mod damage;
 #[cfg(test)]
+mod hooks;
+#[cfg(test)]
 mod imports;
 #[cfg(test)]
 mod instances;

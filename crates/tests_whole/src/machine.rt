@@ -3,10 +3,12 @@
 use std::alloc::Global;
 use std::test::Fail;
 use tw_cli::{Cause, Outcome, task_run};
+use tw_files::FailingFolder;
 use tw_replica::Replica;
 use tw_server::{Fate, LinkStep, MemoryLink};
+use tw_spawn::MemorySpawner;
 use tw_time::Zone;
-use tw_world::{IdWords, MemoryDisk, MemorySink, MemorySource, Moment};
+use tw_world::{FailingDisk, IdWords, MemoryDisk, MemorySink, MemorySource, Moment};
 use uuid::Uuid;
 
 const CLIENT: [u8; 16] = [
@@ -79,11 +81,26 @@ pub struct Given<'a> {
     pub input: &'a str,
     /// The numbers of the reads of the input that fail.
     pub input_fails: &'a [u64],
+    /// The name of its one hook, if that is not empty, and the status and output with which that answers first.
+    pub hook: &'a str,
+    pub status: u8,
+    pub answer: &'a str,
 }
 
 impl<'a> Given<'a> {
-    /// Identifiers from `first` on, this second, UTC, no settings and no input.
+    /// Identifiers from `first` on, this second, UTC, no settings, no input and no hooks.
     pub fn new(first: u128, second: u64) -> Given<'a> {
+        Given::hooked(first, second, "", 0, "")
+    }
+
+    /// The same, over one hook that answers so.
+    pub fn hooked(
+        first: u128,
+        second: u64,
+        hook: &'a str,
+        status: u8,
+        answer: &'a str,
+    ) -> Given<'a> {
         Given {
             first,
             second,
@@ -91,6 +108,9 @@ impl<'a> Given<'a> {
             settings: "",
             input: "",
             input_fails: &[],
+            hook,
+            status,
+            answer,
         }
     }
 }
@@ -143,6 +163,26 @@ fn source_of(alloc: Global, given: &Given<'_>) -> Result<MemorySource, Fail> {
     Ok(MemorySource::new(alloc, content, given.input_fails.to_vec(alloc)?)?)
 }
 
+fn hook_names(alloc: Global, given: &Given<'_>) -> Result<Vec<String>, Fail> {
+    let mut names = Vec::new(alloc);
+    if !given.hook.is_empty() {
+        names.push(String::from_str(alloc, given.hook)?)?;
+    }
+    Ok(names)
+}
+
+fn hook_answers(alloc: Global, given: &Given<'_>) -> Result<Vec<(u8, Vec<u8>)>, Fail> {
+    let mut answers = Vec::new(alloc);
+    answers.push((given.status, given.answer.as_bytes().to_vec(alloc)?))?;
+    Ok(answers)
+}
+
+fn hooks_of(alloc: Global, given: &Given<'_>) -> Result<MemorySpawner, Fail> {
+    let names = hook_names(alloc, given)?;
+    let answers = hook_answers(alloc, given)?;
+    Ok(MemorySpawner::new(alloc, names, answers, Vec::new(alloc))?)
+}
+
 fn sink_of(alloc: Global, fails: &[u64]) -> Result<MemorySink, Fail> {
     Ok(MemorySink::new(alloc, Vec::new(alloc), fails.to_vec(alloc)?)?)
 }
@@ -187,6 +227,9 @@ pub fn run_given(
         start: given.first,
         step: 1,
     };
+    let mut hooks = hooks_of(alloc, given)?;
+    let mut months = FailingFolder::new();
+    let mut hours = FailingDisk::new();
     let outcome = task_run(
         alloc,
         &words,
@@ -199,6 +242,9 @@ pub fn run_given(
         &mut streams.input,
         &mut streams.out,
         &mut streams.err,
+        &mut hooks,
+        &mut months,
+        &mut hours,
     );
     Ok(streams.ended(outcome))
 }

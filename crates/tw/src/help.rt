@@ -106,7 +106,8 @@ virtual tags:
 
 The tasks are in the file replica.journal, in the folder that the variable
 TASKDATA names, or the setting data.location; without them in .task of the
-folder that HOME names. The working hours are in the folder that TIMEWARRIORDB
+folder that HOME names; scripts in the folder hooks beside it see each task
+before it is stored. The working hours are in the folder that TIMEWARRIORDB
 names; without it in .timewarrior of the folder that HOME names. A folder that
 is not there is made, and so is the server's file.
 
@@ -125,10 +126,11 @@ the folder that HOME names. A word rc.NAME=VALUE sets one for a run:
 
 settings:
   data.location sync.server.url sync.server.client_id gc recurrence
-  recurrence.limit urgency.age.max urgency.user.tag.next.coefficient
-  urgency.due.coefficient urgency.blocking.coefficient
-  urgency.uda.priority.H.coefficient urgency.uda.priority.M.coefficient
-  urgency.uda.priority.L.coefficient urgency.scheduled.coefficient
+  recurrence.limit hooks timetrack urgency.age.max
+  urgency.user.tag.next.coefficient urgency.due.coefficient
+  urgency.blocking.coefficient urgency.uda.priority.H.coefficient
+  urgency.uda.priority.M.coefficient urgency.uda.priority.L.coefficient
+  urgency.scheduled.coefficient
   urgency.active.coefficient urgency.age.coefficient
   urgency.annotations.coefficient urgency.tags.coefficient
   urgency.project.coefficient urgency.blocked.coefficient
@@ -140,6 +142,7 @@ status:
   2 a word or setting is wrong  7 the journal or a month file is damaged
   3 the journal failed          8 the input failed or does not fit, or the
   4 out of memory                 folder of the month files failed
+                                9 a hook refused a task, or failed
 ";
 
 /// The program's name and version. The change log has the same version.

@@ -3,12 +3,15 @@
 use crate::disk::disk_at;
 use crate::link::TcpLink;
 use crate::settings::settings;
-use crate::start::{StartError, moment, seed};
+use crate::start::{StartError, moment, seed, variable};
 use crate::task_paths::{replica_path, task_folder};
 use crate::zone::zone;
 use std::alloc::Global;
+use std::fs::File;
 use tw_cli::{link_address, needs_store, task_run};
-use tw_files::{Stream, StreamSource};
+use tw_files::{Busy, FailingFolder, FileDisk, ProcessSpawner, Stream, StreamSource};
+use tw_http::Link;
+use tw_spawn::Spawner;
 use tw_time::Zone;
 use tw_world::{Disk, FailingDisk, IdWords, Moment};
 
@@ -17,30 +20,63 @@ use tw_world::{Disk, FailingDisk, IdWords, Moment};
 pub fn run_task(rt: &HostRuntime, alloc: Global, words: &Vec<String>) -> Result<u8, StartError> {
     let zone = zone(rt)?;
     let settings = settings(rt, alloc)?;
-    let path = path_of(rt, alloc, &settings)?;
+    run_in_zone(rt, alloc, words, &settings, &zone)
+}
+
+fn run_in_zone(
+    rt: &HostRuntime,
+    alloc: Global,
+    words: &Vec<String>,
+    settings: &Vec<u8>,
+    zone: &Zone,
+) -> Result<u8, StartError> {
+    let folder = task_folder(rt, alloc, settings)?;
+    run_in(rt, alloc, words, settings, zone, folder.as_str())
+}
+
+fn run_in(
+    rt: &HostRuntime,
+    alloc: Global,
+    words: &Vec<String>,
+    settings: &Vec<u8>,
+    zone: &Zone,
+    folder: &str,
+) -> Result<u8, StartError> {
     let now = moment(rt)?;
     let mut ids = IdWords::from_seed(seed(rt)?);
-    let opened = if needs_store(alloc, words, &settings, now, &zone)? {
-        disk_at(rt, path.as_str())?
+    let opened = if needs_store(alloc, words, settings, now, zone)? {
+        store_in(rt, alloc, folder)?
     } else {
         None
     };
     match opened {
-        Some(mut disk) => run_over(rt, alloc, words, &settings, now, &zone, &mut ids, &mut disk),
+        Some(mut disk) => run_over(
+            rt, alloc, words, settings, now, zone, &mut ids, &mut disk, folder,
+        ),
         None => {
             let mut disk = FailingDisk::new();
-            run_over(rt, alloc, words, &settings, now, &zone, &mut ids, &mut disk)
+            run_over(
+                rt, alloc, words, settings, now, zone, &mut ids, &mut disk, folder,
+            )
         }
     }
 }
 
-// The path of the journal.
-fn path_of(rt: &HostRuntime, alloc: Global, settings: &Vec<u8>) -> Result<String, StartError> {
-    let folder = task_folder(rt, alloc, settings)?;
-    replica_path(alloc, folder.as_str())
+// The journal in a folder. A run that a hook starts does not wait for it: the run that started the hook holds it, and waits for the hook.
+fn store_in(
+    rt: &HostRuntime,
+    alloc: Global,
+    folder: &str,
+) -> Result<Option<FileDisk<File>>, StartError> {
+    let path = replica_path(alloc, folder)?;
+    let busy = match variable(rt, "TW_HOOK")? {
+        Some(_) => Busy::Fail,
+        None => Busy::Wait,
+    };
+    disk_at(rt, path.as_str(), busy)
 }
 
-// Carries the words out over a disk, and over a link to the server that the settings name.
+// Carries the words out over a disk, the hooks of the folder, and a link to the server that the settings name.
 fn run_over<D: Disk>(
     rt: &HostRuntime,
     alloc: Global,
@@ -50,13 +86,48 @@ fn run_over<D: Disk>(
     zone: &Zone,
     ids: &mut IdWords,
     disk: &mut D,
+    folder: &str,
 ) -> Result<u8, StartError> {
     let mut link = TcpLink::new(rt, link_address(alloc, words, settings)?);
+    let mut hooks = ProcessSpawner::new(alloc, rt, folder)?;
+    Ok(run_beside(
+        rt, alloc, words, settings, now, zone, ids, disk, &mut link, &mut hooks,
+    ))
+}
+
+// The same over the streams of the program.
+fn run_beside<D: Disk, L: Link, P: Spawner>(
+    rt: &HostRuntime,
+    alloc: Global,
+    words: &Vec<String>,
+    settings: &Vec<u8>,
+    now: Moment,
+    zone: &Zone,
+    ids: &mut IdWords,
+    disk: &mut D,
+    link: &mut L,
+    hooks: &mut P,
+) -> u8 {
     let mut input = StreamSource::new(rt.stdin());
     let mut out = Stream::new(rt.stdout());
     let mut err = Stream::new(rt.stderr());
+    let mut months = FailingFolder::new();
+    let mut hours = FailingDisk::new();
     let outcome = task_run(
-        alloc, words, settings, now, zone, ids, disk, &mut link, &mut input, &mut out, &mut err,
+        alloc,
+        words,
+        settings,
+        now,
+        zone,
+        ids,
+        disk,
+        link,
+        &mut input,
+        &mut out,
+        &mut err,
+        hooks,
+        &mut months,
+        &mut hours,
     );
-    Ok(outcome.status)
+    outcome.status
 }

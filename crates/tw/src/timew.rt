@@ -8,7 +8,7 @@ use std::alloc::Global;
 use std::io::ErrorKind;
 use timew_cli::timew_run;
 use timew_cmd::{WordsError, read_words};
-use tw_files::{FailingFolder, Stream, open_folder};
+use tw_files::{Busy, FailingFolder, Stream, open_folder};
 use tw_time::Zone;
 use tw_world::{Disk, FailingDisk, Folder, Moment};
 
@@ -21,7 +21,7 @@ pub fn run_timew(rt: &HostRuntime, alloc: Global, words: &Vec<String>) -> Result
     let path = undo_path(alloc, folder.as_str())?;
     // The journal's file is locked before the folder of the months is looked at.
     let opened = if are_good(alloc, words, now, &zone)? {
-        disk_at(rt, path.as_str())?
+        disk_at(rt, path.as_str(), Busy::Wait)?
     } else {
         None
     };

@@ -1,8 +1,9 @@
 -- What a run does to the agreement of a replica with the chain.
 use Rattle.std.proofs.Common.{◌≡◌, ◌⊎◌, inl, inr, ⊎_elim, sym, subst, refl, List, ℕ, ◌++◌, IsTrue, Option, Some, None, Result, Ok, Err}
 use Rattle.tw_world.specs.Disk.{DiskModel, Tells, LeavesOnly}
-use Rattle.tw_world.specs.Sink.{SinkModel}
 use Rattle.tw_world.specs.Source.{SourceModel}
+use Rattle.tw_spawn.specs.Spawner.{SpawnerModel}
+use Rattle.tw_model.specs.Ops.{TaskValue}
 use Rattle.tw_world.proofs.Moments.{CountsNow, weaker}
 use Rattle.tw_journal.specs.Form.{Records, has_areas}
 use Rattle.tw_journal.proofs.Unique.{one_records}
@@ -28,6 +29,7 @@ use Rattle.tw_commands.specs.Marks.{mask_changes}
 use Rattle.tw_commands.specs.Plan.{Plan, Work, step_in}
 use Rattle.tw_commands.specs.Plan.Work.{Changes, TakeBack}
 use Rattle.tw_commands.specs.Commands.{plan_of}
+use Rattle.tw_commands.specs.Asks.{answered_with}
 use Rattle.tw_commands.specs.Carried.{Carried, carried_by, carried_out}
 use Rattle.tw_commands.specs.declared.request.Request.{Request}
 use Rattle.tw_commands.specs.declared.refusal.Refusal.{Refusal}
@@ -37,7 +39,7 @@ use Rattle.tw_cli.specs.Input.{WithInput, with_input}
 use Rattle.tw_cli.specs.Run.{CarriedOut}
 use Rattle.tw_cli.specs.Crash.{LeavesRecords, IsStepOf, LeavesBy, LeavesCommand, LeavesOneEnd, new_of, next_of}
 use Rattle.tw_cli.specs.Syncing.{Synced}
-use Rattle.tw_cli.specs.Whole.{went, RunGives, RunLeaves, IsHonestFor, IsRun}
+use Rattle.tw_cli.specs.Whole.{Models, Outside, RunGives, RunLeaves, IsHonestFor, IsRun}
 use Rattle.tw_cli.specs.Agreement.{OpensAgreeing, AllAgree, AgreementStays}
 use Rattle.tw_cli.specs.declared.asked.Job.{Job}
 use Rattle.tw_cli.specs.declared.asked.Job.TheVariants.{Here, Sync, Generate}
@@ -64,19 +66,19 @@ work_agrees request old new (Changes renumber changes marks) chain a e =
     commit_agrees renumber (group_of (ops_of_all old.tasks all request.at)) old new chain (changes_are_group old.tasks all request.at) a e
 work_agrees request old new TakeBack chain a e = undo_agrees old new chain a e
 
-carried_agrees : (request : Request) (ids : IdWords) (old : State) (c : Carried) (chain : List Version) → carried_out request ids old ≡ Ok c → Agrees old chain → Agrees c.new chain
-carried_agrees request ids old c chain e a = by (plan_of request ids old) e
+carried_agrees : (request : Request) (ids : IdWords) (answers : List TaskValue) (old : State) (c : Carried) (chain : List Version) → carried_out request ids answers old ≡ Ok c → Agrees old chain → Agrees c.new chain
+carried_agrees request ids answers old c chain e a = by (answered_with answers old.tasks (plan_of request ids old)) e
   where
     by : (planned : Result Plan Refusal) → carried_by request old planned ≡ Ok c → Agrees c.new chain
     by (Err refusal) f = absurd cc
     by (Ok plan) f = work_agrees request old c.new plan.work chain a (by_plan request old plan c f)
 
-command_agrees : (request : Request) (ids : IdWords) (old : State) (chain : List Version) → Agrees old chain → LeadsAgreeing chain (next_of request ids old)
-command_agrees request ids old chain a = λ s e. by (carried_out request ids old) refl s e
+command_agrees : (request : Request) (ids : IdWords) (answers : List TaskValue) (old : State) (chain : List Version) → Agrees old chain → LeadsAgreeing chain (next_of request ids answers old)
+command_agrees request ids answers old chain a = λ s e. by (carried_out request ids answers old) refl s e
   where
-    by : (r : Result Carried Refusal) → carried_out request ids old ≡ r → (s : State) → new_of r ≡ Some s → Agrees s chain
+    by : (r : Result Carried Refusal) → carried_out request ids answers old ≡ r → (s : State) → new_of r ≡ Some s → Agrees s chain
     by (Err refusal) is s e = absurd (no_state s e)
-    by (Ok c) is s e = subst (λ t. Agrees t chain) (some_is c.new s e) (carried_agrees request ids old c chain is a)
+    by (Ok c) is s e = subst (λ t. Agrees t chain) (some_is c.new s e) (carried_agrees request ids answers old c chain is a)
 
 either_agrees : (chain : List Version) (state : State) (next : Option State) (file : List ℕ) → Agrees state chain → LeadsAgreeing chain next → OpensToEither state next file → OpensAgreeing chain file
 either_agrees chain state next file a leads (inl same) = (state, same, a)
@@ -120,18 +122,11 @@ module _ {D L : Type 0} (m : DiskModel D) (links : LinkModel L) (d0 d1 : D) (l0 
         weaker m d0 d1 (λ file. IsOpening m d0 file ⊎ IsStepOf (m.seen d0) next file) (λ file. m.leaves d0 file ⊎ OpensAgreeing (links.chain l1) file) (leaves_either m next d0 d1 cause run tells)
         (λ file left. ⊎_elim (image_agrees file) (λ step. inr (step_agrees next leads file step)) left)
 
-    by_command : {S : Type 0} (sources : SourceModel S) (i0 i1 : S) (request : Request) (ids : IdWords) (cause : Cause) → LeavesCommand m sources request ids d0 d1 i0 i1 cause → Tells m d0 → LeavesOnly m d0 d1 (λ file. m.leaves d0 file ⊎ OpensAgreeing (links.chain l1) file)
-    by_command sources i0 i1 request ids cause (inl records) tells = records_agree records tells
-    by_command sources i0 i1 request ids cause (inr with) tells = by_cause (next_of (with_input request with.0) ids) (command_agrees (with_input request with.0) ids here.0 (links.chain l1) still) cause with.2 tells
-
-    unsettled : {S O : Type 0} → ((link : L) → IsChainOf links link) → IsLinkKept links l0 l1 → (sources : SourceModel S) (i0 i1 : S) (s : SinkModel O) (o0 o1 : O) (asked : Result Job LineError) (ids : IdWords) (cause : Cause) → RunLeaves m sources s links asked ids (went d0 d1 i0 i1 o0 o1 l0 l1) cause → Tells m d0 → IsHonestFor links asked l0
-        → LeavesOnly m d0 d1 (λ file. m.leaves d0 file ⊎ OpensAgreeing (links.chain l1) file)
-    unsettled tells_chain kept sources i0 i1 s o0 o1 (Ok (Here request)) ids cause run tells honest = by_command sources i0 i1 request ids cause run tells
-    unsettled tells_chain kept sources i0 i1 s o0 o1 (Ok (Sync server)) ids cause run tells honest =
-        let r : LeavesOneEnd m links server d0 d1 l0 l1 cause = run tells in
-        by_cause (λ state. r.next) (end_agrees server here.0 r.next (whole_chain server.client tells_chain kept honest) here.2 (r.end honest here.0 here.1)) cause r.leaves tells
-    unsettled tells_chain kept sources i0 i1 s o0 o1 (Ok (Generate line settings)) ids cause run tells honest = records_agree run tells
-    unsettled tells_chain kept sources i0 i1 s o0 o1 (Err error) ids cause run tells honest = records_agree run tells
+    by_command : {S P : Type 0} (sources : SourceModel S) (hooks : SpawnerModel P) (i0 i1 : S) (p0 p1 : P) (request : Request) (ids : IdWords) (cause : Cause) → LeavesCommand m sources hooks request ids d0 d1 i0 i1 p0 p1 cause → Tells m d0 → LeavesOnly m d0 d1 (λ file. m.leaves d0 file ⊎ OpensAgreeing (links.chain l1) file)
+    by_command sources hooks i0 i1 p0 p1 request ids cause (inl records) tells = records_agree records tells
+    by_command sources hooks i0 i1 p0 p1 request ids cause (inr with) tells =
+        let r : Request = with_input request with.0 in
+        by_cause (next_of r ids with.2.answers) (command_agrees r ids with.2.answers here.0 (links.chain l1) still) cause with.2.leaves tells
 
   -- the records that a run has left stand for a state that agrees with the chain
   more_agrees : (more : List (List ℕ)) (state old new : State) → OpensTo (m.seen d0) state → Agrees state (links.chain l0) → HasMore (m.seen d0) (m.seen d1) more old new → (Agrees old (links.chain l0) → Agrees new (links.chain l1)) → OpensAgreeing (links.chain l1) (m.seen d1)
@@ -139,10 +134,10 @@ module _ {D L : Type 0} (m : DiskModel D) (links : LinkModel L) (d0 d1 : D) (l0 
       let is : state ≡ old = opens_one (m.seen d0) state old opens (record { bodies = has.bodies; records = has.had; stands = has.stood }) in
       (new, record { bodies = opened_bodies (has_areas (m.seen d0)) old has.bodies ++ more; records = has.has; stands = has.stands }, leads (subst (λ s. Agrees s (links.chain l0)) is a))
 
-  carried_out_agrees : (request : Request) (ids : IdWords) → CarriedOut m request ids d0 d1 → l1 ≡ l0 → Tells m d0 → OpensAgreeing (links.chain l0) (m.seen d0) → OpensAgreeing (links.chain l1) (m.seen d1)
-  carried_out_agrees request ids run same tells here =
+  carried_out_agrees : {P : Type 0} (hooks : SpawnerModel P) (p0 p1 : P) (request : Request) (ids : IdWords) → CarriedOut m hooks request ids d0 d1 p0 p1 → l1 ≡ l0 → Tells m d0 → OpensAgreeing (links.chain l0) (m.seen d0) → OpensAgreeing (links.chain l1) (m.seen d1)
+  carried_out_agrees hooks p0 p1 request ids run same tells here =
       more_agrees (step_bodies run.carried.step) here.0 run.old run.carried.new here.1 here.2 (run.disk tells).0
-      (λ a. subst (λ l. Agrees run.carried.new (links.chain l)) (sym same) (carried_agrees request ids run.old run.carried (links.chain l0) run.is a))
+      (λ a. subst (λ l. Agrees run.carried.new (links.chain l)) (sym same) (carried_agrees request ids run.answers run.old run.carried (links.chain l0) run.is a))
 
   synced_agrees : ((link : L) → IsChainOf links link) → IsLinkKept links l0 l1 → (server : ServerSettings) (report : SyncReport) → Synced m links server d0 d1 l0 l1 report → Tells m d0 → IsHonest links l0 server.client
       → OpensAgreeing (links.chain l0) (m.seen d0) → OpensAgreeing (links.chain l1) (m.seen d1)
@@ -151,40 +146,55 @@ module _ {D L : Type 0} (m : DiskModel D) (links : LinkModel L) (d0 d1 : D) (l0 
       more_agrees has.bodies here.0 run.old run.new here.1 here.2 has.more
       (λ a. sync_end_agrees run.old run.new (server_chain links l0) (server_chain links l1) report (whole_chain server.client tells_chain kept honest).whole a (run.ended honest))
 
-  done_agrees : {S O : Type 0} (sources : SourceModel S) (i0 i1 : S) (s : SinkModel O) (o0 o1 : O) → ((link : L) → IsChainOf links link) → IsLinkKept links l0 l1 → (asked : Result Job LineError) (ids : IdWords) (cause : Cause) → RunGives m sources s links asked ids (went d0 d1 i0 i1 o0 o1 l0 l1) cause → Tells m d0 → IsHonestFor links asked l0
-      → (cause ≡ Done) ⊎ (cause ≡ OutFault) → OpensAgreeing (links.chain l0) (m.seen d0) → OpensAgreeing (links.chain l1) (m.seen d1)
-  done_agrees sources i0 i1 s o0 o1 tells_chain kept asked ids cause gives tells honest which here = ⊎_elim (λ done. at_done asked (subst (RunGives m sources s links asked ids (went d0 d1 i0 i1 o0 o1 l0 l1)) done gives) honest) (λ fault. at_fault asked (subst (RunGives m sources s links asked ids (went d0 d1 i0 i1 o0 o1 l0 l1)) fault gives) honest) which
-    where
-      nothing : d1 ≡ d0 → l1 ≡ l0 → OpensAgreeing (links.chain l1) (m.seen d1)
-      nothing disk link = subst (λ l. OpensAgreeing (links.chain l) (m.seen d1)) (sym link) (subst (λ d. OpensAgreeing (links.chain l0) (m.seen d)) (sym disk) here)
+module _ {D S O L P F J : Type 0} (m : Models D S O L P F J) (w : Outside D S O L P F J) (tells_chain : (link : L) → IsChainOf m.link link) (kept : IsLinkKept m.link w.l0 w.l1)
+    (tells : Tells m.disk w.d0) (ids : IdWords) where
+  -- what a run leaves, if the bytes of its disk agree
+  unsettled : OpensAgreeing (m.link.chain w.l0) (m.disk.seen w.d0) → Grows (m.link.chain w.l0) (m.link.chain w.l1) → (asked : Result Job LineError) (cause : Cause) → RunLeaves m asked ids w cause → IsHonestFor m.link asked w.l0
+      → LeavesOnly m.disk w.d0 w.d1 (λ file. m.disk.leaves w.d0 file ⊎ OpensAgreeing (m.link.chain w.l1) file)
+  unsettled here grows (Ok (Here request)) cause run honest = by_command m.disk m.link w.d0 w.d1 w.l0 w.l1 here grows m.source m.spawner w.i0 w.i1 w.p0 w.p1 request ids cause run tells
+  unsettled here grows (Ok (Sync server)) cause run honest =
+      let r : LeavesOneEnd m.disk m.link server w.d0 w.d1 w.l0 w.l1 cause = run tells in
+      by_cause m.disk m.link w.d0 w.d1 w.l0 w.l1 here grows (λ state. r.next)
+      (end_agrees m.disk m.link w.d0 w.d1 w.l0 w.l1 server here.0 r.next (whole_chain m.disk m.link w.d0 w.d1 w.l0 w.l1 server.client tells_chain kept honest) here.2 (r.end honest here.0 here.1)) cause r.leaves tells
+  unsettled here grows (Ok (Generate line settings)) cause run honest = records_agree m.disk m.link w.d0 w.d1 w.l0 w.l1 here grows run tells
+  unsettled here grows (Err error) cause run honest = records_agree m.disk m.link w.d0 w.d1 w.l0 w.l1 here grows run tells
 
-      at_done : (asked : Result Job LineError) → RunGives m sources s links asked ids (went d0 d1 i0 i1 o0 o1 l0 l1) Done → IsHonestFor links asked l0 → OpensAgreeing (links.chain l1) (m.seen d1)
-      at_done (Ok (Here request)) run h = carried_out_agrees (with_input request run.0.0) ids run.0.2.0 run.1 tells here
-      at_done (Ok (Sync server)) run h = synced_agrees tells_chain kept server run.0 run.1 tells h here
-      at_done (Ok (Generate line settings)) run h = nothing run.1 run.3
-      at_done (Err error) run h = nothing run.1 run.4
+  module _ (here : OpensAgreeing (m.link.chain w.l0) (m.disk.seen w.d0)) where
+    nothing : w.d1 ≡ w.d0 → w.l1 ≡ w.l0 → OpensAgreeing (m.link.chain w.l1) (m.disk.seen w.d1)
+    nothing disk link = subst (λ l. OpensAgreeing (m.link.chain l) (m.disk.seen w.d1)) (sym link) (subst (λ d. OpensAgreeing (m.link.chain w.l0) (m.disk.seen d)) (sym disk) here)
 
-      at_fault : (asked : Result Job LineError) → RunGives m sources s links asked ids (went d0 d1 i0 i1 o0 o1 l0 l1) OutFault → IsHonestFor links asked l0 → OpensAgreeing (links.chain l1) (m.seen d1)
-      at_fault (Ok (Here request)) run h = carried_out_agrees (with_input request run.0.0.0) ids run.0.0.2.0 run.1 tells here
-      at_fault (Ok (Sync server)) run h = synced_agrees tells_chain kept server run.0.0 run.0.1 tells h here
-      at_fault (Ok (Generate line settings)) run h = nothing run.1 run.3
-      at_fault (Err error) run h = nothing run.1 run.4
+    at_done : (asked : Result Job LineError) → RunGives m asked ids w Done → IsHonestFor m.link asked w.l0 → OpensAgreeing (m.link.chain w.l1) (m.disk.seen w.d1)
+    at_done (Ok (Here request)) run h = carried_out_agrees m.disk m.link w.d0 w.d1 w.l0 w.l1 m.spawner w.p0 w.p1 (with_input request run.0.0) ids run.0.2.0 run.1 tells here
+    at_done (Ok (Sync server)) run h = synced_agrees m.disk m.link w.d0 w.d1 w.l0 w.l1 tells_chain kept server run.0 run.1 tells h here
+    at_done (Ok (Generate line settings)) run h = nothing run.1 run.3
+    at_done (Err error) run h = nothing run.1 run.4
 
-  pub agreement_stays : {S O : Type 0} (sources : SourceModel S) (i0 i1 : S) (s : SinkModel O) (o0 o1 : O) → ((disk : D) → Tells m disk → m.leaves disk (m.seen disk)) → CountsNow m → ((link : L) → IsChainOf links link) → (asked : Result Job LineError) (old new : IdWords) (cause : Cause)
-      → IsRun m sources s links asked old new (went d0 d1 i0 i1 o0 o1 l0 l1) cause → Tells m d0 → IsHonestFor links asked l0 → AgreementStays m links (went d0 d1 i0 i1 o0 o1 l0 l1) cause
-  agreement_stays sources i0 i1 s o0 o1 seen_may_stay counts_now tells_chain asked old new cause run tells honest = record {
+    at_fault : (asked : Result Job LineError) → RunGives m asked ids w OutFault → IsHonestFor m.link asked w.l0 → OpensAgreeing (m.link.chain w.l1) (m.disk.seen w.d1)
+    at_fault (Ok (Here request)) run h = carried_out_agrees m.disk m.link w.d0 w.d1 w.l0 w.l1 m.spawner w.p0 w.p1 (with_input request run.0.0.0) ids run.0.0.2.0 run.1 tells here
+    at_fault (Ok (Sync server)) run h = synced_agrees m.disk m.link w.d0 w.d1 w.l0 w.l1 tells_chain kept server run.0.0 run.0.1 tells h here
+    at_fault (Ok (Generate line settings)) run h = nothing run.1 run.3
+    at_fault (Err error) run h = nothing run.1 run.4
+
+    done_agrees : (asked : Result Job LineError) (cause : Cause) → RunGives m asked ids w cause → IsHonestFor m.link asked w.l0 → (cause ≡ Done) ⊎ (cause ≡ OutFault) → OpensAgreeing (m.link.chain w.l1) (m.disk.seen w.d1)
+    done_agrees asked cause gives honest (inl done) = at_done asked (subst (RunGives m asked ids w) done gives) honest
+    done_agrees asked cause gives honest (inr fault) = at_fault asked (subst (RunGives m asked ids w) fault gives) honest
+
+module _ {D S O L P F J : Type 0} (m : Models D S O L P F J) (w : Outside D S O L P F J) (tells_chain : (link : L) → IsChainOf m.link link) where
+  pub agreement_stays : ((disk : D) → Tells m.disk disk → m.disk.leaves disk (m.disk.seen disk)) → CountsNow m.disk → (asked : Result Job LineError) (old new : IdWords) (cause : Cause)
+      → IsRun m asked old new w cause → Tells m.disk w.d0 → IsHonestFor m.link asked w.l0 → AgreementStays m.disk m.link w cause
+  agreement_stays seen_may_stay counts_now asked old new cause run tells honest = record {
     any_moment = always;
-    after = λ all file left. (always all).each file (counts_now d1 (m.moment d0) file (always all).later left);
+    after = λ all file left. (always all).each file (counts_now w.d1 (m.disk.moment w.d0) file (always all).later left);
     unsettled = from_bytes;
-    done = done_agrees sources i0 i1 s o0 o1 tells_chain run.link_kept asked old cause run.gives tells honest;
+    done = λ which here. done_agrees m w tells_chain run.link_kept tells old here asked cause run.gives honest which;
   }
     where
-      grows : Grows (links.chain l0) (links.chain l1)
+      grows : Grows (m.link.chain w.l0) (m.link.chain w.l1)
       grows = run.grows honest
 
-      from_bytes : OpensAgreeing (links.chain l0) (m.seen d0) → LeavesOnly m d0 d1 (λ file. m.leaves d0 file ⊎ OpensAgreeing (links.chain l1) file)
-      from_bytes here = unsettled here grows tells_chain run.link_kept sources i0 i1 s o0 o1 asked old cause run.any_moment tells honest
+      from_bytes : OpensAgreeing (m.link.chain w.l0) (m.disk.seen w.d0) → LeavesOnly m.disk w.d0 w.d1 (λ file. m.disk.leaves w.d0 file ⊎ OpensAgreeing (m.link.chain w.l1) file)
+      from_bytes here = unsettled m w tells_chain run.link_kept tells old here grows asked cause run.any_moment honest
 
-      always : AllAgree m (links.chain l0) d0 → LeavesOnly m d0 d1 (OpensAgreeing (links.chain l1))
-      always all = weaker m d0 d1 (λ file. m.leaves d0 file ⊎ OpensAgreeing (links.chain l1) file) (OpensAgreeing (links.chain l1)) (from_bytes (all (m.seen d0) (seen_may_stay d0 tells)))
-          (λ file left. ⊎_elim (λ was. opens_grown (links.chain l0) (links.chain l1) file grows (all file was)) (λ agrees. agrees) left)
+      always : AllAgree m.disk (m.link.chain w.l0) w.d0 → LeavesOnly m.disk w.d0 w.d1 (OpensAgreeing (m.link.chain w.l1))
+      always all = weaker m.disk w.d0 w.d1 (λ file. m.disk.leaves w.d0 file ⊎ OpensAgreeing (m.link.chain w.l1) file) (OpensAgreeing (m.link.chain w.l1)) (from_bytes (all (m.disk.seen w.d0) (seen_may_stay w.d0 tells)))
+          (λ file left. ⊎_elim (λ was. opens_grown (m.link.chain w.l0) (m.link.chain w.l1) file grows (all file was)) (λ agrees. agrees) left)

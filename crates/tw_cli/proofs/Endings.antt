@@ -10,11 +10,14 @@ use Rattle.tw_journal.specs.declared.error.AppendError.TheVariants as journal
 use Rattle.tw_sync.specs.declared.error.SyncError.{SyncError}
 use Rattle.tw_sync.specs.declared.error.SyncError.TheVariants as syncs
 use Rattle.tw_commands.specs.declared.request.Request.{Request}
+use Rattle.tw_hooks.specs.declared.error.HookError.{HookError}
+use Rattle.tw_hooks.specs.declared.error.HookError.TheVariants as hook
+use Rattle.tw_spawn.specs.Spawner.{SpawnerModel}
 use Rattle.tw_commands.specs.declared.refusal.Refusal.{Refusal}
 use Rattle.tw_commands.specs.declared.refusal.Refusal.TheVariants as refusal
 use Rattle.tw_ending.specs.Ending.{EndsPrinting}
 use Rattle.tw_ending.specs.Ending.End.{Failed}
-use Rattle.tw_cli.specs.Cause.{end_of, open_cause, input_cause, refusal_cause, carry_cause, journal_cause, sync_cause, failure_cause}
+use Rattle.tw_cli.specs.Cause.{end_of, open_cause, input_cause, refusal_cause, hook_cause, carry_cause, journal_cause, sync_cause, failure_cause}
 use Rattle.tw_cli.specs.Run.{NotCarried, GivesBy, Gives, IsDoneOrWant}
 use Rattle.tw_cli.specs.Syncing.{NotSynced, SyncGivesBy, SyncGives}
 use Rattle.tw_words.specs.declared.settings.server.ServerSettings.{ServerSettings}
@@ -49,10 +52,17 @@ input_fails input.Fault = refl
 input_fails input.TooLong = refl
 input_fails input.Memory = refl
 
+hook_fails : (e : HookError) → end_of (hook_cause e) ≡ Failed
+hook_fails (hook.Refused name status) = refl
+hook_fails (hook.Answer name) = refl
+hook_fails hook.Fault = refl
+hook_fails hook.Memory = refl
+
 pub carry_fails : (e : CarryError) → end_of (carry_cause e) ≡ Failed
 carry_fails (carry.Open e) = open_fails e
 carry_fails (carry.Input e) = input_fails e
 carry_fails (carry.Refused r) = refusal_fails r
+carry_fails (carry.Hook e) = hook_fails e
 carry_fails (carry.TooLong bytes) = refl
 carry_fails carry.Disk = refl
 carry_fails carry.Memory = refl
@@ -78,10 +88,10 @@ failure_fails : (e : SyncFailure) → end_of (failure_cause e) ≡ Failed
 failure_fails (failure.Open e) = open_fails e
 failure_fails (failure.Sync e) = sync_fails e
 
-pub failed_gives : {D S O : Type 0} (m : DiskModel D) (sources : SourceModel S) (request : Request) (ids : IdWords) (d0 d1 : D) (i0 i1 : S) (s : SinkModel O) (o : O) (e : CarryError) (cause : Cause) → cause ≡ carry_cause e → NotCarried m sources request ids d0 d1 i0 i1 e
-    → Gives m sources request ids d0 d1 i0 i1 s o o cause
-failed_gives m sources request ids d0 d1 i0 i1 s o e cause is why =
-    subst (Gives m sources request ids d0 d1 i0 i1 s o o) (sym is) (subst (GivesBy m sources request ids d0 d1 i0 i1 s o o (carry_cause e)) (sym (carry_fails e)) (e, refl, why, refl))
+pub failed_gives : {D S P O : Type 0} (m : DiskModel D) (sources : SourceModel S) (hooks : SpawnerModel P) (request : Request) (ids : IdWords) (d0 d1 : D) (i0 i1 : S) (p0 p1 : P) (s : SinkModel O) (o : O) (e : CarryError) (cause : Cause) → cause ≡ carry_cause e → NotCarried m sources hooks request ids d0 d1 i0 i1 p0 p1 e
+    → Gives m sources hooks request ids d0 d1 i0 i1 p0 p1 s o o cause
+failed_gives m sources hooks request ids d0 d1 i0 i1 p0 p1 s o e cause is why =
+    subst (Gives m sources hooks request ids d0 d1 i0 i1 p0 p1 s o o) (sym is) (subst (GivesBy m sources hooks request ids d0 d1 i0 i1 p0 p1 s o o (carry_cause e)) (sym (carry_fails e)) (e, refl, why, refl))
 
 pub failed_sync_gives : {D O L : Type 0} (m : DiskModel D) (s : SinkModel O) (links : LinkModel L) (server : ServerSettings) (d0 d1 : D) (o : O) (l0 l1 : L) (e : SyncFailure) (cause : Cause) → cause ≡ failure_cause e → NotSynced m links server d0 d1 l0 l1 e → SyncGives m s links server d0 d1 o o l0 l1 cause
 failed_sync_gives m s links server d0 d1 o l0 l1 e cause is why =

@@ -4,6 +4,8 @@ use Rattle.std.proofs.lemmas.List.{append-nil}
 use Rattle.tw_world.specs.Disk.{DiskModel, Tells, IsStable, LeavesOnly}
 use Rattle.tw_world.specs.Sink.{SinkModel}
 use Rattle.tw_world.specs.Source.{SourceModel}
+use Rattle.tw_spawn.specs.Spawner.{SpawnerModel}
+use Rattle.tw_model.specs.Ops.{TaskValue}
 use Rattle.tw_world.specs.declared.ids.IdWords.{IdWords}
 use Rattle.tw_world.proofs.Moments.{CountsNow, OnlyNow, started, weaker}
 use Rattle.tw_journal.specs.Form.{has_areas}
@@ -27,6 +29,7 @@ use Rattle.tw_commands.specs.Marks.{mask_changes}
 use Rattle.tw_commands.specs.Plan.{Plan, Work, step_in}
 use Rattle.tw_commands.specs.Plan.Work.{Changes, TakeBack}
 use Rattle.tw_commands.specs.Commands.{plan_of}
+use Rattle.tw_commands.specs.Asks.{answered_with}
 use Rattle.tw_commands.specs.Carried.{Carried, carried_by, carried_out}
 use Rattle.tw_commands.specs.declared.request.Request.{Request}
 use Rattle.tw_commands.specs.declared.refusal.Refusal.{Refusal}
@@ -39,7 +42,7 @@ use Rattle.tw_ending.specs.Ending.End.{Well, Output, Failed}
 use Rattle.tw_cli.specs.Cause.{end_of}
 use Rattle.tw_cli.specs.Crash.{LeavesRecords, IsStepOf, LeavesEither, LeavesCommand, LeavesOneEnd, LeavesSync, new_of, next_of}
 use Rattle.tw_cli.specs.Syncing.{Synced, SyncGivesBy}
-use Rattle.tw_cli.specs.Whole.{went, RunGives, RunLeaves, IsHonestFor, IsRun}
+use Rattle.tw_cli.specs.Whole.{Models, Outside, IsHonestFor, IsRun}
 use Rattle.tw_cli.specs.Events.{OpensAmong, StandsFor, IsChainFor, OpensReplica, RunsOn}
 use Rattle.tw_cli.specs.declared.asked.Job.{Job}
 use Rattle.tw_cli.specs.declared.asked.Job.TheVariants.{Here, Sync, Generate}
@@ -69,8 +72,8 @@ work_makes request old new (Changes renumber changes marks) e =
     inl (record { renumber = renumber; ops = group_of (ops_of_all old.tasks all request.at); group = changes_are_group old.tasks all request.at; step = e })
 work_makes request old new TakeBack e = inr e
 
-carried_makes : (request : Request) (ids : IdWords) (chain now : List Version) (old : State) (c : Carried) → carried_out request ids old ≡ Ok c → Makes chain now old (Some c.new)
-carried_makes request ids chain now old c e = by (plan_of request ids old) e
+carried_makes : (request : Request) (ids : IdWords) (answers : List TaskValue) (chain now : List Version) (old : State) (c : Carried) → carried_out request ids answers old ≡ Ok c → Makes chain now old (Some c.new)
+carried_makes request ids answers chain now old c e = by (answered_with answers old.tasks (plan_of request ids old)) e
   where
     made : IsCommit old c.new ⊎ (undone old ≡ Some c.new) → Makes chain now old (Some c.new)
     made (inl commit) = inl commit
@@ -80,12 +83,12 @@ carried_makes request ids chain now old c e = by (plan_of request ids old) e
     by (Err refusal) f = absurd cc
     by (Ok plan) f = made (work_makes request old c.new plan.work (by_plan request old plan c f))
 
-command_makes : (request : Request) (ids : IdWords) (chain now : List Version) (state : State) → Makes chain now state (next_of request ids state)
-command_makes request ids chain now state = by (carried_out request ids state) refl
+command_makes : (request : Request) (ids : IdWords) (answers : List TaskValue) (chain now : List Version) (state : State) → Makes chain now state (next_of request ids answers state)
+command_makes request ids answers chain now state = by (carried_out request ids answers state) refl
   where
-    by : (r : Result Carried Refusal) → carried_out request ids state ≡ r → Makes chain now state (new_of r)
+    by : (r : Result Carried Refusal) → carried_out request ids answers state ≡ r → Makes chain now state (new_of r)
     by (Err refusal) is = tt
-    by (Ok c) is = carried_makes request ids chain now state c is
+    by (Ok c) is = carried_makes request ids answers chain now state c is
 
 -- ---- the images of a run
 
@@ -174,7 +177,7 @@ module _ {D : Type 0} (m : DiskModel D) (d0 d1 : D) (states : List State) (stand
 no_growth : (chain : List Version) → Grows chain chain
 no_growth chain = record { more = []; joined = sym (append-nil chain) }
 
-module _ {D S O L : Type 0} (m : DiskModel D) (sources : SourceModel S) (s : SinkModel O) (links : LinkModel L) (d0 d1 : D) (i0 i1 : S) (o0 o1 : O) (l0 l1 : L)
+module _ {D S O L P : Type 0} (m : DiskModel D) (sources : SourceModel S) (s : SinkModel O) (links : LinkModel L) (hooks : SpawnerModel P) (d0 d1 : D) (i0 i1 : S) (o0 o1 : O) (l0 l1 : L) (p0 p1 : P)
     (states : List State) (stands : StandsFor m d0 states) (tells : Tells m d0) (seen_may_stay : (disk : D) → Tells m disk → m.leaves disk (m.seen disk)) (counts_now : CountsNow m) (cause : Cause) where
   abbrev pub here : OpensAmong states (m.seen d0)
   here = stands (m.seen d0) (seen_may_stay d0 tells)
@@ -186,24 +189,24 @@ module _ {D S O L : Type 0} (m : DiskModel D) (sources : SourceModel S) (s : Sin
   opened_is more old new h = opens_one (m.seen d0) old here.0 (record { bodies = h.bodies; records = h.had; stands = h.stood }) here.2
 
   -- a command
-  carried_known : (chain : List Version) (request : Request) (ids : IdWords) → CarriedOut m request ids d0 d1 → (one : State) × Makes chain chain here.0 (Some one) × IsStable m d1 × OpensTo (m.seen d1) one
+  carried_known : (chain : List Version) (request : Request) (ids : IdWords) → CarriedOut m hooks request ids d0 d1 p0 p1 → (one : State) × Makes chain chain here.0 (Some one) × IsStable m d1 × OpensTo (m.seen d1) one
   carried_known chain request ids run =
       let has = run.disk tells in
       let is : run.old ≡ here.0 = opened_is (step_bodies run.carried.step) run.old run.carried.new has.0 in
-      (run.carried.new, carried_makes request ids chain chain here.0 run.carried (subst (λ state. carried_out request ids state ≡ Ok run.carried) is run.is), has.1, opens_more (step_bodies run.carried.step) run.old run.carried.new has.0)
+      (run.carried.new, carried_makes request ids run.answers chain chain here.0 run.carried (subst (λ state. carried_out request ids run.answers state ≡ Ok run.carried) is run.is), has.1, opens_more (step_bodies run.carried.step) run.old run.carried.new has.0)
 
-  command_known : (chain : List Version) (grows : Grows chain chain) (served : IsServedChain chain → IsServedChain chain) (request : Request) (ids : IdWords) (end : End) → GivesBy m sources request ids d0 d1 i0 i1 s o0 o1 cause end → IsKnownAt m d0 d1 states stands tells seen_may_stay counts_now (OpensReplica (Ok (Here request))) cause chain chain grows served end
+  command_known : (chain : List Version) (grows : Grows chain chain) (served : IsServedChain chain → IsServedChain chain) (request : Request) (ids : IdWords) (end : End) → GivesBy m sources hooks request ids d0 d1 i0 i1 p0 p1 s o0 o1 cause end → IsKnownAt m d0 d1 states stands tells seen_may_stay counts_now (OpensReplica (Ok (Here request))) cause chain chain grows served end
   command_known chain grows served request ids Well g = carried_known chain (with_input request g.0) ids g.2.0
   command_known chain grows served request ids Output g = carried_known chain (with_input request g.0.0) ids g.0.2.0
   command_known chain grows served request ids Failed g = tt
 
-  command_runs : (chain : List Version) (request : Request) (ids : IdWords) → GivesBy m sources request ids d0 d1 i0 i1 s o0 o1 cause (end_of cause) → LeavesCommand m sources request ids d0 d1 i0 i1 cause → RunsOn m d0 d1 (OpensReplica (Ok (Here request))) cause chain chain states
+  command_runs : (chain : List Version) (request : Request) (ids : IdWords) → GivesBy m sources hooks request ids d0 d1 i0 i1 p0 p1 s o0 o1 cause (end_of cause) → LeavesCommand m sources hooks request ids d0 d1 i0 i1 p0 p1 cause → RunsOn m d0 d1 (OpensReplica (Ok (Here request))) cause chain chain states
   command_runs chain request ids gives (inl records) =
       ends_at m d0 d1 states stands tells seen_may_stay counts_now (OpensReplica (Ok (Here request))) cause chain chain (no_growth chain) (λ served. served) (end_of cause) refl (command_known chain (no_growth chain) (λ served. served) request ids (end_of cause) gives) None tt (records_among m d0 d1 states stands tells seen_may_stay records)
   command_runs chain request ids gives (inr with) =
       let r : Request = with_input request with.0 in
       ends_at m d0 d1 states stands tells seen_may_stay counts_now (OpensReplica (Ok (Here request))) cause chain chain (no_growth chain) (λ served. served) (end_of cause) refl (command_known chain (no_growth chain) (λ served. served) request ids (end_of cause) gives)
-      (next_of r ids here.0) (command_makes r ids chain chain here.0) (steps_among m d0 d1 states stands tells seen_may_stay (next_of r ids) (leaves_either m (next_of r ids) d0 d1 cause with.2))
+      (next_of r ids with.2.answers here.0) (command_makes r ids with.2.answers chain chain here.0) (steps_among m d0 d1 states stands tells seen_may_stay (next_of r ids with.2.answers) (leaves_either m (next_of r ids with.2.answers) d0 d1 cause with.2.leaves))
 
   -- a sync
   end_makes : (state : State) (next : Option State) → IsEndIn state (server_chain links l0) (server_chain links l1) next → Makes (links.chain l0) (links.chain l1) state next
@@ -235,16 +238,25 @@ module _ {D S O L : Type 0} (m : DiskModel D) (sources : SourceModel S) (s : Sin
       let at : LeavesOnly m d0 d0 (OpensAmong states) = started m only_now d0 (OpensAmong states) stands in
       ends_so m d0 d1 states stands tells seen_may_stay counts_now (OpensReplica asked) cause chain chain (no_growth chain) (λ served. served) None tt (subst (λ d. LeavesOnly m d0 d (OpensAmong states)) (sym same) at) (λ opened done. never opened)
 
+module _ {D S O L P F J : Type 0} (m : Models D S O L P F J) (w : Outside D S O L P F J)
+    (states : List State) (stands : StandsFor m.disk w.d0 states) (tells : Tells m.disk w.d0) (seen_may_stay : (disk : D) → Tells m.disk disk → m.disk.leaves disk (m.disk.seen disk)) (counts_now : CountsNow m.disk) (cause : Cause) where
+  abbrev Happens : (opens : Type 0) → (chain now : List Version) → Type 0
+  Happens opens chain now = RunsOn m.disk w.d0 w.d1 opens cause chain now states
+
+  nothing_happens : OnlyNow m.disk → (asked : Result Job LineError) → (OpensReplica asked → ⊥) → (chain : List Version) → w.d1 ≡ w.d0 → Happens (OpensReplica asked) chain chain
+  nothing_happens = nothing_runs m.disk m.source m.sink m.link m.spawner w.d0 w.d1 w.i0 w.i1 w.o0 w.o1 w.l0 w.l1 w.p0 w.p1 states stands tells seen_may_stay counts_now cause
+
   -- a run of a command line, whatever it asks for, is an event
-  pub runs_on : OnlyNow m → ((link : L) → IsChainOf links link) → (asked : Result Job LineError) (old new : IdWords) → IsRun m sources s links asked old new (went d0 d1 i0 i1 o0 o1 l0 l1) cause → IsHonestFor links asked l0 → (chain now : List Version) → IsChainFor links asked l0 l1 chain now
-      → RunsOn m d0 d1 (OpensReplica asked) cause chain now states
+  pub runs_on : OnlyNow m.disk → ((link : L) → IsChainOf m.link link) → (asked : Result Job LineError) (old new : IdWords) → IsRun m asked old new w cause → IsHonestFor m.link asked w.l0 → (chain now : List Version) → IsChainFor m.link asked w.l0 w.l1 chain now
+      → Happens (OpensReplica asked) chain now
   runs_on only_now tells_chain (Ok (Here request)) old new run honest chain now same =
-      subst (λ c. RunsOn m d0 d1 (OpensReplica (Ok (Here request))) cause chain c states) (sym same) (command_runs chain request old run.gives.0 run.any_moment)
+      subst (Happens (OpensReplica (Ok (Here request))) chain) (sym same) (command_runs m.disk m.source m.sink m.link m.spawner w.d0 w.d1 w.i0 w.i1 w.o0 w.o1 w.l0 w.l1 w.p0 w.p1 states stands tells seen_may_stay counts_now cause chain request old run.gives.0 run.any_moment)
   runs_on only_now tells_chain (Ok (Sync server)) old new run honest chain now same =
-      let whole : IsServedChain (links.chain l1) = tells_chain l1 (record { honest = subst IsTrue (sym run.link_kept.honest) honest.honest; tells = subst IsTrue (sym run.link_kept.tells_chain) honest.tells }) in
-      let at : RunsOn m d0 d1 (OpensReplica (Ok (Sync server))) cause (links.chain l0) (links.chain l1) states = sync_runs (run.grows honest) (λ served. whole) server honest run.gives run.any_moment in
-      subst (λ c. RunsOn m d0 d1 (OpensReplica (Ok (Sync server))) cause c now states) (sym same.0) (subst (λ c. RunsOn m d0 d1 (OpensReplica (Ok (Sync server))) cause (links.chain l0) c states) (sym same.1) at)
+      let whole : IsServedChain (m.link.chain w.l1) = tells_chain w.l1 (record { honest = subst IsTrue (sym run.link_kept.honest) honest.honest; tells = subst IsTrue (sym run.link_kept.tells_chain) honest.tells }) in
+      let at : Happens (OpensReplica (Ok (Sync server))) (m.link.chain w.l0) (m.link.chain w.l1) =
+      sync_runs m.disk m.source m.sink m.link m.spawner w.d0 w.d1 w.i0 w.i1 w.o0 w.o1 w.l0 w.l1 w.p0 w.p1 states stands tells seen_may_stay counts_now cause (run.grows honest) (λ served. whole) server honest run.gives run.any_moment in
+      subst (λ c. Happens (OpensReplica (Ok (Sync server))) c now) (sym same.0) (subst (Happens (OpensReplica (Ok (Sync server))) (m.link.chain w.l0)) (sym same.1) at)
   runs_on only_now tells_chain (Ok (Generate line settings)) old new run honest chain now same =
-      subst (λ c. RunsOn m d0 d1 (OpensReplica (Ok (Generate line settings))) cause chain c states) (sym same) (nothing_runs only_now (Ok (Generate line settings)) (λ none. none) chain run.gives.1)
+      subst (Happens (OpensReplica (Ok (Generate line settings))) chain) (sym same) (nothing_happens only_now (Ok (Generate line settings)) (λ none. none) chain run.gives.1)
   runs_on only_now tells_chain (Err error) old new run honest chain now same =
-      subst (λ c. RunsOn m d0 d1 (OpensReplica (Err error)) cause chain c states) (sym same) (nothing_runs only_now (Err error) (λ none. none) chain run.gives.1)
+      subst (Happens (OpensReplica (Err error)) chain) (sym same) (nothing_happens only_now (Err error) (λ none. none) chain run.gives.1)

@@ -1,8 +1,8 @@
 -- A run that was not carried out leaves the state.
 use Rattle.std.proofs.Common.{◌≡◌, ◌∙◌, refl, sym, subst, List, ℕ, [], ◌++◌, Result, Ok, Err}
 use Rattle.tw_world.specs.Disk.{DiskModel, Tells}
-use Rattle.tw_world.specs.Sink.{SinkModel}
 use Rattle.tw_world.specs.Source.{SourceModel}
+use Rattle.tw_spawn.specs.Spawner.{SpawnerModel}
 use Rattle.tw_world.specs.declared.ids.IdWords.{IdWords}
 use Rattle.tw_http.specs.Link.{LinkModel}
 use Rattle.tw_journal.specs.Form.{has_areas}
@@ -22,7 +22,7 @@ use Rattle.tw_cli.specs.Cause.{open_cause, carry_cause, sync_cause, failure_caus
 use Rattle.tw_ending.specs.Ending.End.{Failed}
 use Rattle.tw_cli.specs.Run.{NotCarried, GivesBy}
 use Rattle.tw_cli.specs.Syncing.{SyncEnds, NotSynced, SyncGivesBy}
-use Rattle.tw_cli.specs.Whole.{went, RunGives}
+use Rattle.tw_cli.specs.Whole.{Models, Outside, RunGives}
 use Rattle.tw_cli.specs.declared.asked.Job.{Job}
 use Rattle.tw_cli.specs.declared.asked.Job.TheVariants.{Here, Sync, Generate}
 use Rattle.tw_cli.specs.declared.asked.LineError.{LineError}
@@ -55,15 +55,16 @@ module _ {D : Type 0} (m : DiskModel D) (d0 d1 : D) where
   opening_stays (opening.Damaged offset) spared why tells = (opens_as_before (m.seen d0) (m.seen d1) (why tells).1).state
   opening_stays opening.Memory spared why tells = (why tells).state
 
-  module _ {S O L : Type 0} (sources : SourceModel S) (i0 i1 : S) (s : SinkModel O) (o0 o1 : O) (links : LinkModel L) (l0 l1 : L) where
-    carrying_stays : (request : Request) (ids : IdWords) (e : CarryError) → (carry_cause e ≡ DiskFault → ⊥) → NotCarried m sources request ids d0 d1 i0 i1 e → Tells m d0 → SameState (m.seen d0) (m.seen d1)
-    carrying_stays request ids (carry.Open e) spared why tells = opening_stays e spared why.0 tells
-    carrying_stays request ids (carry.Input e) spared why tells = records_stay why.state why.stays tells
-    carrying_stays request ids (carry.Refused refusal) spared why tells = records_stay why.2.state why.2.stays tells
-    carrying_stays request ids (carry.TooLong bytes) spared why tells = records_stay why.2.state why.2.stays tells
-    carrying_stays request ids carry.Disk spared why tells = absurd (spared refl)
-    carrying_stays request ids carry.Memory spared why tells = records_stay why.0 why.1 tells
+  carrying_stays : {S P : Type 0} (sources : SourceModel S) (hooks : SpawnerModel P) (i0 i1 : S) (p0 p1 : P) (request : Request) (ids : IdWords) (e : CarryError) → (carry_cause e ≡ DiskFault → ⊥) → NotCarried m sources hooks request ids d0 d1 i0 i1 p0 p1 e → Tells m d0 → SameState (m.seen d0) (m.seen d1)
+  carrying_stays sources hooks i0 i1 p0 p1 request ids (carry.Open e) spared why tells = opening_stays e spared why.0 tells
+  carrying_stays sources hooks i0 i1 p0 p1 request ids (carry.Input e) spared why tells = records_stay why.0.state why.0.stays tells
+  carrying_stays sources hooks i0 i1 p0 p1 request ids (carry.Refused refusal) spared why tells = records_stay why.2.state why.2.stays tells
+  carrying_stays sources hooks i0 i1 p0 p1 request ids (carry.Hook e) spared why tells = records_stay why.2.1.state why.2.1.stays tells
+  carrying_stays sources hooks i0 i1 p0 p1 request ids (carry.TooLong bytes) spared why tells = records_stay why.2.state why.2.stays tells
+  carrying_stays sources hooks i0 i1 p0 p1 request ids carry.Disk spared why tells = absurd (spared refl)
+  carrying_stays sources hooks i0 i1 p0 p1 request ids carry.Memory spared why tells = records_stay why.0.0 why.0.1 tells
 
+  module _ {L : Type 0} (links : LinkModel L) (l0 l1 : L) where
     refusal_stays : (server : ServerSettings) (e : SyncError) → (sync_cause e ≡ DiskFault → ⊥) → SyncEnds m links server d0 d1 l0 l1 e → Tells m d0 → SameState (m.seen d0) (m.seen d1)
     refusal_stays server (syncs.Journal journal.Disk) spared why tells = absurd (spared refl)
     refusal_stays server (syncs.Journal journal.Closed) spared why tells = absurd (spared refl)
@@ -82,12 +83,13 @@ module _ {D : Type 0} (m : DiskModel D) (d0 d1 : D) where
     syncing_stays server (failure.Open e) spared why tells = opening_stays e spared why.0 tells
     syncing_stays server (failure.Sync e) spared why tells = refusal_stays server e spared why tells
 
-    pub state_stays : (asked : Result Job LineError) (ids : IdWords) (cause : Cause) → RunGives m sources s links asked ids (went d0 d1 i0 i1 o0 o1 l0 l1) cause → KeepsState m d0 d1 cause
-    state_stays (Ok (Here request)) ids cause gives = λ failed spared tells.
-        let why : GivesBy m sources request ids d0 d1 i0 i1 s o0 o1 cause Failed = subst (GivesBy m sources request ids d0 d1 i0 i1 s o0 o1 cause) failed gives.0 in
-        carrying_stays request ids why.0 (λ e. spared (why.1 ∙ e)) why.2 tells
-    state_stays (Ok (Sync server)) ids cause gives = λ failed spared tells.
-        let why : SyncGivesBy m s links server d0 d1 o0 o1 l0 l1 cause Failed = subst (SyncGivesBy m s links server d0 d1 o0 o1 l0 l1 cause) failed gives in
-        syncing_stays server why.0 (λ e. spared (why.1 ∙ e)) why.2 tells
-    state_stays (Ok (Generate line settings)) ids cause gives = λ failed spared tells. untouched_stays gives.1
-    state_stays (Err error) ids cause gives = λ failed spared tells. untouched_stays gives.1
+module _ {D S O L P F J : Type 0} (m : Models D S O L P F J) (w : Outside D S O L P F J) where
+  pub state_stays : (asked : Result Job LineError) (ids : IdWords) (cause : Cause) → RunGives m asked ids w cause → KeepsState m.disk w.d0 w.d1 cause
+  state_stays (Ok (Here request)) ids cause gives = λ failed spared tells.
+      let why : GivesBy m.disk m.source m.spawner request ids w.d0 w.d1 w.i0 w.i1 w.p0 w.p1 m.sink w.o0 w.o1 cause Failed = subst (GivesBy m.disk m.source m.spawner request ids w.d0 w.d1 w.i0 w.i1 w.p0 w.p1 m.sink w.o0 w.o1 cause) failed gives.0 in
+      carrying_stays m.disk w.d0 w.d1 m.source m.spawner w.i0 w.i1 w.p0 w.p1 request ids why.0 (λ e. spared (why.1 ∙ e)) why.2 tells
+  state_stays (Ok (Sync server)) ids cause gives = λ failed spared tells.
+      let why : SyncGivesBy m.disk m.sink m.link server w.d0 w.d1 w.o0 w.o1 w.l0 w.l1 cause Failed = subst (SyncGivesBy m.disk m.sink m.link server w.d0 w.d1 w.o0 w.o1 w.l0 w.l1 cause) failed gives in
+      syncing_stays m.disk w.d0 w.d1 m.link w.l0 w.l1 server why.0 (λ e. spared (why.1 ∙ e)) why.2 tells
+  state_stays (Ok (Generate line settings)) ids cause gives = λ failed spared tells. untouched_stays m.disk w.d0 w.d1 gives.1
+  state_stays (Err error) ids cause gives = λ failed spared tells. untouched_stays m.disk w.d0 w.d1 gives.1

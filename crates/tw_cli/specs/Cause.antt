@@ -7,6 +7,8 @@ use Rattle.tw_journal.specs.declared.error.AppendError.TheVariants as journal
 use Rattle.tw_sync.specs.declared.error.SyncError.{SyncError}
 use Rattle.tw_sync.specs.declared.error.SyncError.TheVariants as syncs
 use Rattle.tw_words.specs.declared.word_error.WordError.TheVariants as wrong
+use Rattle.tw_hooks.specs.declared.error.HookError.{HookError}
+use Rattle.tw_hooks.specs.declared.error.HookError.TheVariants as hook
 use Rattle.tw_commands.specs.declared.refusal.Refusal.{Refusal}
 use Rattle.tw_commands.specs.declared.refusal.Refusal.TheVariants as refusal
 use Rattle.tw_cli.specs.declared.asked.LineError.{LineError}
@@ -23,6 +25,7 @@ use Rattle.tw_cli.specs.declared.cause.Cause.{Cause}
 use Rattle.tw_cli.specs.declared.cause.Cause.TheVariants.{Done, NoMatch, NothingToUndo, BadWords, BadSetting, NoServer, IdTaken, Cycle}
 use Rattle.tw_cli.specs.declared.cause.Cause.TheVariants.{DiskFault, RecordTooLong, Memory, LinkFault, BadReply, Gone, Busy, OutOfSync}
 use Rattle.tw_cli.specs.declared.cause.Cause.TheVariants.{BadSegment, SegmentTooLong, PullTooLong, OutFault, Damaged, InFault, InputTooLong, BadInput}
+use Rattle.tw_cli.specs.declared.cause.Cause.TheVariants.{HookRefused, HookAnswer, HookFault}
 
 -- how a run ends with this cause
 abbrev pub end_of : Cause → End
@@ -65,16 +68,24 @@ refusal_cause (refusal.IdTaken uuid) = IdTaken uuid
 refusal_cause (refusal.Cycle uuid) = Cycle uuid
 refusal_cause (refusal.BadInput index name) = BadInput index name
 
+-- of hooks that do not let tasks become so
+abbrev pub hook_cause : HookError → Cause
+hook_cause (hook.Refused name status) = HookRefused name status
+hook_cause (hook.Answer name) = HookAnswer name
+hook_cause hook.Fault = HookFault
+hook_cause hook.Memory = Memory
+
 -- of a command that is not carried out
 abbrev pub carry_cause : CarryError → Cause
 carry_cause (carry.Open e) = open_cause e
 carry_cause (carry.Input e) = input_cause e
 carry_cause (carry.Refused refusal) = refusal_cause refusal
+carry_cause (carry.Hook e) = hook_cause e
 carry_cause (carry.TooLong bytes) = RecordTooLong bytes
 carry_cause carry.Disk = DiskFault
 carry_cause carry.Memory = Memory
 
--- of a record that is not written
+-- of a record that is not written: a journal is closed by a fault of the disk alone
 abbrev pub journal_cause : AppendError → Cause
 journal_cause journal.Disk = DiskFault
 journal_cause journal.Closed = DiskFault

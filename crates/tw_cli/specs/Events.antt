@@ -48,6 +48,6 @@ pub record RunsOn {D : Type 0} (m : DiskModel D) (d0 d1 : D) (opens : Type 0) (c
   pub any_moment : LeavesOnly m d0 d1 (OpensAmong cut)
 
 -- in each world in which the disk stands for some states, the run is an event
-abbrev pub IsEvent : {D S O L : Type 0} → DiskModel D → LinkModel L → Result Job LineError → Outside D S O L → Cause → Type 0
+abbrev pub IsEvent : {D S O L P F J : Type 0} → DiskModel D → LinkModel L → Result Job LineError → Outside D S O L P F J → Cause → Type 0
 IsEvent m links asked w cause = (chain now : List Version) (states : List State) → Tells m w.d0 → IsHonestFor links asked w.l0 → StandsFor m w.d0 states
     → IsChainFor links asked w.l0 w.l1 chain now → RunsOn m w.d0 w.d1 (OpensReplica asked) cause chain now states

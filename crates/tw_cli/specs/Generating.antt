@@ -19,7 +19,8 @@ GeneratedBy line settings text = IsGenerated (number_behind line 0) (number_behi
 
 abbrev pub GenerateGivesBy : {O : Type 0} → SinkModel O → Parts → (settings : List Pair) → (o0 o1 : O) → Cause → End → Type 0
 GenerateGivesBy s line settings o0 o1 cause Well = (text : List ℕ) × GeneratedBy line settings text × Got s o0 o1 text
-GenerateGivesBy s line settings o0 o1 cause Output = ((text : List ℕ) × GeneratedBy line settings text × GotPart s o0 o1 text) × Rose (s.faults o0) (s.faults o1)
+GenerateGivesBy s line settings o0 o1 cause Output =
+    ((text : List ℕ) × GeneratedBy line settings text × GotPart s o0 o1 text) × Rose (s.faults o0) (s.faults o1)
 GenerateGivesBy s line settings o0 o1 cause Failed = (cause ≡ Memory) × (o1 ≡ o0)
 
 abbrev pub GenerateGives : {O : Type 0} → SinkModel O → Parts → (settings : List Pair) → (o0 o1 : O) → Cause → Type 0

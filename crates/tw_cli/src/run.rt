@@ -1,11 +1,12 @@
 // One command line over a disk and streams.
 ghost use Rattle.std.specs.Prelude.{◌≡◌};
 ghost use Rattle.tw_world.specs.Disk.{FaultsRise, Tells};
+ghost use Rattle.tw_spawn.specs.Spawner.{SpawnerKept};
 ghost use Rattle.tw_sync.specs.Answers.{IsLinkKept};
 ghost use Rattle.tw_cli.specs.Opening.{KeepsState};
 ghost use Rattle.tw_cli.specs.Fault.{GotFault, status_of};
 ghost use Rattle.tw_cli.specs.Asked.{asked_by};
-ghost use Rattle.tw_cli.specs.Whole.{went, RunGives, EndsWell, RunLeaves, IsHonestFor, ChainGrows, RunDraws, RunKeepsInput, IsRun};
+ghost use Rattle.tw_cli.specs.Whole.{models, went, RunGives, EndsWell, RunLeaves, RunSpares, IsHonestFor, ChainGrows, RunDraws, RunKeepsInput, IsRun};
 ghost use Rattle.tw_cli.specs.Agreement.{AgreementStays};
 ghost use Rattle.tw_cli.specs.Events.{IsEvent};
 
@@ -17,11 +18,12 @@ use crate::generating::run_generate;
 use crate::syncing::run_sync;
 use std::alloc::Global;
 use tw_http::Link;
+use tw_spawn::Spawner;
 use tw_time::Zone;
-use tw_world::{Disk, IdWords, Moment, Sink, Source};
+use tw_world::{Disk, Folder, IdWords, Moment, Sink, Source};
 
 // Runs a command line, and writes nothing on the standard error.
-fn run_words<D: Disk, L: Link, S: Source, O: Sink>(
+fn run_words<D: Disk, L: Link, S: Source, O: Sink, P: Spawner, F: Folder, J: Disk>(
     alloc: Global,
     words: &Vec<String>,
     settings: &Vec<u8>,
@@ -32,12 +34,16 @@ fn run_words<D: Disk, L: Link, S: Source, O: Sink>(
     link: &mut L,
     input: &mut S,
     out: &mut O,
+    spawner: &mut P,
+    folder: &mut F,
+    track: &mut J,
 ) -> Cause
-    ensures { IsRun D.model S.model O.model L.model (asked_by words.now settings.now now zone.entry) ids.old ids.new
-        (went disk.old disk.new input.old input.new out.old out.new link.old link.new) result }
+    ensures { IsRun (models D.model S.model O.model L.model P.model F.model J.model) (asked_by words.now settings.now now zone.entry) ids.old ids.new
+        (went disk.old disk.new input.old input.new out.old out.new link.old link.new
+        spawner.old spawner.new folder.old folder.new track.old track.new) result }
 {
     match asked(alloc, words, settings, now, zone) {
-        Ok(Job::Here(request)) => run_command(alloc, request, ids, disk, input, out),
+        Ok(Job::Here(request)) => run_command(alloc, request, ids, disk, input, out, spawner),
         Ok(Job::Sync(server)) => run_sync(alloc, &server, disk, link, out),
         Ok(Job::Generate(line, settings)) => run_generate(alloc, &line, &settings, out),
         Err(error) => Cause::from(error),
@@ -48,7 +54,9 @@ fn run_words<D: Disk, L: Link, S: Source, O: Sink>(
 /// among the words, and judges the words, opens the replica that the disk holds, writes at most one record, prints to `out`, and
 /// writes a line on `err` for any other end than `Done`. The record is written before anything is printed. Only `sync` uses the link, and only
 /// `import` the input, of which it reads at most 67,108,864 bytes and one more. `_generate` is in memory, and leaves the disk as it was.
-pub fn task_run<D: Disk, L: Link, S: Source, O: Sink, E: Sink>(
+/// The hooks that `spawner` runs see each task that a command makes or changes, and may change or refuse it; the record is written after them.
+/// The folder and the journal of hours are not used yet.
+pub fn task_run<D: Disk, L: Link, S: Source, O: Sink, E: Sink, P: Spawner, F: Folder, J: Disk>(
     alloc: Global,
     words: &Vec<String>,
     settings: &Vec<u8>,
@@ -60,35 +68,49 @@ pub fn task_run<D: Disk, L: Link, S: Source, O: Sink, E: Sink>(
     input: &mut S,
     out: &mut O,
     err: &mut E,
+    spawner: &mut P,
+    folder: &mut F,
+    track: &mut J,
 ) -> Outcome
-    ensures gives { RunGives D.model S.model O.model L.model (asked_by words.now settings.now now zone.entry) ids.old
-        (went disk.old disk.new input.old input.new out.old out.new link.old link.new) result.cause }
-    ensures complete { EndsWell D.model S.model O.model L.model (asked_by words.now settings.now now zone.entry) ids.old
-        (went disk.old disk.new input.old input.new out.old out.new link.old link.new) result.cause }
-    ensures any_moment { RunLeaves D.model S.model O.model L.model (asked_by words.now settings.now now zone.entry) ids.old
-        (went disk.old disk.new input.old input.new out.old out.new link.old link.new) result.cause }
+    ensures gives { RunGives (models D.model S.model O.model L.model P.model F.model J.model) (asked_by words.now settings.now now zone.entry) ids.old
+        (went disk.old disk.new input.old input.new out.old out.new link.old link.new
+        spawner.old spawner.new folder.old folder.new track.old track.new) result.cause }
+    ensures complete { EndsWell (models D.model S.model O.model L.model P.model F.model J.model) (asked_by words.now settings.now now zone.entry) ids.old
+        (went disk.old disk.new input.old input.new out.old out.new link.old link.new
+        spawner.old spawner.new folder.old folder.new track.old track.new) result.cause }
+    ensures any_moment { RunLeaves (models D.model S.model O.model L.model P.model F.model J.model) (asked_by words.now settings.now now zone.entry) ids.old
+        (went disk.old disk.new input.old input.new out.old out.new link.old link.new
+        spawner.old spawner.new folder.old folder.new track.old track.new) result.cause }
 
     ensures stays { KeepsState D.model disk.old disk.new result.cause }
 
     // A replica that agrees with the server's chain agrees with it after each run.
     ensures agrees { Tells D.model disk.old → IsHonestFor L.model (asked_by words.now settings.now now zone.entry) link.old
-        → AgreementStays D.model L.model (went disk.old disk.new input.old input.new out.old out.new link.old link.new) result.cause }
+        → AgreementStays D.model L.model
+        (went disk.old disk.new input.old input.new out.old out.new link.old link.new
+        spawner.old spawner.new folder.old folder.new track.old track.new) result.cause }
     // So it is an event of each world in which the disk stands for some states, and so is what a crash leaves of it.
     ensures world { IsEvent D.model L.model (asked_by words.now settings.now now zone.entry)
-        (went disk.old disk.new input.old input.new out.old out.new link.old link.new) result.cause }
-    ensures grows { ChainGrows D.model S.model O.model L.model (asked_by words.now settings.now now zone.entry)
-        (went disk.old disk.new input.old input.new out.old out.new link.old link.new) }
+        (went disk.old disk.new input.old input.new out.old out.new link.old link.new
+        spawner.old spawner.new folder.old folder.new track.old track.new) result.cause }
+    ensures grows { ChainGrows (models D.model S.model O.model L.model P.model F.model J.model) (asked_by words.now settings.now now zone.entry)
+        (went disk.old disk.new input.old input.new out.old out.new link.old link.new
+        spawner.old spawner.new folder.old folder.new track.old track.new) }
 
+    ensures spares { RunSpares (asked_by words.now settings.now now zone.entry)
+        (went disk.old disk.new input.old input.new out.old out.new link.old link.new
+        spawner.old spawner.new folder.old folder.new track.old track.new) }
     ensures ids { RunDraws D.model S.model (asked_by words.now settings.now now zone.entry) disk.old input.old input.new
         ids.old ids.new result.cause }
     ensures told { GotFault E.model err.old err.new result.cause }
     ensures status { result.status ≡ status_of result.cause }
     ensures kept { FaultsRise D.model disk.old disk.new }
     ensures link_kept { IsLinkKept L.model link.old link.new }
+    ensures spawner_kept { SpawnerKept P.model spawner.old spawner.new }
     ensures input_kept { RunKeepsInput S.model (asked_by words.now settings.now now zone.entry) input.old input.new }
 {
     let cause = run_words(
-        alloc, words, settings, now, zone, ids, disk, link, input, out,
+        alloc, words, settings, now, zone, ids, disk, link, input, out, spawner, folder, track,
     );
     put_fault(err, &cause);
     Outcome {

@@ -2,7 +2,7 @@
 use Rattle.std.proofs.Common.{◌≡◌, ◌∙◌, ap, sym, refl, subst, List, ℕ, Option, Some, None, Result, Ok, Err, Bool, true, false, cond, [], ◌∷◌, ◌++◌, ◌+◌}
 use Rattle.tw_world.specs.declared.Moment.{Moment}
 use Rattle.tw_world.specs.declared.ids.IdWords.{IdWords}
-use Rattle.tw_model.specs.Ops.{TasksValue}
+use Rattle.tw_model.specs.Ops.{TaskValue, TasksValue}
 use Rattle.tw_model.specs.LocalOps.{apply_local, apply_all_local, FitAllLocal}
 use Rattle.tw_model.specs.Changes.{changed_all, ops_of_all, group_of}
 use Rattle.tw_model.specs.declared.Op.{Op}
@@ -17,6 +17,7 @@ use Rattle.tw_commands.specs.Marks.{mask_changes}
 use Rattle.tw_commands.specs.Plan.{Plan, Work, step_in}
 use Rattle.tw_commands.specs.Plan.Work.{Changes, TakeBack}
 use Rattle.tw_commands.specs.Commands.{plan_of}
+use Rattle.tw_commands.specs.Asks.{answered_with}
 use Rattle.tw_commands.specs.Laws.{IsCarriedOut, CarriedIsApplied, ChangesAreCarriedOut}
 use Rattle.tw_commands.specs.Carried.{Carried, concluded, with_text, then_concluded, carried_by}
 use Rattle.tw_commands.specs.declared.request.Request.{Request}
@@ -53,11 +54,11 @@ by_group request old (Ok plan) c e =
     let step = step_in request.at old plan.work in
     subst IsOfGroup (sym (then_is request plan old step (applied old step) c e).0) (work_of_group request old plan.work)
 
-pub step_of_group : (request : Request) (ids : IdWords) (old : State) (c : Carried) → IsCarriedOut request ids old c → IsOfGroup c.step
-step_of_group request ids old c e = by_group request old (plan_of request ids old) c e
+pub step_of_group : (request : Request) (ids : IdWords) (answers : List TaskValue) (old : State) (c : Carried) → IsCarriedOut request ids answers old c → IsOfGroup c.step
+step_of_group request ids answers old c e = by_group request old (answered_with answers old.tasks (plan_of request ids old)) c e
 
 pub carried_applies : CarriedIsApplied
-carried_applies request ids old c e = by_is request old (plan_of request ids old) c e
+carried_applies request ids answers old c e = by_is request old (answered_with answers old.tasks (plan_of request ids old)) c e
 
 -- ---- changes always lead somewhere
 
@@ -80,7 +81,7 @@ leads renumber changes now old =
     (none_misfits 0 old.tasks (group_of ops) (group_fits old.tasks ops (changes_lead old.tasks changes now).0))
 
 pub changes_carried : ChangesAreCarriedOut
-changes_carried request ids old plan renumber changes marks planned works =
+changes_carried request ids answers old plan renumber changes marks planned works =
     let all : List Change = changes ++ mask_changes request.at (changed_all old.tasks changes) marks in
     let there = leads renumber all request.at old in
     let step : applied old (step_in request.at old plan.work) ≡ Some there.0 = ap (λ w. applied old (step_in request.at old w)) works ∙ there.1 in

@@ -8,8 +8,7 @@ use Rattle.tw_model.specs.Maps.{bytes_cmp, same_bytes, set_at}
 use Rattle.tw_model.specs.Ops.{TaskValue, TasksValue}
 use Rattle.tw_model.proofs.Maps.{same_bytes_exact, same_bytes_itself, get-set_at, get-set_at_apart}
 use Rattle.tw_urgency.specs.Dependencies.{dependency_in, is_that}
-use Rattle.tw_urgency.specs.Paths.{depends, depends_there, IsPath, Leads}
-use Rattle.tw_commands.specs.Reached.{IsReachedFrom}
+use Rattle.tw_urgency.specs.Paths.{depends, depends_there, IsPath, Leads, IsReachedFrom}
 use Rattle.tw_urgency.proofs.Reaching.{either, first_of_two, second_of_two}
 use Rattle.tw_commands.specs.Circles.{leads_next, leads_on, leads_over, leads, LeadsWhereAPathLeads}
 

@@ -31,12 +31,12 @@ use Rattle.tw_words.specs.declared.command.Command.TheVariants as command
 use Rattle.tw_commands.specs.Stamps.{stamped}
 use Rattle.tw_commands.specs.Marks.{sign_of, marks_by, marks_with, marks_of, mark_all, stamped_from, mask_change, mask_changes}
 use Rattle.tw_commands.specs.Plan.{Plan, Work, Show, step_in}
-use Rattle.tw_commands.specs.Plan.Show.{Logged}
+use Rattle.tw_commands.specs.Plan.Show.{Created, Logged}
 use Rattle.tw_commands.specs.Plan.Work.{Changes, TakeBack}
 use Rattle.tw_commands.specs.Request.{drawn, after_draw, scene_in, selected_in}
 use Rattle.tw_commands.specs.Effects.{change_by, change_at, changes_by, acting}
 use Rattle.tw_commands.specs.Makes.{making}
-use Rattle.tw_commands.specs.Makes.Add.{added, logged, created}
+use Rattle.tw_commands.specs.Makes.Add.{added, logged}
 use Rattle.tw_commands.specs.Makes.Duplicate.{copied, Copies, is_taken, stopped, where_there, copies_of, change_of, duplicating, duplicated, copies_in}
 use Rattle.tw_commands.specs.Looks.Information.{information_on}
 use Rattle.tw_commands.specs.Reports.{instances_in, reporting}
@@ -260,7 +260,7 @@ module _ (request : Request) (old : State) (u : List ℕ) (before : TaskValue) (
   making_is show v task None none = (λ same. absurd (not_new v none same), no_masks Is u request.at (changed_all old.tasks (record { uuid = v; task = Some task } ∷ [])))
   making_is show v task (Some x) found = tt
 
-  abbrev AreNew : Result TasksValue Refusal → Type 0
+  abbrev pub AreNew : Result TasksValue Refusal → Type 0
   AreNew (Ok made) = IsNew old.tasks made
   AreNew (Err refusal) = Unit {0}
 
@@ -290,7 +290,7 @@ module _ (request : Request) (old : State) (u : List ℕ) (before : TaskValue) (
     copy_new ids made None new = next ids made new
     copy_new ids made (Some task) new = drawn_new ids made task (is_taken old.tasks made (drawn ids)) refl new
 
-  copies_new : (copy : TaskValue → TaskValue) (us : List (List ℕ)) (ids : IdWords) (made : TasksValue) → IsNew old.tasks made → AreNew (copies_of copy ids old.tasks made us).made
+  pub copies_new : (copy : TaskValue → TaskValue) (us : List (List ℕ)) (ids : IdWords) (made : TasksValue) → IsNew old.tasks made → AreNew (copies_of copy ids old.tasks made us).made
   copies_new copy [] ids made new = new
   copies_new copy (v ∷ us) ids made new = copy_new copy us (copies_new copy us) ids made (get old.tasks v) new
 
@@ -307,7 +307,7 @@ module _ (request : Request) (old : State) (u : List ℕ) (before : TaskValue) (
   duplicated_is (Err refusal) new = tt
   duplicated_is (Ok made) new = duplicating_is (entries made) (new_are made (entries made) new (entries_found made))
 
-  nothing_new : IsNew old.tasks empty
+  pub nothing_new : IsNew old.tasks empty
   nothing_new v is = absurd (let no : is_some (get {X = TaskValue} {R = bytes_cmp} empty v) ≡ false = ap is_some (get-empty bytes_cmp v) in cc)
 
   -- ---- reports
@@ -391,8 +391,7 @@ module _ (request : Request) (old : State) (u : List ℕ) (before : TaskValue) (
 
   plan_is : (c : Command) (ids : IdWords) → brings_moments c ≡ false → IsPlan (plan_by c request ids old)
   plan_is command.Add ids own =
-      let task = added (scene_in request old) request.line request.at in
-      making_is (created (drawn ids) task) (drawn ids) task (get old.tasks (drawn ids)) refl
+      making_is (Created (drawn ids)) (drawn ids) (added (scene_in request old) request.line request.at) (get old.tasks (drawn ids)) refl
   plan_is command.Log ids own = making_is Logged (drawn ids) (logged (scene_in request old) request.line request.at) (get old.tasks (drawn ids)) refl
   plan_is command.Modify ids own = editing_is deed.Modified
   plan_is command.Append ids own = editing_is deed.Modified

@@ -1,4 +1,5 @@
 pub mod Applied
+mod AnsweredPlans
 mod RefusedSteps
 pub mod Copies
 pub mod ImportedElements
@@ -10,5 +11,5 @@ pub mod OtherTasks
 pub mod StampedTasks
 pub mod KeptProperties
 pub mod ExactMoments
+pub mod TasksThatStay
 pub mod TakenBack
-pub mod ReachedTasks

@@ -54,9 +54,9 @@ leads_back renumber op ops old new fit moved point none =
     }
 
 pub undo_takes_back : UndoTakesBack
-undo_takes_back request ids old c renumber op ops carried step =
-    let applies : committed renumber (op ∷ ops) old ≡ Some c.new = ap (applied old) (sym step) ∙ carried_applies request ids old c carried in
+undo_takes_back request ids answers old c renumber op ops carried step =
+    let applies : committed renumber (op ∷ ops) old ≡ Some c.new = ap (applied old) (sym step) ∙ carried_applies request ids answers old c carried in
     let leads = commit_leads renumber op ops old c.new applies in
-    let group : is_group (op ∷ ops) ≡ true = subst IsOfGroup step (step_of_group request ids old c carried) in
+    let group : is_group (op ∷ ops) ≡ true = subst IsOfGroup step (step_of_group request ids answers old c carried) in
     let parts = both_hold (is_undo_point op) (has_no_point ops) group in
     leads_back renumber op ops old c.new leads.0 leads.1 parts.0 parts.1

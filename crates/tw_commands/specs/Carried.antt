@@ -1,12 +1,15 @@
 -- What a command comes to, in a replica of some state: its step, the state after it, and its text, or why it does nothing.
-use Rattle.std.specs.Prelude.{ℕ, List, Option, Some, None, Result, Ok, Err}
+use Rattle.std.specs.Prelude.{ℕ, List, [], Option, Some, None, Result, Ok, Err}
 use Rattle.tw_world.specs.declared.ids.IdWords.{IdWords}
+use Rattle.tw_model.specs.Ops.{TaskValue}
 use Rattle.tw_replica.specs.Body.{Step}
 use Rattle.tw_replica.specs.State.{State, applied}
 use Rattle.tw_commands.specs.Plan.{Plan, Show, step_in}
 use Rattle.tw_commands.specs.Commands.{plan_of}
+use Rattle.tw_commands.specs.Asks.{asked_of, answered_with}
 use Rattle.tw_commands.specs.Circles.{circle_in}
 use Rattle.tw_commands.specs.Texts.{shown}
+use Rattle.tw_hooks.specs.declared.all.Ask.{Ask}
 use Rattle.tw_commands.specs.declared.request.Request.{Request}
 use Rattle.tw_commands.specs.declared.refusal.Refusal.{Refusal}
 use Rattle.tw_commands.specs.declared.refusal.Refusal.TheVariants.{NothingToUndo, Cycle}
@@ -38,6 +41,14 @@ carried_by request old (Err refusal) = Err refusal
 carried_by request old (Ok plan) =
     then_concluded request plan old (step_in request.at old plan.work) (applied old (step_in request.at old plan.work))
 
--- what a request comes to, by the uuids that are drawn for it
-abbrev pub carried_out : Request → IdWords → State → Result Carried Refusal
-carried_out request ids old = carried_by request old (plan_of request ids old)
+abbrev pub asked_by : Request → (old : State) → Result Plan Refusal → List Ask
+asked_by request old (Err refusal) = []
+asked_by request old (Ok plan) = asked_of request old.tasks plan.work
+
+-- what hooks are asked about
+abbrev pub asked_in : Request → IdWords → State → List Ask
+asked_in request ids old = asked_by request old (plan_of request ids old)
+
+-- what a request comes to, by the uuids that are drawn for it and the tasks that hooks answer
+abbrev pub carried_out : Request → IdWords → (answers : List TaskValue) → State → Result Carried Refusal
+carried_out request ids answers old = carried_by request old (answered_with answers old.tasks (plan_of request ids old))

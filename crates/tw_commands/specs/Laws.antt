@@ -1,5 +1,5 @@
 -- Laws of commands.
-use Rattle.std.specs.Prelude.{◌≡◌, ◌⊎◌, ℕ, Bool, true, false, List, ◌∷◌, Option, Some, None, Ok, is_some, codes}
+use Rattle.std.specs.Prelude.{◌≡◌, ◌⊎◌, ℕ, Bool, true, false, List, [], ◌∷◌, Option, Some, None, Ok, is_some, codes}
 use Rattle.std.specs.List.{list_any}
 use Rattle.std.specs.Fmt.{decimal}
 use Rattle.std.specs.FinMap.{get}
@@ -17,33 +17,36 @@ use Rattle.tw_commands.specs.Request.{selected_in}
 use Rattle.tw_commands.specs.Plan.{Plan, step_in}
 use Rattle.tw_commands.specs.Plan.Work.{Changes}
 use Rattle.tw_commands.specs.Commands.{plan_of, editing}
+use Rattle.tw_commands.specs.Asks.{answered_with}
 use Rattle.tw_commands.specs.Carried.{Carried, with_text, concluded, carried_out}
 use Rattle.tw_commands.specs.declared.marks.Mark.{Mark}
 use Rattle.tw_commands.specs.declared.plan.Deed.{Deed}
 use Rattle.tw_commands.specs.declared.request.Request.{Request}
 
--- a request comes to this
-abbrev pub IsCarriedOut : Request → IdWords → State → Carried → Type 0
-IsCarriedOut request ids old carried = carried_out request ids old ≡ Ok carried
+-- a request comes to this, if hooks answer these tasks
+abbrev pub IsCarriedOut : Request → IdWords → (answers : List TaskValue) → State → Carried → Type 0
+IsCarriedOut request ids answers old carried = carried_out request ids answers old ≡ Ok carried
 
 -- what a command comes to is its step, taken from the state before
 abbrev pub CarriedIsApplied : Type 0
-CarriedIsApplied = (request : Request) (ids : IdWords) (old : State) (carried : Carried) → IsCarriedOut request ids old carried
+CarriedIsApplied = (request : Request) (ids : IdWords) (answers : List TaskValue) (old : State) (carried : Carried)
+    → IsCarriedOut request ids answers old carried
     → applied old carried.step ≡ Some carried.new
 
--- a request is to do this
-abbrev pub IsPlanned : Request → IdWords → State → Plan → Type 0
-IsPlanned request ids old plan = plan_of request ids old ≡ Ok plan
+-- a request is to do this, if hooks answer these tasks
+abbrev pub IsPlanned : Request → IdWords → (answers : List TaskValue) → State → Plan → Type 0
+IsPlanned request ids answers old plan = answered_with answers old.tasks (plan_of request ids old) ≡ Ok plan
 
 -- a plan leads to a state, and is concluded there
-abbrev pub IsConcluded : Request → IdWords → State → Plan → Type 0
-IsConcluded request ids old plan =
-    (new : State) × (carried_out request ids old ≡ with_text (step_in request.at old plan.work) new (concluded request plan.show old new))
+abbrev pub IsConcluded : Request → IdWords → (answers : List TaskValue) → State → Plan → Type 0
+IsConcluded request ids answers old plan =
+    (new : State) × (carried_out request ids answers old ≡ with_text (step_in request.at old plan.work) new (concluded request plan.show old new))
 
 -- a command that makes changes is carried out, unless they close a circle or a report has nothing to show: their operations fit, whatever they are
 abbrev pub ChangesAreCarriedOut : Type 0
-ChangesAreCarriedOut = (request : Request) (ids : IdWords) (old : State) (plan : Plan) (renumber : Bool) (changes : List Change) (marks : List Mark)
-    → IsPlanned request ids old plan → plan.work ≡ Changes renumber changes marks → IsConcluded request ids old plan
+ChangesAreCarriedOut = (request : Request) (ids : IdWords) (answers : List TaskValue) (old : State) (plan : Plan)
+    → (renumber : Bool) (changes : List Change) (marks : List Mark)
+    → IsPlanned request ids answers old plan → plan.work ≡ Changes renumber changes marks → IsConcluded request ids answers old plan
 
 -- ---- what a command leaves as it was
 
@@ -57,9 +60,11 @@ pub record IsSameButMask (before after : Option TaskValue) : Type 0 where
   pub there : is_some after ≡ is_some before
   pub others : (p : List ℕ) → same_bytes p (codes "mask") ≡ false → same_bytes p (codes "modified") ≡ false → value_of p after ≡ value_of p before
 
+-- ---- of a command for which no hook answers
+
 -- a command that acts on the tasks that its filter selects leaves the others as they were, but for the masks of templates
 abbrev pub OthersStay : Type 0
-OthersStay = (request : Request) (ids : IdWords) (old : State) (carried : Carried) (deed : Deed) (u : List ℕ) → IsCarriedOut request ids old carried
+OthersStay = (request : Request) (ids : IdWords) (old : State) (carried : Carried) (deed : Deed) (u : List ℕ) → IsCarriedOut request ids [] old carried
     → plan_of request ids old ≡ editing deed request old → list_any (same_bytes u) (selected_in request old) ≡ false
     → IsSameButMask (get old.tasks u) (get carried.new.tasks u)
 
@@ -70,7 +75,7 @@ IsStamped now before (Some task) = (before ≡ Some task) ⊎ (get task (codes "
 
 -- a task that such a command changes has its moment
 abbrev pub ChangesAreStamped : Type 0
-ChangesAreStamped = (request : Request) (ids : IdWords) (old : State) (carried : Carried) (deed : Deed) (u : List ℕ) → IsCarriedOut request ids old carried
+ChangesAreStamped = (request : Request) (ids : IdWords) (old : State) (carried : Carried) (deed : Deed) (u : List ℕ) → IsCarriedOut request ids [] old carried
     → plan_of request ids old ≡ editing deed request old → IsStamped request.at (get old.tasks u) (get carried.new.tasks u)
 
 -- ---- when `modified` moves
@@ -92,7 +97,7 @@ pub record MovesExactly (now : Moment) (before after : TaskValue) : Type 0 where
 
 -- what any other command leaves of a task that was there
 abbrev pub ModifiedMovesExactly : Type 0
-ModifiedMovesExactly = (request : Request) (ids : IdWords) (old : State) (carried : Carried) (u : List ℕ) (before after : TaskValue) → IsCarriedOut request ids old carried
+ModifiedMovesExactly = (request : Request) (ids : IdWords) (old : State) (carried : Carried) (u : List ℕ) (before after : TaskValue) → IsCarriedOut request ids [] old carried
     → brings_moments request.command ≡ false → get old.tasks u ≡ Some before → get carried.new.tasks u ≡ Some after → MovesExactly request.at before after
 
 -- ---- what an undo takes back
@@ -107,5 +112,5 @@ pub record LeadsBack (old new : State) : Type 0 where
 
 -- what a command wrote, an undo right after it takes back
 abbrev pub UndoTakesBack : Type 0
-UndoTakesBack = (request : Request) (ids : IdWords) (old : State) (carried : Carried) (renumber : Bool) (op : Op) (ops : List Op)
-    → IsCarriedOut request ids old carried → carried.step ≡ Commit renumber (op ∷ ops) → LeadsBack old carried.new
+UndoTakesBack = (request : Request) (ids : IdWords) (answers : List TaskValue) (old : State) (carried : Carried) (renumber : Bool) (op : Op) (ops : List Op)
+    → IsCarriedOut request ids answers old carried → carried.step ≡ Commit renumber (op ∷ ops) → LeadsBack old carried.new

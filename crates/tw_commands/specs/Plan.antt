@@ -29,10 +29,8 @@ pub data Work : Type 0 where
 pub data Show : Type 0 where
   -- on how many tasks it acted
   Counted : Deed → ℕ → Show
-  -- the number of a task that was added
+  -- the number of a task that was added, and whether it recurs
   Created : List ℕ → Show
-  -- the number of a task that was added and recurs
-  Template : List ℕ → Show
   -- that a task was logged
   Logged : Show
   -- how many operations were taken back
@@ -60,7 +58,6 @@ work_view work.TakeBack = TakeBack
 abbrev pub show_view : code_show.Show → Show
 show_view (show.Counted deed count) = Counted deed count
 show_view (show.Created uuid) = Created uuid
-show_view (show.Template uuid) = Template uuid
 show_view show.Logged = Logged
 show_view show.TakenBack = TakenBack
 show_view (show.Text text) = Text text.items

@@ -1,13 +1,16 @@
 -- What commands print.
-use Rattle.std.specs.Prelude.{ℕ, ◌+◌, ◌-◌, ◌==◌, cond, List, [], ◌++◌, length, Option, Some, None, Result, Ok, Err, codes}
+use Rattle.std.specs.Prelude.{ℕ, ◌+◌, ◌-◌, ◌==◌, Bool, false, cond, List, [], ◌++◌, length, Option, Some, None, Result, Ok, Err, codes}
 use Rattle.std.specs.Global.{Vec}
 use Rattle.std.specs.Fmt.{decimal}
-use Rattle.tw_model.specs.Places.{Places, id_of}
+use Rattle.std.specs.FinMap.{get}
+use Rattle.tw_model.specs.Ops.{TaskValue}
+use Rattle.tw_model.specs.Places.{id_of}
 use Rattle.tw_replica.specs.State.{State}
 use Rattle.tw_commands.specs.Plan.{Show}
-use Rattle.tw_commands.specs.Plan.Show.{Counted, Created, Template, Logged, TakenBack, Text, Report}
+use Rattle.tw_commands.specs.Plan.Show.{Counted, Created, Logged, TakenBack, Text, Report}
 use Rattle.tw_commands.specs.declared.plan.Deed.{Deed}
 use Rattle.tw_commands.specs.declared.plan.Deed.TheVariants.{Modified, Annotated, Denotated, Completed, Deleted, Purged, Started, Stopped, Duplicated, Imported}
+use Rattle.tw_commands.specs.Makes.Add.{recurs}
 use Rattle.tw_commands.specs.Reports.{reported}
 use Rattle.tw_commands.specs.declared.request.Request.{Request}
 use Rattle.tw_commands.specs.declared.refusal.Refusal.{Refusal}
@@ -15,15 +18,6 @@ use Rattle.tw_commands.specs.declared.refusal.Refusal.{Refusal}
 -- a number between two texts
 abbrev pub numbered : List ℕ → ℕ → List ℕ → List ℕ
 numbered front n back = front ++ (decimal n ++ back)
-
--- a number that is there, and else 0
-abbrev pub or_zero : Option ℕ → ℕ
-or_zero None = 0
-or_zero (Some n) = n
-
--- the number of a task, and 0 if it has no place
-abbrev pub number_of : List ℕ → Places → ℕ
-number_of u places = or_zero (id_of u places)
 
 -- the word for what was done
 abbrev pub deed_word : Deed → List ℕ
@@ -42,13 +36,19 @@ deed_word Imported = codes "Imported "
 abbrev pub counted_text : Deed → ℕ → List ℕ
 counted_text deed n = numbered (deed_word deed) n (cond (n == 1) (codes " task.\n") (codes " tasks.\n"))
 
--- of a task that was added
-abbrev pub created_text : List ℕ → Places → List ℕ
-created_text u places = numbered (codes "Created task ") (number_of u places) (codes ".\n")
+-- of a task that was logged
+abbrev pub logged_text : List ℕ
+logged_text = codes "Logged task.\n"
 
--- of a task that was added and recurs
-abbrev pub template_text : List ℕ → Places → List ℕ
-template_text u places = numbered (codes "Created task ") (number_of u places) (codes " (recurrence template).\n")
+-- whether a task is there and recurs
+abbrev pub recurs_there : Option TaskValue → Bool
+recurs_there None = false
+recurs_there (Some task) = recurs task
+
+-- of a task that was added, by its number and what it is then; one that is not open has no number
+abbrev pub created_text : Option ℕ → Option TaskValue → List ℕ
+created_text None task = logged_text
+created_text (Some n) task = numbered (codes "Created task ") n (cond (recurs_there task) (codes " (recurrence template).\n") (codes ".\n"))
 
 -- of operations that were taken back
 abbrev pub undone_text : ℕ → List ℕ
@@ -61,9 +61,8 @@ count_text n = numbered [] n (codes "\n")
 -- the text, once the step led from one state to another; a report that has nothing to show is refused
 abbrev pub shown : Request → Show → (old new : State) → Result (List ℕ) Refusal
 shown request (Counted deed n) old new = Ok (counted_text deed n)
-shown request (Created u) old new = Ok (created_text u new.numbers)
-shown request (Template u) old new = Ok (template_text u new.numbers)
-shown request Logged old new = Ok (codes "Logged task.\n")
+shown request (Created u) old new = Ok (created_text (id_of u new.numbers) (get new.tasks u))
+shown request Logged old new = Ok logged_text
 shown request TakenBack old new = Ok (undone_text (length old.pending - (length new.pending + 1)))
 shown request (Text text) old new = Ok text
 shown request (Report report before) old new = reported request report before new

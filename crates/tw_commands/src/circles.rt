@@ -1,13 +1,12 @@
 // Dependencies that a command adds, and circles that they close.
 ghost use Rattle.std.specs.Prelude.{◌≡◌, ◌++◌, drop, IfOk, OnOk};
+ghost use Rattle.tw_urgency.specs.Paths.{IsClosed};
 ghost use Rattle.tw_commands.specs.Circles as spec;
-ghost use Rattle.tw_commands.specs.Reached.{IsClosed};
 
-use crate::reached::reach;
 use std::alloc::Global;
 use std::collections::BTreeSet;
 use tw_model::{Op, Tasks};
-use tw_urgency::{dependency_in, reached};
+use tw_urgency::{dependency_in, reach, reached};
 use tw_words::Command;
 use tw_world::Memory;
 use uuid::Uuid;
@@ -83,8 +82,8 @@ fn closes(
     Ok(is)
 }
 
-/// The first dependency that the operations from a place on add and that closes a circle. All of them are searched at once. One is
-/// searched alone only if others lead to its task.
+/// The first dependency that the operations from a place on add and that closes a circle. All of them are searched at once. A command gives
+/// each of its tasks the same dependencies. So one is searched alone only if one of them closes a circle, or if there was one before.
 pub(crate) fn first_circle(
     alloc: Global,
     tasks: &Tasks,

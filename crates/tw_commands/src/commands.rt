@@ -7,7 +7,7 @@ ghost use Rattle.tw_commands.specs.Plan.{planned};
 ghost use Rattle.tw_commands.specs.Request.{scene_in};
 ghost use Rattle.tw_commands.specs.Commands as spec;
 
-mod add;
+pub(crate) mod add;
 mod annotate;
 mod append;
 mod count;
@@ -82,7 +82,7 @@ fn plan_by(
 }
 
 /// What a request is to do with a replica, or why it does nothing.
-pub(crate) fn plan_of(
+pub fn plan_of(
     alloc: Global,
     request: &Request<'_>,
     ids: &mut IdWords,

@@ -1,5 +1,6 @@
 //! Laws of commands. Each is the contract of a function that does nothing.
 ghost use Rattle.tw_commands.specs.Laws.{CarriedIsApplied, ChangesAreCarriedOut, ChangesAreStamped, ModifiedMovesExactly, OthersStay, UndoTakesBack};
+ghost use Rattle.tw_commands.specs.Stays.{ImportsChangeWhatTheyGive, MakersChangeNone, ReportsChangeMasks};
 ghost use Rattle.tw_commands.specs.Circles.{LeadsWhereAPathLeads};
 ghost use Rattle.tw_commands.specs.Worded.{WordsAreTaken};
 
@@ -30,7 +31,22 @@ pub fn other_tasks_stay()
     ensures { OthersStay }
 {}
 
-/// Each task that such a command leaves is as it was, or has the moment of the command as its `modified`.
+/// `add`, `log` and `duplicate` leave each task that was there as it was.
+pub fn makers_change_none()
+    ensures { MakersChangeNone }
+{}
+
+/// An import leaves each task that was there as it was, unless its input gives the task's uuid.
+pub fn imports_change_what_they_give()
+    ensures { ImportsChangeWhatTheyGive }
+{}
+
+/// A report leaves each task that was there as it was, but for the masks of templates and the moments at which those changed.
+pub fn reports_change_masks()
+    ensures { ReportsChangeMasks }
+{}
+
+/// Each task that a command leaves that acts on selected ones is as it was, or has the moment of the command as its `modified`.
 pub fn changes_are_stamped()
     ensures { ChangesAreStamped }
 {}

@@ -18,7 +18,7 @@ use uuid::Uuid;
 
 /// How an instance ended.
 #[derive(Clone, Copy)]
-pub(crate) enum Sign {
+pub enum Sign {
     /// It is done.
     Completed,
     /// It is deleted.
@@ -39,7 +39,7 @@ impl Sign {
 
 /// A sign for a parent's mask, at an index.
 #[derive(Clone, Copy)]
-pub(crate) struct Mark {
+pub struct Mark {
     pub parent: Uuid,
     pub index: u64,
     pub sign: Sign,

@@ -1,28 +1,26 @@
 // A command that is made in memory, with its text.
-ghost use Rattle.std.specs.Prelude.{◌≡◌, length, Ok as AnOk, Err as AnErr, None as Nowhere, IfOk, IfErr, OnOk, OnErr};
+ghost use Rattle.std.specs.Prelude.{◌≡◌, length, Ok as AnOk, Err as AnErr, None as Nowhere, IfOk, IfErr};
 ghost use Rattle.tw_replica.specs.State.{State, applied};
 ghost use Rattle.tw_replica.specs.Replica.{held_state};
 ghost use Rattle.tw_replica.specs.Prepared.{IsPrepared, prepared_state};
-ghost use Rattle.tw_commands.specs.Commands.{ids_after, MayHaveDrawn};
-ghost use Rattle.tw_commands.specs.Plan.{step_in, work_view, show_view};
+ghost use Rattle.tw_commands.specs.Plan.{step_in, work_view, show_view, plan_view};
 ghost use Rattle.tw_commands.specs.Plan.Work.{Changes};
 ghost use Rattle.tw_commands.specs.Circles.{circle_in};
 ghost use Rattle.tw_commands.specs.Texts.{shown, texted};
 ghost use Rattle.tw_commands.specs.Carried.{concluded};
-ghost use Rattle.tw_commands.specs.Ready.{IsDecided, DoesNothing};
+ghost use Rattle.tw_commands.specs.Ready.{IsReady, NotReady};
 
 use crate::circles::{first_circle, is_judged};
-use crate::commands::plan_of;
 use crate::commands::report::reported;
 use crate::marks::{Mark, mask_changes};
-use crate::plan::{Show, Work};
+use crate::plan::{Plan, Show, Work};
 use crate::refusal::Refusal;
 use crate::request::Request;
-use crate::texts::{counted_text, created_text, logged_text, template_text, undone_text};
+use crate::texts::{counted_text, created_text, logged_text, undone_text};
 use std::alloc::Global;
 use tw_model::Change;
 use tw_replica::{Prepared, Replica, TakeBackError};
-use tw_world::{IdWords, Memory, Moment};
+use tw_world::{Memory, Moment};
 use uuid::Uuid;
 
 /// A command that is made in memory: its step, which is yet to be written, and what is to be printed then.
@@ -91,8 +89,9 @@ fn shown(
 {
     let text = match show {
         Show::Counted { deed, count } => counted_text(alloc, deed, count)?,
-        Show::Created { uuid } => created_text(alloc, uuid, prepared.numbers())?,
-        Show::Template { uuid } => template_text(alloc, uuid, prepared.numbers())?,
+        Show::Created { uuid } => {
+            created_text(alloc, uuid, prepared.numbers(), prepared.tasks())?
+        }
         Show::Logged => logged_text(alloc)?,
         Show::TakenBack => {
             let gone = pending.saturating_sub(prepared.pending().len());
@@ -141,26 +140,19 @@ fn concluded(
     shown(alloc, request, show, pending, prepared)
 }
 
-/// Makes in memory what a request comes to in a replica, with its text, or says why the command does nothing.
+/// Makes in memory what a plan comes to in the replica for which it was made, with its text, or says why the command does nothing.
 /// All the memory that it wants is taken here. What is refused is dropped with the replica.
-pub fn decide(
+pub fn conclude(
     alloc: Global,
     request: &Request<'_>,
-    ids: &mut IdWords,
+    plan: Plan,
     replica: Replica,
 ) -> Result<Result<Ready, Refusal>, Memory>
-    ensures ready { IfOk result (λ decided. IfOk decided (IsDecided request.now ids.old replica)) }
-    ensures refused { IfOk result (λ decided. IfErr decided (DoesNothing request.now ids.old replica)) }
-
-    // how many identifiers are drawn
-    ensures ids { OnOk result (ids.new ≡ ids_after request.now ids.old (held_state replica)) }
-    ensures want { OnErr result (MayHaveDrawn request.now ids.old ids.new (held_state replica)) }
+    ensures ready { IfOk result (λ concluded. IfOk concluded (IsReady request.now (plan_view plan) replica)) }
+    ensures refused { IfOk result (λ concluded. IfErr concluded (NotReady request.now (plan_view plan) replica)) }
 {
     let pending = replica.pending().len();
-    let (work, show) = match plan_of(alloc, request, ids, &replica)? {
-        Ok(plan) => plan.into_parts(),
-        Err(refusal) => return Ok(Err(refusal)),
-    };
+    let (work, show) = plan.into_parts();
     let prepared = match prepare(alloc, replica, work, request.at)? {
         Ok(prepared) => prepared,
         Err(refusal) => return Ok(Err(refusal)),

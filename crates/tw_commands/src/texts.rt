@@ -1,10 +1,13 @@
 // What commands print.
-ghost use Rattle.std.specs.Prelude.{◌≡◌, IfOk, codes};
+ghost use Rattle.std.specs.Prelude.{◌≡◌, IfOk};
+ghost use Rattle.std.specs.FinMap.{get};
+ghost use Rattle.tw_model.specs.Places.{id_of};
 ghost use Rattle.tw_commands.specs.Texts as spec;
 
+use crate::commands::add::recurs;
 use crate::plan::Deed;
 use std::alloc::Global;
-use tw_model::id_of;
+use tw_model::{Tasks, id_of};
 use tw_world::Memory;
 use uuid::Uuid;
 
@@ -14,16 +17,6 @@ fn numbered(alloc: Global, front: &str, number: u64, back: &str) -> Result<Vec<u
 {
     let text = format!(in alloc; "{}{}{}", front, number, back)?;
     Ok(text.into_bytes())
-}
-
-// The number of the place that holds a uuid, and 0 if none does.
-fn number_of(uuid: Uuid, places: &Vec<Option<Uuid>>) -> u64
-    ensures { result ≡ spec.number_of uuid places.now.items }
-{
-    match id_of(places, uuid) {
-        Some(id) => id,
-        None => 0,
-    }
 }
 
 fn deed_word(deed: Deed) -> &'static str
@@ -56,36 +49,38 @@ pub(crate) fn counted_text(alloc: Global, deed: Deed, count: u64) -> Result<Vec<
 
 /// That a task was logged.
 pub(crate) fn logged_text(alloc: Global) -> Result<Vec<u8>, Memory>
-    ensures { IfOk result (λ text. text.items ≡ codes "Logged task.\n") }
+    ensures { IfOk result (λ text. text.items ≡ spec.logged_text) }
 {
     Ok(String::from_str(alloc, "Logged task.\n")?.into_bytes())
 }
 
-/// The number of a task that was added.
+// Whether a uuid has a task that recurs.
+fn recurs_there(tasks: &Tasks, uuid: Uuid) -> bool
+    ensures { result ≡ spec.recurs_there (get tasks.now uuid) }
+{
+    match tasks.get(uuid) {
+        Some(task) => recurs(task),
+        None => false,
+    }
+}
+
+/// The number of a task that was added, and whether it recurs. One without a place was logged.
 pub(crate) fn created_text(
     alloc: Global,
     uuid: Uuid,
     places: &Vec<Option<Uuid>>,
+    tasks: &Tasks,
 ) -> Result<Vec<u8>, Memory>
-    ensures { IfOk result (λ text. text.items ≡ spec.created_text uuid places.now.items) }
+    ensures { IfOk result (λ text. text.items ≡ spec.created_text (id_of uuid places.now.items) (get tasks.now uuid)) }
 {
-    numbered(alloc, "Created task ", number_of(uuid, places), ".\n")
-}
-
-/// The number of a task that was added and recurs.
-pub(crate) fn template_text(
-    alloc: Global,
-    uuid: Uuid,
-    places: &Vec<Option<Uuid>>,
-) -> Result<Vec<u8>, Memory>
-    ensures { IfOk result (λ text. text.items ≡ spec.template_text uuid places.now.items) }
-{
-    numbered(
-        alloc,
-        "Created task ",
-        number_of(uuid, places),
-        " (recurrence template).\n",
-    )
+    let Some(id) = id_of(places, uuid) else {
+        return logged_text(alloc);
+    };
+    if recurs_there(tasks, uuid) {
+        numbered(alloc, "Created task ", id, " (recurrence template).\n")
+    } else {
+        numbered(alloc, "Created task ", id, ".\n")
+    }
 }
 
 /// How many operations were taken back.

@@ -4,7 +4,8 @@ use Rattle.std.specs.Ordering.{match_ordering}
 use Rattle.std.specs.Global.{Vec}
 use Rattle.tw_model.specs.Maps.{bytes_cmp}
 use Rattle.tw_model.specs.Ops.{TaskValue}
-use Rattle.tw_import.specs.Import.{Item, tag, dependency, annotation, Meaning, nothing, bad, identity, value, items, with_items, Field}
+use Rattle.tw_import.specs.Meanings.{Item, tag, dependency, annotation, Meaning, nothing, bad, identity, value, items}
+use Rattle.tw_import.specs.Import.{with_items, Field}
 use Rattle.tw_import.specs.declared.member_value.MemberValue.{MemberValue}
 use Rattle.tw_import.specs.declared.member_value.MemberValue.TheVariants as member_value
 use Rattle.tw_import.specs.declared.member_value.MemberItem.{MemberItem}

@@ -1,6 +1,6 @@
 // The members of a task's object.
 ghost use Rattle.std.specs.Prelude.{◌≡◌, ◌<◌, length, None, IfOk, IfErr, OnOk, OnErr};
-ghost use Rattle.tw_import.specs.Import.{list_by_kind};
+ghost use Rattle.tw_import.specs.Meanings.{list_by_kind};
 ghost use Rattle.tw_import.specs.Passing.{value_at, items_at, members_at};
 ghost use Rattle.tw_import.specs.MemberValues.{meaning_of, fields_in, with_field};
 ghost use Rattle.tw_import.specs.Reading.{ReadsValue, ReadsList, ReadsField, ReadsFields};

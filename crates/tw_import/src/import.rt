@@ -17,7 +17,7 @@ use uuid::Uuid;
 /// A task that was read.
 #[derive(Drop)]
 pub struct Imported {
-    /// Its uuid, where the element has one.
+    /// Its uuid, if the element has one.
     pub uuid: Option<Uuid>,
     /// Its properties, as they are stored.
     pub map: TaskMap,

@@ -1,6 +1,6 @@
 // How members are read, by their names.
 ghost use Rattle.std.specs.Prelude.{◌≡◌, unwrap_or};
-ghost use Rattle.tw_import.specs.Import.{kind_of};
+ghost use Rattle.tw_import.specs.Meanings.{kind_of};
 ghost use Rattle.tw_import.specs.declared.kind.Kind.TheVariants.{Plain};
 
 use tw_time::look_up;
@@ -49,7 +49,7 @@ fn kind_or_plain(kind: Option<Kind>) -> Kind
 }
 
 /// How the value of a name is read.
-#[tactic(auto, unfolding(crate::specs::Import::kind_of))]
+#[tactic(auto, unfolding(crate::specs::Meanings::kind_of))]
 pub(crate) fn kind_of(name: &str) -> Kind
     ensures { result ≡ kind_of name.now }
 {

@@ -10,8 +10,8 @@ use Rattle.tw_filter.specs.Holds.{Scene}
 use Rattle.tw_words.specs.Lines.{Parts}
 use Rattle.tw_commands.specs.Request.{drawn, scene_in}
 use Rattle.tw_commands.specs.Worded.{worded}
-use Rattle.tw_commands.specs.Plan.{Plan, Show}
-use Rattle.tw_commands.specs.Plan.Show.{Created, Template, Logged}
+use Rattle.tw_commands.specs.Plan.{Plan}
+use Rattle.tw_commands.specs.Plan.Show.{Created, Logged}
 use Rattle.tw_commands.specs.Makes.{made_task, making}
 use Rattle.tw_commands.specs.declared.request.Request.{Request}
 use Rattle.tw_commands.specs.declared.refusal.Refusal.{Refusal}
@@ -28,9 +28,6 @@ as_template task = cond (recurs task) (insert task (codes "status") (codes "recu
 abbrev pub added : Scene → Parts → Moment → TaskValue
 added scene line now = as_template (worded scene line (made_task now (codes "pending") empty))
 
-abbrev pub created : List ℕ → TaskValue → Show
-created u task = cond (recurs task) (Template u) (Created u)
-
 -- the task that `log` makes: a completed one
 abbrev pub logged : Scene → Parts → Moment → TaskValue
 logged scene line now = worded scene line (insert (made_task now (codes "completed") empty) (codes "end") (decimal now.seconds))
@@ -38,8 +35,7 @@ logged scene line now = worded scene line (insert (made_task now (codes "complet
 -- what they are to do
 abbrev pub adding : Request → IdWords → State → Result Plan Refusal
 adding request ids state =
-    let task = added (scene_in request state) request.line request.at in
-    making (created (drawn ids) task) (drawn ids) task (get state.tasks (drawn ids))
+    making (Created (drawn ids)) (drawn ids) (added (scene_in request state) request.line request.at) (get state.tasks (drawn ids))
 
 abbrev pub logging : Request → IdWords → State → Result Plan Refusal
 logging request ids state =

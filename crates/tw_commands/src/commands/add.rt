@@ -38,7 +38,8 @@ pub(crate) fn made_task(
     Ok(task)
 }
 
-fn recurs(task: &TaskMap) -> bool
+/// Whether a task recurs.
+pub(crate) fn recurs(task: &TaskMap) -> bool
     ensures { result ≡ spec.recurs task.now }
 {
     task.get("recur").is_some()
@@ -53,16 +54,6 @@ fn as_template(alloc: Global, task: TaskMap) -> Result<TaskMap, Memory>
         task.set(alloc, "status", Some("recurring"))?;
     }
     Ok(task)
-}
-
-fn created(uuid: Uuid, task: &TaskMap) -> Show
-    ensures { show_view result ≡ spec.created uuid task.now }
-{
-    if recurs(task) {
-        Show::Template { uuid }
-    } else {
-        Show::Created { uuid }
-    }
 }
 
 // The task that `add` makes.
@@ -111,19 +102,6 @@ fn making(
     }))
 }
 
-// What `add` is to do that makes this task.
-fn creating(
-    alloc: Global,
-    uuid: Uuid,
-    task: TaskMap,
-    tasks: &Tasks,
-) -> Result<Result<Plan, Refusal>, Memory>
-    ensures { IfOk result (λ plan. planned plan ≡ making (spec.created uuid task) uuid task (map.get tasks.now uuid)) }
-{
-    let show = created(uuid, &task);
-    making(alloc, show, uuid, task, tasks)
-}
-
 /// What `add` is to do (task(1), "add"). It draws the uuid of the task.
 pub(crate) fn adding(
     alloc: Global,
@@ -137,7 +115,7 @@ pub(crate) fn adding(
     let uuid = draw(ids);
     let view = view_of(request, replica);
     let task = added(alloc, &request.line, &view, request.at)?;
-    creating(alloc, uuid, task, replica.tasks())
+    making(alloc, Show::Created { uuid }, uuid, task, replica.tasks())
 }
 
 /// What `log` is to do (task(1), "log"). It draws the uuid of the task.

@@ -7,13 +7,13 @@ use Rattle.tw_cli.specs.Crash.{LeavesCommand}
 use Rattle.tw_cli.specs.declared.carry.CarryError.{CarryError}
 use Rattle.tw_cli.specs.declared.cause.Cause.TheVariants.{Done}
 use Rattle.tw_cli.proofs.Endings.{at_end, ends_well, failed_gives}
-use Rattle.tw_cli.proofs.Carrying.{done_drew}
+use Rattle.tw_cli.proofs.Carrying.{done_drew, leaves_unprinted}
 use Rattle.tw_cli.proofs.carry.run_command.Goals as goal
 
 pub returns-in-Ok-clause-gives : goal.returns-in-Ok-clause-gives
 returns-in-Ok-clause-gives g c =
     let s = c.in-Ok.ensures.shows in
-    at_end g.O.Sink.model c.args.out.now c.print.new.out c.as_slice.result.now c.print.result (Gives g.D.Disk.model g.S.Source.model c.args.request c.args.ids.now c.args.disk.now c.carry_out.new.disk c.args.input.now c.carry_out.new.input g.O.Sink.model c.args.out.now c.print.new.out) c.print.ensures
+    at_end g.O.Sink.model c.args.out.now c.print.new.out c.as_slice.result.now c.print.result (Gives g.D.Disk.model g.S.Source.model g.P.Spawner.model c.args.request c.args.ids.now c.args.disk.now c.carry_out.new.disk c.args.input.now c.carry_out.new.input c.args.spawner.now c.carry_out.new.spawner g.O.Sink.model c.args.out.now c.print.new.out) c.print.ensures
     (λ got. (s.0, s.1, (s.2.0, subst (Got g.O.Sink.model c.args.out.now c.print.new.out) (c.as_slice.ensures.value ∙ s.2.1) got)))
     (λ part rose. ((s.0, s.1, (s.2.0, subst (GotPart g.O.Sink.model c.args.out.now c.print.new.out) (c.as_slice.ensures.value ∙ s.2.1) part)), rose))
 
@@ -22,10 +22,11 @@ returns-in-Ok-clause-complete g c = λ can. ends_well g.O.Sink.model c.args.out.
 
 pub returns-in-Ok-clause-any_moment : goal.returns-in-Ok-clause-any_moment
 returns-in-Ok-clause-any_moment g c =
-    let left : LeavesCommand g.D.Disk.model g.S.Source.model c.args.request c.args.ids.now c.args.disk.now c.carry_out.new.disk c.args.input.now c.carry_out.new.input Done =
-    subst (λ (r : Result (Vec ℕ) CarryError). LeavesCommand g.D.Disk.model g.S.Source.model c.args.request c.args.ids.now c.args.disk.now c.carry_out.new.disk c.args.input.now c.carry_out.new.input (ended carry_cause r)) c.in-Ok.is c.carry_out.ensures.any_moment in
-    at_end g.O.Sink.model c.args.out.now c.print.new.out c.as_slice.result.now c.print.result (LeavesCommand g.D.Disk.model g.S.Source.model c.args.request c.args.ids.now c.args.disk.now c.carry_out.new.disk c.args.input.now c.carry_out.new.input) c.print.ensures
-    (λ got. left) (λ part rose. left)
+    let left : LeavesCommand g.D.Disk.model g.S.Source.model g.P.Spawner.model c.args.request c.args.ids.now c.args.disk.now c.carry_out.new.disk c.args.input.now c.carry_out.new.input c.args.spawner.now c.carry_out.new.spawner Done =
+    subst (λ (r : Result (Vec ℕ) CarryError). LeavesCommand g.D.Disk.model g.S.Source.model g.P.Spawner.model c.args.request c.args.ids.now c.args.disk.now c.carry_out.new.disk c.args.input.now c.carry_out.new.input c.args.spawner.now c.carry_out.new.spawner (ended carry_cause r)) c.in-Ok.is c.carry_out.ensures.any_moment in
+    at_end g.O.Sink.model c.args.out.now c.print.new.out c.as_slice.result.now c.print.result (LeavesCommand g.D.Disk.model g.S.Source.model g.P.Spawner.model c.args.request c.args.ids.now c.args.disk.now c.carry_out.new.disk c.args.input.now c.carry_out.new.input c.args.spawner.now c.carry_out.new.spawner) c.print.ensures
+    (λ got. left)
+    (λ part rose. leaves_unprinted g.D.Disk.model g.S.Source.model c.args.request c.args.disk.now c.args.input.now c.carry_out.new.input g.P.Spawner.model c.args.ids.now c.carry_out.new.disk c.args.spawner.now c.carry_out.new.spawner left)
 
 pub returns-in-Ok-clause-ids : goal.returns-in-Ok-clause-ids
 returns-in-Ok-clause-ids g c =
@@ -36,11 +37,11 @@ returns-in-Ok-clause-ids g c =
 
 pub returns-in-Err-clause-gives : goal.returns-in-Err-clause-gives
 returns-in-Err-clause-gives g c =
-    failed_gives g.D.Disk.model g.S.Source.model c.args.request c.args.ids.now c.args.disk.now c.carry_out.new.disk c.args.input.now c.carry_out.new.input g.O.Sink.model c.args.out.now c.in-Err.error c.from.result c.from.ensures c.in-Err.ensures.refused
+    failed_gives g.D.Disk.model g.S.Source.model g.P.Spawner.model c.args.request c.args.ids.now c.args.disk.now c.carry_out.new.disk c.args.input.now c.carry_out.new.input c.args.spawner.now c.carry_out.new.spawner g.O.Sink.model c.args.out.now c.in-Err.error c.from.result c.from.ensures c.in-Err.ensures.refused
 
 pub returns-in-Err-clause-any_moment : goal.returns-in-Err-clause-any_moment
 returns-in-Err-clause-any_moment g c =
-    subst (LeavesCommand g.D.Disk.model g.S.Source.model c.args.request c.args.ids.now c.args.disk.now c.carry_out.new.disk c.args.input.now c.carry_out.new.input) (sym c.from.ensures) c.in-Err.ensures.any_moment
+    subst (LeavesCommand g.D.Disk.model g.S.Source.model g.P.Spawner.model c.args.request c.args.ids.now c.args.disk.now c.carry_out.new.disk c.args.input.now c.carry_out.new.input c.args.spawner.now c.carry_out.new.spawner) (sym c.from.ensures) c.in-Err.ensures.any_moment
 
 pub returns-in-Err-clause-ids : goal.returns-in-Err-clause-ids
 returns-in-Err-clause-ids g c =

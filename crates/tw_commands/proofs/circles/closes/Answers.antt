@@ -1,6 +1,6 @@
 use Rattle.std.proofs.Common.{◌∙◌, sym, subst, IsTrue, ◌↔◌}
 use Rattle.tw_urgency.specs.Paths.{Leads}
-use Rattle.tw_commands.proofs.ReachedTasks.{reached_is_closed}
+use Rattle.tw_urgency.proofs.Reaching.{reached_is_closed}
 use Rattle.tw_commands.proofs.DependencyPaths.{as_leads, is_not_reached}
 use Rattle.tw_commands.proofs.circles.closes.Goals as goal
 

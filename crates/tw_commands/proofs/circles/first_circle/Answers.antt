@@ -1,5 +1,5 @@
 use Rattle.std.proofs.Common.{rules}
-use Rattle.tw_commands.proofs.ReachedTasks.{nothing_is_closed}
+use Rattle.tw_urgency.proofs.Reaching.{nothing_is_closed}
 use Rattle.tw_commands.proofs.circles.first_circle.Goals as goal
 
 pub loop-uuid-init : goal.loop-uuid-init

@@ -1,6 +1,6 @@
 -- what is left decides, and what is known is closed
 use Rattle.std.proofs.Common.{◌≡◌, drop}
-use Rattle.tw_commands.specs.Reached.{IsClosed}
+use Rattle.tw_urgency.specs.Paths.{IsClosed}
 use Rattle.tw_commands.specs.Circles.{first_closing, first_circle}
 use Rattle.tw_commands.proofs.circles.first_circle.Given as goal
 

@@ -1,6 +1,6 @@
 use Rattle.std.proofs.Common.{◌∙◌, ap, unwrap_or}
 use Rattle.tw_time.specs.Tables.{look_up}
-use Rattle.tw_import.specs.Import.{kinds, kind_of}
+use Rattle.tw_import.specs.Meanings.{kinds, kind_of}
 use Rattle.tw_import.specs.declared.kind.Kind.TheVariants.{Plain}
 use Rattle.tw_import.proofs.kind.kind_of.Goals as goal
 

@@ -2,7 +2,7 @@ use Rattle.std.proofs.Common.{◌≡◌, ◌∷◌, [], ◌++◌, map, refl, sym
 use Rattle.std.specs.Str.Iter.{split_text, split_has_more, split_pattern}
 use Rattle.std.proofs.lemmas.Iterator.Consumers.{YieldsList-end}
 use Rattle.std.proofs.lemmas.Iterator.Splits.{YieldsList-from_str_split}
-use Rattle.tw_import.specs.Import.{dependencies_of}
+use Rattle.tw_import.specs.Meanings.{dependencies_of}
 use Rattle.tw_import.specs.Reading.{item_behind}
 use Rattle.tw_import.proofs.Items.{dependencies_of_more}
 use Rattle.tw_import.proofs.member_value.dependencies_in.Goals as goal

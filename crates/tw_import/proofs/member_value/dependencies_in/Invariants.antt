@@ -1,5 +1,5 @@
 use Rattle.std.proofs.Common.{◌≡◌, map, option_map}
-use Rattle.tw_import.specs.Import.{dependencies_of}
+use Rattle.tw_import.specs.Meanings.{dependencies_of}
 use Rattle.tw_import.specs.MemberValues.{items_in}
 use Rattle.tw_import.proofs.member_value.dependencies_in.Given as goal
 

@@ -3,8 +3,9 @@ use Rattle.std.specs.FinMap.{get}
 use Rattle.tw_replica.specs.Replica.{held_state}
 use Rattle.tw_filter.specs.Holds.{Scene}
 use Rattle.tw_commands.specs.Request.{scene_in}
+use Rattle.tw_commands.specs.Plan.Show.{Created}
 use Rattle.tw_commands.specs.Makes.{making}
-use Rattle.tw_commands.specs.Makes.Add.{added, created}
+use Rattle.tw_commands.specs.Makes.Add.{added}
 use Rattle.tw_commands.proofs.commands.add.adding.Goals as goal
 
 if_ok_map : {A E : Type 0} {P Q : A → Type 0} (r : Result A E) → ((a : A) → P a → Q a) → IfOk r P → IfOk r Q
@@ -17,6 +18,6 @@ returns-clause-plan c =
     let at = c.args.request.now.at in
     let task : c.in_ok-task.task ≡ added (scene_in c.args.request.now (held_state c.args.replica.now)) line at =
     c.in_ok-task.ensures ∙ ap (λ (s : Scene). added s line at) c.view_of-view.ensures in
-    if_ok_map c.creating.result
-    (λ plan is. is ∙ (λ i. making (created (c.draw-uuid.ensures.uuid i) (task i)) (c.draw-uuid.ensures.uuid i) (task i) (get (c.tasks.ensures i) (c.draw-uuid.ensures.uuid i))))
-    c.creating.ensures
+    if_ok_map c.making.result
+    (λ plan is. is ∙ (λ i. making (Created (c.draw-uuid.ensures.uuid i)) (c.draw-uuid.ensures.uuid i) (task i) (get (c.tasks.ensures i) (c.draw-uuid.ensures.uuid i))))
+    c.making.ensures

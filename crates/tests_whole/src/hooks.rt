@@ -1,0 +1,87 @@
+// Runs with hooks.
+
+use crate::machine::{Ended, Given, machine, run_alone};
+use std::alloc::Global;
+use std::test::Fail;
+use tw_cli::Cause;
+use tw_world::{MemoryDisk, Text};
+
+// The line of the first task with a tag more, and with a dependency on the second one.
+const TAGGED: &str =
+    "{\"description\":\"Buy milk\",\"entry\":\"20231114T221320Z\",\"modified\":\"20231114T221320Z\",\"status\":\"pending\",\
+     \"tags\":[\"hooked\"],\"uuid\":\"00000000-0000-4000-8000-000000000001\"}\n";
+
+const DEPENDENT: &str =
+    "{\"depends\":[\"00000000-0000-4000-8000-000000000002\"],\"description\":\"Buy milk\",\"entry\":\"20231114T221320Z\",\
+     \"modified\":\"20231114T221320Z\",\"status\":\"pending\",\"uuid\":\"00000000-0000-4000-8000-000000000001\"}\n";
+
+const EXPORT: &str =
+    "[\n{\"description\":\"Buy milk\",\"entry\":\"20231114T221320Z\",\"modified\":\"20231114T221320Z\",\"status\":\"pending\",\
+     \"tags\":[\"hooked\"],\"urgency\":0.800,\"uuid\":\"00000000-0000-4000-8000-000000000001\"}\n]\n";
+
+const CIRCLE: &str = "task: dependency on 00000000-0000-4000-8000-000000000002 closes a circle\n";
+
+// Runs a line at the moment 2023-11-14T22:13:20Z with identifiers from `first` on, over one hook that answers this.
+fn run_hooked(
+    alloc: Global,
+    first: u128,
+    hook: &str,
+    status: u8,
+    answer: &str,
+    line: &str,
+    disk: &mut MemoryDisk,
+) -> Result<Ended, Fail> {
+    let given = Given::hooked(first, 1_700_000_000, hook, status, answer);
+    run_alone(alloc, &given, line, disk)
+}
+
+// Runs a line without hooks.
+fn run(alloc: Global, first: u128, line: &str, disk: &mut MemoryDisk) -> Result<Ended, Fail> {
+    run_alone(alloc, &Given::new(first, 1_700_000_000), line, disk)
+}
+
+#[test]
+fn a_hook_adds_a_tag(rt: HostRuntime) -> Result<(), Fail> {
+    let alloc = rt.alloc();
+    let mut disk = machine(alloc)?;
+    let added = run_hooked(alloc, 1, "on-add-tag", 0, TAGGED, "add|Buy|milk", &mut disk)?;
+    let exported = run(alloc, 2, "export", &mut disk)?;
+    assert!(rt; added.said() == Some(b"Created task 1.\n".as_slice()));
+    assert!(rt; exported.said() == Some(EXPORT.as_bytes()));
+    Ok(())
+}
+
+#[test]
+fn a_hook_that_ends_with_1_refuses(rt: HostRuntime) -> Result<(), Fail> {
+    let alloc = rt.alloc();
+    let mut disk = machine(alloc)?;
+    let _ = run(alloc, 1, "add|Buy|milk", &mut disk)?;
+    let size = disk.bytes().len();
+    let ended = run_hooked(alloc, 2, "on-modify", 1, "", "1|done", &mut disk)?;
+    let cause = Cause::HookRefused {
+        name: Text::from_str(alloc, "on-modify")?,
+        status: 1,
+    };
+    let said = ended.said() == Some(b"task: hook on-modify refused\n".as_slice());
+    assert!(rt; said && ended.is(9, &cause) && disk.bytes().len() == size);
+    Ok(())
+}
+
+#[test]
+fn a_circle_that_a_hook_closes_is_refused(rt: HostRuntime) -> Result<(), Fail> {
+    let alloc = rt.alloc();
+    let mut disk = machine(alloc)?;
+    let _ = run(alloc, 1, "add|Buy|milk", &mut disk)?;
+    let _ = run(alloc, 2, "add|Bake|depends:1", &mut disk)?;
+    let ended = run_hooked(
+        alloc,
+        3,
+        "on-modify",
+        0,
+        DEPENDENT,
+        "1|modify|+x",
+        &mut disk,
+    )?;
+    assert!(rt; ended.outcome.status == 2 && ended.said() == Some(CIRCLE.as_bytes()));
+    Ok(())
+}
