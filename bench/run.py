@@ -10,10 +10,11 @@ is nothing to undo: a journal of one sync, and Taskwarrior's `pending.data` alon
 records, in whose place a first command put the one that spells their state. With `--templates` each task is a template that is due daily
 since five years, of which nothing is to be made: `--templates --commands list --sizes 100,1000` tells what asking them costs.
 The runs of the two programs alternate, and each changes something that is not changed yet: `modify` sets
-another project, `annotate` adds another note, `done` ends another task, `modify-all` changes every task, and `import` reads as many
-tasks from a file into an empty store. Some commands are of `tw` alone, each over a new store: in `depends` a task for which another one
-waits gets dependencies on one of 250 tasks of a chain, in `depends-ten` on one of 25; in `done-instances` one of 100 tasks is an instance
-of one template and ends, in `done-instances-ten` one of 10.
+another project, `annotate` adds another note, `done` ends another task, `modify-all` changes every task, `modify-words` by words and dates,
+and `import` reads as many tasks from a file into an empty store. Some commands are of `tw` alone, each over a new store: in `depends` a task
+for which another one waits gets dependencies on one of 250 tasks of a chain, in `depends-ten` on one of 25; in `depends-each` one of 250 tasks
+of the chain gets two dependencies, in `depends-each-ten` one of 25; in `done-instances` one of 100 tasks is an instance of one template and
+ends, in `done-instances-ten` one of 10; in `duplicate` one of 10 tasks is copied, in `duplicate-ten` each.
 Each line gives the median of the wall time in milliseconds, the peak of resident memory of one more run in
 megabytes, and how many times less `tw` takes of each.
 Memory is measured by GNU time (Debian's package time), and left out if that is not there.
@@ -44,12 +45,15 @@ COMMANDS = {
     "modify-all": ["status:pending", "modify", "project:p{turn}"],
     "count": ["count"],
     "count-text": ["description.has:7", "count"],
+    "count-number": ["7", "status:pending", "count"],
     "count-blocking": ["+BLOCKING", "count"],
     "export": ["export"],
     "import": ["import", "-"],
     "list": ["list"],
     "list-one": ["1", "list"],
     "next": ["next"],
+    # The last, since the texts that it leaves are found by no other one.
+    "modify-words": ["status:pending", "modify", "Words", "{turn}", "+again", "due:2031-01-31", "scheduled:2031-01-30", "until:eoy"],
 }
 GNU_TIME = "/usr/bin/time"
 
@@ -182,6 +186,13 @@ def chained(number, count):
     return made_operations, [names[-2], "modify", "depends:" + ",".join(names[: -2 : number // count][:count])]
 
 
+def chained_each(number, count):
+    """The same chain, and the words by which so many of its last tasks are to wait for two in its middle."""
+    made_operations, _ = chained(number, count)
+    middle = [hyphenated(task[0]) for task in tasks(number)][number // 2 :][:2]
+    return made_operations, [f"{number - 1 - count}-{number - 2}", "modify", "depends:" + ",".join(middle)]
+
+
 def recurring(number, count):
     """The operations of tasks of which so many are instances of the first, which is a template; and the words by which they end."""
     (parent, second, description), *others = tasks(number)
@@ -196,12 +207,24 @@ def recurring(number, count):
     return made_operations, ["parent.any:", "done"]
 
 
+def copied(number, count):
+    """The operations of tasks, and the words by which so many of them are copied."""
+    made_operations = []
+    for task in tasks(number):
+        made_operations += operations(task[0], task[1], properties(*task[1:]))
+    return made_operations, [f"1-{count}", "duplicate"]
+
+
 # Commands over a store of their own, which each run finds as it was made: what makes it, and of how many tasks one takes part.
 OWN = {
     "depends": (chained, 250),
     "depends-ten": (chained, 25),
+    "depends-each": (chained_each, 250),
+    "depends-each-ten": (chained_each, 25),
     "done-instances": (recurring, 100),
     "done-instances-ten": (recurring, 10),
+    "duplicate": (copied, 10),
+    "duplicate-ten": (copied, 1),
 }
 
 
