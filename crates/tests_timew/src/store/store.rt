@@ -1,10 +1,11 @@
-ghost use Rattle.std.specs.Prelude.{◌≡◌, true};
+ghost use Rattle.std.specs.Prelude.{◌≡◌, true, IfOk};
+ghost use Rattle.timew_store.specs.Interval.{AreRows};
 ghost use Rattle.tw_world.specs.Folder.{is_file_name};
 
 use super::folder_of;
 use std::alloc::Global;
 use std::test::Fail;
-use timew_store::{Edit, Intervals, LoadError, Store, StoreError, UndoError, read_month};
+use timew_store::{Edit, Interval, Intervals, LoadError, Store, StoreError, UndoError, read_month};
 use tw_world::{Folder, MemoryDisk, MemoryFolder};
 
 // A folder of month files, and the journal of their changes.
@@ -23,6 +24,14 @@ impl Drop for Kept {
             disk: _,
         } = self;
     }
+}
+
+// The intervals of lines.
+fn rows_of(alloc: Global, lines: &str) -> Result<Vec<Interval>, Fail>
+    ensures { IfOk result (λ rows. AreRows rows.items) }
+{
+    let rows = read_month(alloc, lines.as_bytes()).or(Err("a bad line"))?;
+    Ok(Intervals::in_order(rows).ok_or("out of order")?.into_rows())
 }
 
 // These files, over an empty journal. The calls of the folder with these numbers fail.
@@ -53,8 +62,7 @@ impl Kept {
     // Loads a store and puts the intervals of lines into it.
     fn changed(&mut self, lines: &str) -> Result<Result<(), StoreError>, Fail> {
         let alloc = self.alloc;
-        let rows = read_month(alloc, lines.as_bytes()).or(Err("a bad line"))?;
-        let next = Intervals::in_order(rows).ok_or("out of order")?.into_rows();
+        let next = rows_of(alloc, lines)?;
         let store = Store::load(alloc, &mut self.folder, &mut self.disk);
         let mut store = store.or(Err("no store"))?;
         let edit = Edit::between(store.intervals().as_slice(), next)?;
@@ -64,12 +72,14 @@ impl Kept {
     // Loads a store, prepares that it gets the intervals of lines, and writes that.
     fn prepare(&mut self, lines: &str) -> Result<bool, Fail> {
         let alloc = self.alloc;
-        let rows = read_month(alloc, lines.as_bytes()).or(Err("a bad line"))?;
-        let next = Intervals::in_order(rows).ok_or("out of order")?.into_rows();
-        let store = Store::load(alloc, &mut self.folder, &mut self.disk);
-        let store = store.or(Err("no store"))?;
+        let next = rows_of(alloc, lines)?;
+        let Ok(store) = Store::load(alloc, &mut self.folder, &mut self.disk) else {
+            return Err(Fail::new("no store"));
+        };
         let edit = Edit::between(store.intervals().as_slice(), next)?;
-        let prepared = store.prepare(alloc, edit).or(Err("not prepared"))?;
+        let Ok(prepared) = store.prepare(alloc, edit) else {
+            return Err(Fail::new("not prepared"));
+        };
         Ok(prepared.write(&mut self.folder, &mut self.disk).is_ok())
     }
 
