@@ -6,5 +6,6 @@ pub mod Once
 pub mod Marks
 pub mod Done
 pub mod Made
+pub mod TakenOut
 pub mod Changed
 pub mod Reported

@@ -92,15 +92,15 @@ fn push_parents(
     Ok(())
 }
 
-fn push_made(alloc: Global, changes: &mut Vec<Change>, made: &Tasks) -> Result<(), Memory>
-    ensures { OnOk result (changes.new.items ≡ changes.old.items ++ made_changes (map.entries made.now)) }
+// Each task is taken out, so that none is copied.
+fn push_made(changes: &mut Vec<Change>, made: Tasks) -> Result<(), Memory>
+    ensures { OnOk result (changes.new.items ≡ changes.old.items ++ made_changes (map.entries made)) }
 {
-    for (uuid, task) in made.iter() {
-        let task = task.copy(alloc)?;
-        changes.push(Change {
-            uuid: *uuid,
-            task: Some(task),
-        })?;
+    let mut left = made;
+    while left.len() > 0 {
+        let uuid = left.uuid_at(0);
+        let task = left.remove(uuid);
+        changes.push(Change { uuid, task })?;
     }
     Ok(())
 }
@@ -132,7 +132,7 @@ pub fn due_changes(
     let mut parents = Vec::new(alloc);
     push_parents(alloc, &asking, &mut made, &mut parents)?;
     let mut changes = Vec::new(alloc);
-    push_made(alloc, &mut changes, &made)?;
+    push_made(&mut changes, made)?;
     changes.append(&mut parents)?;
     Ok(changes)
 }

@@ -121,20 +121,23 @@ fn copies(
     Ok(Ok(made))
 }
 
-fn changes_of(alloc: Global, made: &Tasks) -> Result<Vec<Change>, Memory>
-    ensures { IfOk result (λ changes. changes.items ≡ list_map spec.change_of (map.entries made.now)) }
+// Each copy is taken out, so that none is copied again.
+fn changes_of(alloc: Global, made: Tasks) -> Result<Vec<Change>, Memory>
+    ensures { IfOk result (λ changes. changes.items ≡ list_map spec.change_of (map.entries made)) }
 {
     let mut changes = Vec::new(alloc);
-    for (uuid, task) in made.iter() {
-        let task = Some(task.copy(alloc)?);
-        changes.push(Change { uuid: *uuid, task })?;
+    let mut left = made;
+    while left.len() > 0 {
+        let uuid = left.uuid_at(0);
+        let task = left.remove(uuid);
+        changes.push(Change { uuid, task })?;
     }
     Ok(changes)
 }
 
 // What a command is to do that makes these copies. It needs one.
-fn duplicating(alloc: Global, made: &Tasks) -> Result<Result<Plan, Refusal>, Memory>
-    ensures { IfOk result (λ plan. planned plan ≡ spec.duplicating (map.entries made.now)) }
+fn duplicating(alloc: Global, made: Tasks) -> Result<Result<Plan, Refusal>, Memory>
+    ensures { IfOk result (λ plan. planned plan ≡ spec.duplicating (map.entries made)) }
 {
     if made.len() == 0 {
         return Ok(Err(Refusal::NoMatch));
@@ -159,7 +162,7 @@ fn duplicated(alloc: Global, made: Result<Tasks, Uuid>) -> Result<Result<Plan, R
     ensures { IfOk result (λ plan. planned plan ≡ spec.duplicated (spec.taken_or made)) }
 {
     match made {
-        Ok(made) => duplicating(alloc, &made),
+        Ok(made) => duplicating(alloc, made),
         Err(uuid) => Ok(Err(Refusal::IdTaken { uuid })),
     }
 }
