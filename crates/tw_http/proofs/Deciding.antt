@@ -12,7 +12,7 @@ use Rattle.tw_http.specs.Messages.{max_head, max_body}
 use Rattle.tw_http.specs.Heads.{◌>>=◌, begins_with, ends_here, head_len, no_head, or_err}
 use Rattle.tw_http.specs.Fields.{Fields, uuid_field}
 use Rattle.tw_http.specs.Bodies.{body_of, body_len}
-use Rattle.tw_http.specs.Requests.{asked_of, type_of, is_add, request_made, request_after, IsRequestHeadAnswer, IsRequestAnswerAt, IsRequestAnswer}
+use Rattle.tw_http.specs.Requests.{asked_of, content_type, has_body, typed_as, request_made, request_after, IsRequestHeadAnswer, IsRequestAnswerAt, IsRequestAnswer}
 use Rattle.tw_http.specs.Responses.{kind_in, response_made, response_after, IsResponseHeadAnswer, IsResponseAnswerAt, IsResponseAnswer}
 use Rattle.tw_http.specs.Faults.{Unless, Decided}
 use Rattle.tw_http.proofs.HeadSteps.{found_here, not_here}
@@ -111,11 +111,11 @@ body-same n rest more k r ready e =
 request-same : (method target : List ℕ) (fs : Fields) (rest more : List ℕ) (r : Result Request HttpError) → r ≢ Err NotYet → r ≡ request_after method target fs rest → r ≡ request_after method target fs (rest ++ more)
 unfolding request_after
 request-same method target fs rest more r ready e =
-    bind-same (or_err Path (asked_of method target)) _ _ r (λ what.
+    bind-same (or_err Path (asked_of method target)) _ _ r (λ asked.
     bind-same (uuid_field (codes "X-Client-Id") fs) _ _ r (λ client.
-    bind-same (type_of what.0 fs) _ _ r (λ typed.
-    bind-same (body_len (is_add what.0) fs) _ _ r (λ n.
-    body-same n rest more (λ body. Ok (request_made what.0 client what.1 body)) r ready)))) e
+    bind-same (typed_as (content_type asked) fs) _ _ r (λ typed.
+    bind-same (body_len (has_body asked) fs) _ _ r (λ n.
+    body-same n rest more (λ body. Ok (request_made asked client body)) r ready)))) e
 
 response-same : (what : Asked) (status : ℕ) (fs : Fields) (rest more : List ℕ) (r : Result Response HttpError) → r ≢ Err NotYet → r ≡ response_after what status fs rest → r ≡ response_after what status fs (rest ++ more)
 unfolding response_after

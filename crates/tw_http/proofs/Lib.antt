@@ -7,7 +7,10 @@ pub mod OneAnswer
 pub mod Visible
 pub mod Uuids
 pub mod WrittenHeads
+pub mod MessageParts
+pub mod Sections
 pub mod RequestBack
 pub mod ResponseSections
 pub mod ResponseBack
 pub mod Serving
+pub mod RequestFits

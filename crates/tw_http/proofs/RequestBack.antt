@@ -1,61 +1,30 @@
 -- A written request is read back.
-use Rattle.std.proofs.Common.{◌≡◌, ◌∙◌, ℕ, ◌+◌, ◌-◌, ◌^◌, ◌<◌, ◌≤◌, inl, List, [], ◌∷◌, ◌++◌, true, false, not, Some, Result, Ok, refl, sym, ap, subst, arith, option_map, map, take, drop, length, ◌==◌, IsTrue, codes, decimal, append_assoc}
+use Rattle.std.proofs.Common.{◌≡◌, ◌∙◌, ℕ, ◌+◌, ◌<◌, ◌≤◌, inl, List, [], ◌∷◌, ◌++◌, true, false, not, Some, None, option_map, All, Result, Ok, refl, sym, ap, subst, arith, drop, length, ◌==◌, IsTrue, codes, decimal, append_assoc, flat_map}
 use Rattle.std.specs.List.{list_all}
-use Rattle.std.proofs.lemmas.Bool.{not-true, le-ltb}
-use Rattle.std.proofs.lemmas.List.{append-nil, take_all, length-append}
-use Rattle.std.proofs.lemmas.List.Elements.{All-append, All-cons, All-nil}
+use Rattle.std.proofs.lemmas.List.{append-nil, length-append}
+use Rattle.std.proofs.lemmas.List.Elements.{All-append}
 use Rattle.std.proofs.lemmas.List.Sums.{AllPass-from_list_all}
 use Rattle.std.proofs.lemmas.Str.{IsUtf8-from_ascii}
-use Rattle.std.proofs.lemmas.Fmt.{length-decimal-le}
 use Rattle.std.proofs.Math.Seq.{take-append_seam, drop-append_seam}
-use Rattle.uuid.specs.Text.{parsed_hyphenated}
 use Rattle.httparse.specs.Grammar as grammar
-use Rattle.httparse.specs.Grammar.{AllPass, Field, IsField, RequestHead, ReadsRequest, print_request, print_field, print_section, is_token_byte, is_uri_byte}
-use Rattle.httparse.specs.Spans.{name_and_value}
-use Rattle.httparse.proofs.GrammarLemmas.{print_request-append}
+use Rattle.httparse.specs.Grammar.{AllPass, Field, RequestHead, print_request, print_field, is_token_byte}
+use Rattle.httparse.proofs.GrammarLemmas.{print_request-append, cons-append}
 use Rattle.tw_http.specs.declared.message.HttpError.{HttpError}
 use Rattle.tw_http.specs.declared.message.HttpError.TheVariants.{Path, Header, Length}
 use Rattle.tw_http.specs.declared.message.Request.{Request}
-use Rattle.tw_http.specs.declared.message.Request.TheVariants.{Add, Child}
-use Rattle.tw_http.specs.declared.message.Asked.TheVariants as asked
-use Rattle.tw_http.specs.Messages.{max_head, max_body, crlf, line, is_visible_byte, uuid_text, segment_type, add_path, child_path, request_head, request_text, IsHost}
-use Rattle.tw_http.specs.Heads.{◌>>=◌, head_len, or_err}
+use Rattle.tw_http.specs.declared.message.Request.TheVariants.{Add, Child, AddSnapshot, Snapshot}
+use Rattle.tw_http.specs.declared.request_reader.Target.{Target}
+use Rattle.tw_http.specs.declared.request_reader.Target.TheVariants as at
+use Rattle.tw_http.specs.Messages.{max_head, max_body, crlf, line, is_visible_byte, uuid_text, segment_type, snapshot_type, add_path, child_path, store_path, fetch_path, get_lines, get_head, post_head, request_text, request_body, asked_uuid, IsHost, IsReadBack}
+use Rattle.tw_http.specs.Heads.{or_err}
 use Rattle.tw_http.specs.Fields.{Fields, uuid_field}
-use Rattle.tw_http.specs.Requests.{asked_of, request_after, IsRequestHeadAnswer, IsRequestAnswerAt, IsRequestAnswer}
-use Rattle.tw_http.specs.Bodies.{length_of, body_len, body_of}
-use Rattle.tw_http.proofs.Deciding.{there, take-append}
-use Rattle.tw_http.proofs.Visible.{Visible, all_on, no_return, uuid_long, uuid_visible, decimal_visible, length_reads, trimmed, value_text, uri_text, ascii_text}
-use Rattle.tw_http.proofs.WrittenHeads.{IsLine, IsHeadText, line_on, last_line}
-
--- ---- for messages of both kinds
-
-pub plain_line : (xs : List ℕ) → list_all (λ b. not (b == 13)) xs ≡ true → IsLine xs
-plain_line xs e = all_on xs (λ b h. not-true (b == 13) h) (AllPass-from_list_all (λ b. not (b == 13)) xs e)
-
-pub visible_line : (xs : List ℕ) → Visible xs → IsLine xs
-visible_line xs all = all_on xs no_return all
-
-pub line_of : (name v : List ℕ) → list_all (λ b. not (b == 13)) name ≡ true → Visible v → IsLine (name ++ v)
-line_of name v e all = All-append (λ b. (b == 13) ≡ false) name v (plain_line name e) (visible_line v all)
-
-pub length_line : (a b : List ℕ) → length (line a ++ b) ≡ length a + 2 + length b
-length_line a b = length-append (a ++ crlf) b ∙ ap (λ n. n + length b) (length-append a crlf)
-
-pub found_head : (front rest : List ℕ) → IsHeadText front → length front ≤ max_head → head_len (take max_head (front ++ rest)) ≡ Some (length front)
-found_head front rest ends few = ap head_len (take-append max_head front rest ∙ ap (λ f. f ++ take (max_head - length front) rest) (take_all max_head front few)) ∙ ends (take (max_head - length front) rest)
-
-pub bind_ok : {A B : Type 0} (x : Result A HttpError) (f : A → Result B HttpError) (a : A) (r : Result B HttpError) → x ≡ Ok a → f a ≡ r → (x >>= f) ≡ r
-bind_ok x f a r e h = ap (λ y. y >>= f) e ∙ h
-
-pub body_back : (segment more : List ℕ) → length segment ≤ max_body → body_of (length segment) (segment ++ more) ≡ Ok segment
-body_back segment more few =
-    there (length segment) (segment ++ more) (le-ltb max_body (length segment) few) (le-ltb (length (segment ++ more)) (length segment) (omega (arith, length-append segment more)))
-    ∙ ap Ok (take-append_seam segment more)
-
-pub field_is : (name v : List ℕ) → list_all is_token_byte name ≡ true → 0 < length name → Visible v → IsField (record { name = name; raw = 32 ∷ v; end = grammar.crlf })
-field_is name v e some all = record { name = (some, AllPass-from_list_all is_token_byte name e); raw = value_text v all }
-
--- ---- requests
+use Rattle.tw_http.specs.Requests.{asked_of, content_type, has_body, typed_as, request_made, request_after, posted_at, fetched_at, IsRequestHeadAnswer, IsRequestAnswerAt, IsRequestAnswer}
+use Rattle.tw_http.specs.Serving.{client_of}
+use Rattle.tw_http.specs.Bodies.{body_len, body_of}
+use Rattle.tw_http.proofs.Visible.{Visible, uuid_long, uuid_visible, length_reads, uri_text, ascii_text}
+use Rattle.tw_http.proofs.WrittenHeads.{IsHeadText, line_on}
+use Rattle.tw_http.proofs.MessageParts.{plain_line, line_of, length_line, found_head, bind_ok, body_back, field, closing, visible}
+use Rattle.tw_http.proofs.Sections.{IsSection, closed, closing_pairs, closing_text, length_on, type_on, client_on, host_on, short_decimal}
 
 request_answer : (front rest : List ℕ) (r : Result Request HttpError) → IsHeadText front → length front ≤ max_head → IsRequestHeadAnswer front rest r → IsRequestAnswer (front ++ rest) r
 request_answer front rest r ends few x =
@@ -63,230 +32,168 @@ request_answer front rest r ends few x =
     (subst (λ f. IsRequestHeadAnswer f (drop (length front) (front ++ rest)) r) (sym (take-append_seam front rest))
     (subst (λ q. IsRequestHeadAnswer front q r) (sym (drop-append_seam front rest)) x))
 
-started : (u v e t : List ℕ) → u ++ v ++ e ++ t ≡ u ++ (v ++ (e ++ t))
-started u v e t = simp append_assoc
+abbrev start_of : List ℕ → List ℕ → List ℕ
+start_of method target = method ++ (32 ∷ (target ++ codes " HTTP/1.1"))
 
--- ---- get-child
+abbrev front_of : List ℕ → List ℕ → List ℕ → List ℕ
+front_of method target t = line (start_of method target) ++ t
 
-unfoldable child_front : List ℕ → List ℕ → List ℕ → List ℕ
-child_front p host c =
-    line (codes "GET " ++ child_path ++ p ++ codes " HTTP/1.1")
-    ++ (line (codes "Host: " ++ host)
-    ++ (line (codes "X-Client-Id: " ++ c)
-    ++ (line (codes "Connection: close")
-    ++ crlf)))
+abbrev head_of : List ℕ → List ℕ → List Field → RequestHead
+head_of method target fs = record { blank = []; method = method; target = target; minor = 1; line_end = grammar.crlf; fields = fs; last = grammar.crlf }
 
-abbrev pub field : List ℕ → List ℕ → Field
-field name v = record { name = name; raw = 32 ∷ v; end = grammar.crlf }
+regroup : (method target version t : List ℕ) → ((method ++ (32 ∷ (target ++ version))) ++ crlf) ++ t ≡ method ++ (32 ∷ (target ++ (version ++ (crlf ++ t))))
+regroup method target version t = simp (append_assoc, cons-append)
 
-abbrev pub closing : List Field
-closing = field (codes "Connection") (codes "close") ∷ []
+front_is : (method target t : List ℕ) (fs : List Field) → t ≡ flat_map print_field fs ++ crlf → front_of method target t ≡ print_request (head_of method target fs) ++ []
+front_is method target t fs e =
+    regroup method target (codes " HTTP/1.1") t
+    ∙ ap (λ x. method ++ (32 ∷ (target ++ (codes " HTTP/1.1" ++ (crlf ++ x))))) (e ∙ sym (append-nil (flat_map print_field fs ++ crlf)))
+    ∙ sym (print_request-append (head_of method target fs) [])
 
-pub visible : (xs : List ℕ) → list_all is_visible_byte xs ≡ true → Visible xs
-visible xs e = AllPass-from_list_all is_visible_byte xs e
-
-abbrev child_fields : List ℕ → List ℕ → List Field
-child_fields host c = field (codes "Host") host ∷ field (codes "X-Client-Id") c ∷ closing
-
-abbrev child_head : List ℕ → List ℕ → List ℕ → RequestHead
-child_head p host c = record { blank = []; method = codes "GET"; target = child_path ++ p; minor = 1; line_end = grammar.crlf; fields = child_fields host c; last = grammar.crlf }
-
-three : (a b c z : List ℕ) → a ++ (b ++ (c ++ z)) ≡ (a ++ (b ++ (c ++ [])) ++ z) ++ []
-three a b c z = simp (append_assoc, append-nil)
-
-child_text : (p host c : List ℕ) → child_front p host c ≡ print_request (child_head p host c) ++ []
-unfolding child_front
-child_text p host c =
-    let tail = line (codes "Host: " ++ host) ++ (line (codes "X-Client-Id: " ++ c) ++ (line (codes "Connection: close") ++ crlf)) in
-    let version = codes " HTTP/1.1" in
-    ap (λ x. codes "GET " ++ child_path ++ x) (started p version crlf tail)
-    ∙ ap (λ x. codes "GET " ++ child_path ++ (p ++ (version ++ (crlf ++ x)))) (three (line (codes "Host: " ++ host)) (line (codes "X-Client-Id: " ++ c)) (line (codes "Connection: close")) crlf)
-    ∙ sym (print_request-append (child_head p host c) [])
-
-child_reads : (p host c : List ℕ) → Visible p → Visible host → Visible c → ReadsRequest (child_front p host c) (child_head p host c) []
-unfolding is_token_byte
-child_reads p host c vp vh vc = (
-  record {
-    method = (omega arith, AllPass-from_list_all is_token_byte (codes "GET") refl);
-    target = (omega arith, uri_text (child_path ++ p) (All-append (λ b. IsTrue (is_visible_byte b)) child_path p (visible child_path refl) vp));
-    target_text = IsUtf8-from_ascii (child_path ++ p) (ascii_text (child_path ++ p) (All-append (λ b. IsTrue (is_visible_byte b)) child_path p (visible child_path refl) vp));
-    minor = omega arith;
-    fields = All-cons IsField (field (codes "Host") host) (field (codes "X-Client-Id") c ∷ closing) (field_is (codes "Host") host refl (omega arith) vh)
-        (All-cons IsField (field (codes "X-Client-Id") c) closing (field_is (codes "X-Client-Id") c refl (omega arith) vc)
-        (All-cons IsField (field (codes "Connection") (codes "close")) [] (field_is (codes "Connection") (codes "close") refl (omega arith) (visible (codes "close") refl)) (All-nil IsField)));
-  },
-  child_text p host c,
-)
-
-child_ends : (p host c : List ℕ) → Visible p → Visible host → Visible c → IsHeadText (child_front p host c)
-unfolding child_front
-child_ends p host c vp vh vc =
-    line_on (codes "GET " ++ child_path ++ p ++ codes " HTTP/1.1") _ (All-append (λ b. (b == 13) ≡ false) (codes "GET " ++ child_path ++ p) (codes " HTTP/1.1") (line_of (codes "GET " ++ child_path) p refl vp) (plain_line (codes " HTTP/1.1") refl)) (λ rest. refl)
-    (line_on (codes "Host: " ++ host) _ (line_of (codes "Host: ") host refl vh) (λ rest. refl)
-    (line_on (codes "X-Client-Id: " ++ c) _ (line_of (codes "X-Client-Id: ") c refl vc) (λ rest. refl)
-    (last_line (codes "Connection: close") (plain_line (codes "Connection: close") refl))))
-
-child_after : (p host c client parent rest : List ℕ) → parsed_hyphenated p ≡ Some parent → parsed_hyphenated c ≡ Some client
-    → request_after (codes "GET") (child_path ++ p) ((codes "Host", host) ∷ (codes "X-Client-Id", c) ∷ (codes "Connection", codes "close") ∷ []) rest ≡ Ok (Child client parent)
-unfolding request_after
-child_after p host c client parent rest pe ce =
-    let fs : Fields = (codes "Host", host) ∷ (codes "X-Client-Id", c) ∷ (codes "Connection", codes "close") ∷ [] in
-    bind_ok (or_err Path (asked_of (codes "GET") (child_path ++ p))) _ (asked.Child, parent) (Ok (Child client parent)) (ap (λ o. or_err Path (option_map (λ u. (asked.Child, u)) o)) pe)
-    (bind_ok (uuid_field (codes "X-Client-Id") fs) _ client (Ok (Child client parent)) (ap (λ o. or_err Header o) ce)
-    (bind_ok (body_of 0 rest) _ [] (Ok (Child client parent)) (body_back [] rest (omega arith)) refl))
-
-child_pairs : (host c : List ℕ) → Visible host → Visible c → map name_and_value (child_fields host c) ≡ (codes "Host", host) ∷ (codes "X-Client-Id", c) ∷ (codes "Connection", codes "close") ∷ []
-child_pairs host c vh vc = rw (trimmed host vh, trimmed c vc, trimmed (codes "close") (visible (codes "close") refl)) refl
-
-child_few : (p host c : List ℕ) → length p ≡ 36 → length host ≤ 300 → length c ≡ 36 → length (child_front p host c) ≤ max_head
-unfolding child_front
-child_few p host c lp lh lc =
-    let l4 = line (codes "Connection: close") ++ crlf in
-    let l3 = line (codes "X-Client-Id: " ++ c) ++ l4 in
-    let l2 = line (codes "Host: " ++ host) ++ l3 in
-    let n1 : length (child_front p host c) ≡ length (codes "GET " ++ child_path ++ p ++ codes " HTTP/1.1") + 2 + length l2 = length_line (codes "GET " ++ child_path ++ p ++ codes " HTTP/1.1") l2 in
-    let n0 : length (codes "GET " ++ child_path ++ p ++ codes " HTTP/1.1") ≡ length (codes "GET " ++ child_path ++ p) + 9 = length-append (codes "GET " ++ child_path ++ p) (codes " HTTP/1.1") in
-    let n2 : length l2 ≡ length (codes "Host: " ++ host) + 2 + length l3 = length_line (codes "Host: " ++ host) l3 in
-    let n3 : length l3 ≡ length (codes "X-Client-Id: " ++ c) + 2 + length l4 = length_line (codes "X-Client-Id: " ++ c) l4 in
-    omega (arith, lp, lh, lc, n0, n1, n2, n3)
-
-child_answer : (p host c client parent rest : List ℕ) → Visible p → Visible host → Visible c → length p ≡ 36 → length host ≤ 300 → length c ≡ 36
-    → parsed_hyphenated p ≡ Some parent → parsed_hyphenated c ≡ Some client → IsRequestAnswer (child_front p host c ++ rest) (Ok (Child client parent))
-child_answer p host c client parent rest vp vh vc lp lh lc pe ce =
-    request_answer (child_front p host c) rest (Ok (Child client parent)) (child_ends p host c vp vh vc) (child_few p host c lp lh lc)
+-- the answer to a start line and a section
+section_request : (method target : List ℕ) (fs : List Field) (t : List ℕ) (ps : Fields) (most : ℕ) (rest : List ℕ) (r : Result Request HttpError)
+    → list_all is_token_byte method ≡ true → 0 < length method → list_all (λ b. not (b == 13)) (method ++ (32 ∷ [])) ≡ true → length method ≤ 10
+    → Visible target → 0 < length target → length target ≤ 100
+    → IsSection fs t ps most → most ≤ 16_000 → length fs ≤ 64 → request_after method target ps rest ≡ r
+    → IsRequestAnswer (front_of method target t ++ rest) r
+section_request method target fs t ps most rest r token some plain brief vt some_target short_target s few lines is =
+    let start = start_of method target in
+    let one = length_line start t in
+    let two = length-append method (32 ∷ (target ++ codes " HTTP/1.1")) in
+    let three = length-append target (codes " HTTP/1.1") in
+    let short = s.short in
+    let whole : start ≡ (method ++ (32 ∷ [])) ++ target ++ codes " HTTP/1.1" = regroup_start method target (codes " HTTP/1.1") in
+    request_answer (front_of method target t) rest r
+    (line_on start t (subst (λ x. All (λ b. (b == 13) ≡ false) x) (sym whole) (All-append (λ b. (b == 13) ≡ false) ((method ++ (32 ∷ [])) ++ target) (codes " HTTP/1.1") (line_of (method ++ (32 ∷ [])) target plain vt) (plain_line (codes " HTTP/1.1") refl))) s.more s.ends)
+    (omega (arith, one, two, three, short, few, brief, short_target))
     (inl (
-      child_head p host c,
-      child_reads p host c vp vh vc,
-      omega arith,
-      sym (ap (λ fs. request_after (codes "GET") (child_path ++ p) fs rest) (child_pairs host c vh vc) ∙ child_after p host c client parent rest pe ce),
+      head_of method target fs,
+      (
+        record {
+          method = (some, AllPass-from_list_all is_token_byte method token);
+          target = (some_target, uri_text target vt);
+          target_text = IsUtf8-from_ascii target (ascii_text target vt);
+          minor = omega arith;
+          fields = s.all;
+        },
+        front_is method target t fs s.prints,
+      ),
+      lines,
+      sym (ap (λ x. request_after method target x rest) s.reads ∙ is),
     ))
+  where
+    regroup_start : (m u v : List ℕ) → m ++ (32 ∷ (u ++ v)) ≡ (m ++ (32 ∷ [])) ++ u ++ v
+    regroup_start m u v = simp (append_assoc, cons-append)
 
-pub child_back : (client parent host more : List ℕ) → IsHost host → parsed_hyphenated (uuid_text parent) ≡ Some parent → parsed_hyphenated (uuid_text client) ≡ Some client
-    → IsRequestAnswer (request_text (Child client parent) host ++ more) (Ok (Child client parent))
-unfolding request_head child_front
-child_back client parent host more h pe ce =
-    subst (λ bytes. IsRequestAnswer (bytes ++ more) (Ok (Child client parent))) (sym (append-nil (request_head (Child client parent) host)))
-    (child_answer (uuid_text parent) host (uuid_text client) client parent more (uuid_visible parent) h.plain (uuid_visible client) (uuid_long parent) h.few (uuid_long client) pe ce)
+-- ---- without a body
 
--- ---- add-version
+abbrev get_pairs : List ℕ → List ℕ → Fields
+get_pairs host client = (codes "Host", host) ∷ (codes "X-Client-Id", uuid_text client) ∷ closing_pairs
 
-unfoldable add_front : List ℕ → List ℕ → List ℕ → List ℕ → List ℕ
-add_front p host c d =
-    line (codes "POST " ++ add_path ++ p ++ codes " HTTP/1.1")
-    ++ (line (codes "Host: " ++ host)
-    ++ (line (codes "X-Client-Id: " ++ c)
-    ++ (line (codes "Content-Type: " ++ segment_type)
-    ++ (line (codes "Content-Length: " ++ d)
-    ++ (line (codes "Connection: close")
-    ++ crlf)))))
+get_answer : (target client host rest : List ℕ) (r : Result Request HttpError) → IsHost host → Visible target → 0 < length target → length target ≤ 100
+    → request_after (codes "GET") target (get_pairs host client) rest ≡ r → IsRequestAnswer (get_head target client host ++ rest) r
+unfolding get_lines is_token_byte
+get_answer target client host rest r h vt some short is =
+    let few = h.few in
+    let long = uuid_long client in
+    let t1 = line (codes "X-Client-Id: " ++ uuid_text client) ++ closing_text in
+    let f1 = field (codes "X-Client-Id") (uuid_text client) ∷ closing in
+    let p1 : Fields = (codes "X-Client-Id", uuid_text client) ∷ closing_pairs in
+    let m1 = 11 + length (uuid_text client) + 4 + 30 in
+    section_request (codes "GET") target (field (codes "Host") host ∷ f1) (line (codes "Host: " ++ host) ++ t1) (get_pairs host client) (4 + length host + 4 + m1) rest r
+    refl (omega arith) refl (omega arith) vt some short
+    (host_on host f1 t1 p1 m1 h.plain (client_on client closing closing_text closing_pairs 30 closed)) (omega (arith, few, long)) (omega arith) is
 
-abbrev measured : List ℕ → List Field
-measured d = field (codes "Content-Length") d ∷ closing
-
-abbrev typed : List ℕ → List Field
-typed d = field (codes "Content-Type") segment_type ∷ measured d
-
-abbrev add_fields : List ℕ → List ℕ → List ℕ → List Field
-add_fields host c d = field (codes "Host") host ∷ field (codes "X-Client-Id") c ∷ typed d
-
-abbrev add_pairs : List ℕ → List ℕ → List ℕ → Fields
-add_pairs host c d = (codes "Host", host) ∷ (codes "X-Client-Id", c) ∷ (codes "Content-Type", segment_type) ∷ (codes "Content-Length", d) ∷ (codes "Connection", codes "close") ∷ []
-
-abbrev add_head : List ℕ → List ℕ → List ℕ → List ℕ → RequestHead
-add_head p host c d = record { blank = []; method = codes "POST"; target = add_path ++ p; minor = 1; line_end = grammar.crlf; fields = add_fields host c d; last = grammar.crlf }
-
-five : (a b c d e z : List ℕ) → a ++ (b ++ (c ++ (d ++ (e ++ z)))) ≡ (a ++ (b ++ (c ++ (d ++ (e ++ [])))) ++ z) ++ []
-five a b c d e z = simp (append_assoc, append-nil)
-
-add_text : (p host c d : List ℕ) → add_front p host c d ≡ print_request (add_head p host c d) ++ []
-unfolding add_front
-add_text p host c d =
-    let tail = line (codes "Host: " ++ host) ++ (line (codes "X-Client-Id: " ++ c) ++ (line (codes "Content-Type: " ++ segment_type) ++ (line (codes "Content-Length: " ++ d) ++ (line (codes "Connection: close") ++ crlf)))) in
-    let version = codes " HTTP/1.1" in
-    ap (λ x. codes "POST " ++ add_path ++ x) (started p version crlf tail)
-    ∙ ap (λ x. codes "POST " ++ add_path ++ (p ++ (version ++ (crlf ++ x)))) (five (line (codes "Host: " ++ host)) (line (codes "X-Client-Id: " ++ c)) (line (codes "Content-Type: " ++ segment_type)) (line (codes "Content-Length: " ++ d)) (line (codes "Connection: close")) crlf)
-    ∙ sym (print_request-append (add_head p host c d) [])
-
-add_reads : (p host c d : List ℕ) → Visible p → Visible host → Visible c → Visible d → ReadsRequest (add_front p host c d) (add_head p host c d) []
-unfolding is_token_byte
-add_reads p host c d vp vh vc vd = (
-  record {
-    method = (omega arith, AllPass-from_list_all is_token_byte (codes "POST") refl);
-    target = (omega arith, uri_text (add_path ++ p) (All-append (λ b. IsTrue (is_visible_byte b)) add_path p (visible add_path refl) vp));
-    target_text = IsUtf8-from_ascii (add_path ++ p) (ascii_text (add_path ++ p) (All-append (λ b. IsTrue (is_visible_byte b)) add_path p (visible add_path refl) vp));
-    minor = omega arith;
-    fields = All-cons IsField (field (codes "Host") host) (field (codes "X-Client-Id") c ∷ typed d) (field_is (codes "Host") host refl (omega arith) vh)
-        (All-cons IsField (field (codes "X-Client-Id") c) (typed d) (field_is (codes "X-Client-Id") c refl (omega arith) vc)
-        (All-cons IsField (field (codes "Content-Type") segment_type) (measured d) (field_is (codes "Content-Type") segment_type refl (omega arith) (visible segment_type refl))
-        (All-cons IsField (field (codes "Content-Length") d) closing (field_is (codes "Content-Length") d refl (omega arith) vd)
-        (All-cons IsField (field (codes "Connection") (codes "close")) [] (field_is (codes "Connection") (codes "close") refl (omega arith) (visible (codes "close") refl)) (All-nil IsField)))));
-  },
-  add_text p host c d,
-)
-
-add_ends : (p host c d : List ℕ) → Visible p → Visible host → Visible c → Visible d → IsHeadText (add_front p host c d)
-unfolding add_front
-add_ends p host c d vp vh vc vd =
-    let l6 = line (codes "Connection: close") ++ crlf in
-    let l5 = line (codes "Content-Length: " ++ d) ++ l6 in
-    let l4 = line (codes "Content-Type: " ++ segment_type) ++ l5 in
-    let l3 = line (codes "X-Client-Id: " ++ c) ++ l4 in
-    let l2 = line (codes "Host: " ++ host) ++ l3 in
-    line_on (codes "POST " ++ add_path ++ p ++ codes " HTTP/1.1") l2 (All-append (λ b. (b == 13) ≡ false) (codes "POST " ++ add_path ++ p) (codes " HTTP/1.1") (line_of (codes "POST " ++ add_path) p refl vp) (plain_line (codes " HTTP/1.1") refl)) (λ rest. refl)
-    (line_on (codes "Host: " ++ host) l3 (line_of (codes "Host: ") host refl vh) (λ rest. refl)
-    (line_on (codes "X-Client-Id: " ++ c) l4 (line_of (codes "X-Client-Id: ") c refl vc) (λ rest. refl)
-    (line_on (codes "Content-Type: " ++ segment_type) l5 (plain_line (codes "Content-Type: " ++ segment_type) refl) (λ rest. refl)
-    (line_on (codes "Content-Length: " ++ d) l6 (line_of (codes "Content-Length: ") d refl vd) (λ rest. refl)
-    (last_line (codes "Connection: close") (plain_line (codes "Connection: close") refl))))))
-
-add_after : (p host c d client parent segment more : List ℕ) → parsed_hyphenated p ≡ Some parent → parsed_hyphenated c ≡ Some client
-    → length_of (Some d) ≡ Some (length segment) → length segment ≤ max_body
-    → request_after (codes "POST") (add_path ++ p) (add_pairs host c d) (segment ++ more) ≡ Ok (Add client parent segment)
+get_after : (target : List ℕ) (asked : Target) (client host more : List ℕ) → has_body asked ≡ false → content_type asked ≡ None → asked_of (codes "GET") target ≡ Some asked → IsReadBack (Some client)
+    → request_after (codes "GET") target (get_pairs host client) more ≡ Ok (request_made asked client [])
 unfolding request_after
-add_after p host c d client parent segment more pe ce de few =
-    let fs : Fields = add_pairs host c d in
-    let r : Result Request HttpError = Ok (Add client parent segment) in
-    bind_ok (or_err Path (asked_of (codes "POST") (add_path ++ p))) _ (asked.Add, parent) r (ap (λ o. or_err Path (option_map (λ u. (asked.Add, u)) o)) pe)
-    (bind_ok (uuid_field (codes "X-Client-Id") fs) _ client r (ap (λ o. or_err Header o) ce)
-    (bind_ok (body_len true fs) _ (length segment) r (ap (λ o. or_err Length o) de)
-    (bind_ok (body_of (length segment) (segment ++ more)) _ segment r (body_back segment more few) refl)))
+get_after target asked client host more bare none ae ce =
+    let fs = get_pairs host client in
+    let r : Result Request HttpError = Ok (request_made asked client []) in
+    bind_ok (or_err Path (asked_of (codes "GET") target)) _ asked r (ap (or_err Path) ae)
+    (bind_ok (uuid_field (codes "X-Client-Id") fs) _ client r (ap (or_err Header) ce)
+    (bind_ok (typed_as (content_type asked) fs) _ tt r (ap (λ o. typed_as o fs) none)
+    (bind_ok (body_len (has_body asked) fs) _ 0 r (ap (λ b. body_len b fs) bare)
+    (bind_ok (body_of 0 more) _ [] r (body_back [] more (omega arith)) refl))))
 
-add_pairs_are : (host c d : List ℕ) → Visible host → Visible c → Visible d → map name_and_value (add_fields host c d) ≡ add_pairs host c d
-add_pairs_are host c d vh vc vd = rw (trimmed host vh, trimmed c vc, trimmed segment_type (visible segment_type refl), trimmed d vd, trimmed (codes "close") (visible (codes "close") refl)) refl
+on_path : (path uuid : List ℕ) → list_all is_visible_byte path ≡ true → Visible (path ++ uuid_text uuid)
+on_path path uuid e = All-append (λ b. IsTrue (is_visible_byte b)) path (uuid_text uuid) (visible path e) (uuid_visible uuid)
 
-add_few : (p host c d : List ℕ) → length p ≡ 36 → length host ≤ 300 → length c ≡ 36 → length d ≤ 19 → length (add_front p host c d) ≤ max_head
-unfolding add_front
-add_few p host c d lp lh lc ld =
-    let l6 = line (codes "Connection: close") ++ crlf in
-    let l5 = line (codes "Content-Length: " ++ d) ++ l6 in
-    let l4 = line (codes "Content-Type: " ++ segment_type) ++ l5 in
-    let l3 = line (codes "X-Client-Id: " ++ c) ++ l4 in
-    let l2 = line (codes "Host: " ++ host) ++ l3 in
-    let n1 : length (add_front p host c d) ≡ length (codes "POST " ++ add_path ++ p ++ codes " HTTP/1.1") + 2 + length l2 = length_line (codes "POST " ++ add_path ++ p ++ codes " HTTP/1.1") l2 in
-    let n0 : length (codes "POST " ++ add_path ++ p ++ codes " HTTP/1.1") ≡ length (codes "POST " ++ add_path ++ p) + 9 = length-append (codes "POST " ++ add_path ++ p) (codes " HTTP/1.1") in
-    let n2 : length l2 ≡ length (codes "Host: " ++ host) + 2 + length l3 = length_line (codes "Host: " ++ host) l3 in
-    let n3 : length l3 ≡ length (codes "X-Client-Id: " ++ c) + 2 + length l4 = length_line (codes "X-Client-Id: " ++ c) l4 in
-    let n5 : length l5 ≡ length (codes "Content-Length: " ++ d) + 2 + length l6 = length_line (codes "Content-Length: " ++ d) l6 in
-    omega (arith, lp, lh, lc, ld, n0, n1, n2, n3, n5)
+child_back : (client parent host more : List ℕ) → IsHost host → IsReadBack (Some client) → IsReadBack (Some parent) → IsRequestAnswer (request_text (Child client parent) host ++ more) (Ok (Child client parent))
+child_back client parent host more h ce pe =
+    let long = uuid_long parent in
+    let target = child_path ++ uuid_text parent in
+    subst (λ bytes. IsRequestAnswer (bytes ++ more) (Ok (Child client parent))) (sym (append-nil (get_head target client host)))
+    (get_answer target client host more (Ok (Child client parent)) h (on_path child_path parent refl) (omega arith) (omega (arith, long))
+    (get_after target (at.Child parent) client host more refl refl (ap (fetched_at target) pe) ce))
 
-add_answer : (p host c d client parent segment more : List ℕ) → Visible p → Visible host → Visible c → Visible d → length p ≡ 36 → length host ≤ 300 → length c ≡ 36 → length d ≤ 19
-    → parsed_hyphenated p ≡ Some parent → parsed_hyphenated c ≡ Some client → length_of (Some d) ≡ Some (length segment) → length segment ≤ max_body
-    → IsRequestAnswer (add_front p host c d ++ (segment ++ more)) (Ok (Add client parent segment))
-add_answer p host c d client parent segment more vp vh vc vd lp lh lc ld pe ce de few =
-    request_answer (add_front p host c d) (segment ++ more) (Ok (Add client parent segment)) (add_ends p host c d vp vh vc vd) (add_few p host c d lp lh lc ld)
-    (inl (
-      add_head p host c d,
-      add_reads p host c d vp vh vc vd,
-      omega arith,
-      sym (ap (λ fs. request_after (codes "POST") (add_path ++ p) fs (segment ++ more)) (add_pairs_are host c d vh vc vd) ∙ add_after p host c d client parent segment more pe ce de few),
-    ))
+snapshot_back : (client host more : List ℕ) → IsHost host → IsReadBack (Some client) → IsRequestAnswer (request_text (Snapshot client) host ++ more) (Ok (Snapshot client))
+snapshot_back client host more h ce =
+    subst (λ bytes. IsRequestAnswer (bytes ++ more) (Ok (Snapshot client))) (sym (append-nil (get_head fetch_path client host)))
+    (get_answer fetch_path client host more (Ok (Snapshot client)) h (visible fetch_path refl) (omega arith) (omega arith)
+    (get_after fetch_path at.Fetch client host more refl refl refl ce))
 
-pub add_back : (client parent segment host more : List ℕ) → IsHost host → length segment ≤ max_body → parsed_hyphenated (uuid_text parent) ≡ Some parent → parsed_hyphenated (uuid_text client) ≡ Some client
-    → IsRequestAnswer (request_text (Add client parent segment) host ++ more) (Ok (Add client parent segment))
-unfolding request_head add_front
-add_back client parent segment host more h few pe ce =
-    let small : length segment < 2 ^ 64 = omega (arith, few) in
-    subst (λ bytes. IsRequestAnswer bytes (Ok (Add client parent segment))) (sym (append_assoc (request_head (Add client parent segment) host) segment more))
-    (add_answer (uuid_text parent) host (uuid_text client) (decimal (length segment)) client parent segment more
-    (uuid_visible parent) h.plain (uuid_visible client) (decimal_visible (length segment) small) (uuid_long parent) h.few (uuid_long client)
-    (length-decimal-le 19 (length segment) (omega arith) (omega (arith, few)) small) pe ce (length_reads (length segment) few) few)
+-- ---- with a body
+
+abbrev post_pairs : List ℕ → List ℕ → List ℕ → ℕ → Fields
+post_pairs host client type n = (codes "Host", host) ∷ (codes "X-Client-Id", uuid_text client) ∷ (codes "Content-Type", type) ∷ (codes "Content-Length", decimal n) ∷ closing_pairs
+
+post_answer : (target type client host : List ℕ) (n : ℕ) (rest : List ℕ) (r : Result Request HttpError) → IsHost host → Visible target → 0 < length target → length target ≤ 100 → Visible type → length type ≤ 100 → n ≤ max_body
+    → request_after (codes "POST") target (post_pairs host client type n) rest ≡ r → IsRequestAnswer (post_head target type client host n ++ rest) r
+unfolding post_head is_token_byte
+post_answer target type client host n rest r h vt some short vy short_type small is =
+    let few = h.few in
+    let long = uuid_long client in
+    let digits = short_decimal n small in
+    let t1 = line (codes "Content-Length: " ++ decimal n) ++ closing_text in
+    let f1 = field (codes "Content-Length") (decimal n) ∷ closing in
+    let p1 : Fields = (codes "Content-Length", decimal n) ∷ closing_pairs in
+    let m1 = 14 + length (decimal n) + 4 + 30 in
+    let t2 = line (codes "Content-Type: " ++ type) ++ t1 in
+    let f2 = field (codes "Content-Type") type ∷ f1 in
+    let p2 : Fields = (codes "Content-Type", type) ∷ p1 in
+    let m2 = 12 + length type + 4 + m1 in
+    let t3 = line (codes "X-Client-Id: " ++ uuid_text client) ++ t2 in
+    let f3 = field (codes "X-Client-Id") (uuid_text client) ∷ f2 in
+    let p3 : Fields = (codes "X-Client-Id", uuid_text client) ∷ p2 in
+    let m3 = 11 + length (uuid_text client) + 4 + m2 in
+    section_request (codes "POST") target (field (codes "Host") host ∷ f3) (line (codes "Host: " ++ host) ++ t3) (post_pairs host client type n) (4 + length host + 4 + m3) rest r
+    refl (omega arith) refl (omega arith) vt some short
+    (host_on host f3 t3 p3 m3 h.plain (client_on client f2 t2 p2 m2 (type_on type f1 t1 p1 m1 vy (length_on n closing closing_text closing_pairs 30 small closed))))
+    (omega (arith, few, long, digits, short_type)) (omega arith) is
+
+post_after : (target type : List ℕ) (asked : Target) (client host body more : List ℕ) → has_body asked ≡ true → typed_as (content_type asked) (post_pairs host client type (length body)) ≡ Ok tt
+    → asked_of (codes "POST") target ≡ Some asked → IsReadBack (Some client) → length body ≤ max_body
+    → request_after (codes "POST") target (post_pairs host client type (length body)) (body ++ more) ≡ Ok (request_made asked client body)
+unfolding request_after
+post_after target type asked client host body more full typed ae ce few =
+    let fs = post_pairs host client type (length body) in
+    let r : Result Request HttpError = Ok (request_made asked client body) in
+    bind_ok (or_err Path (asked_of (codes "POST") target)) _ asked r (ap (or_err Path) ae)
+    (bind_ok (uuid_field (codes "X-Client-Id") fs) _ client r (ap (or_err Header) ce)
+    (bind_ok (typed_as (content_type asked) fs) _ tt r typed
+    (bind_ok (body_len (has_body asked) fs) _ (length body) r (ap (λ b. body_len b fs) full ∙ ap (or_err Length) (length_reads (length body) few))
+    (bind_ok (body_of (length body) (body ++ more)) _ body r (body_back body more few) refl))))
+
+add_back : (client parent segment host more : List ℕ) → IsHost host → length segment ≤ max_body → IsReadBack (Some client) → IsReadBack (Some parent) → IsRequestAnswer (request_text (Add client parent segment) host ++ more) (Ok (Add client parent segment))
+add_back client parent segment host more h few ce pe =
+    let long = uuid_long parent in
+    let target = add_path ++ uuid_text parent in
+    subst (λ bytes. IsRequestAnswer bytes (Ok (Add client parent segment))) (sym (append_assoc (post_head target segment_type client host (length segment)) segment more))
+    (post_answer target segment_type client host (length segment) (segment ++ more) (Ok (Add client parent segment)) h (on_path add_path parent refl) (omega arith) (omega (arith, long)) (visible segment_type refl) (omega arith) few
+    (post_after target segment_type (at.Add parent) client host segment more refl refl (ap (posted_at target) pe) ce few))
+
+store_back : (client version snapshot host more : List ℕ) → IsHost host → length snapshot ≤ max_body → IsReadBack (Some client) → IsReadBack (Some version) → IsRequestAnswer (request_text (AddSnapshot client version snapshot) host ++ more) (Ok (AddSnapshot client version snapshot))
+store_back client version snapshot host more h few ce ve =
+    let long = uuid_long version in
+    let target = store_path ++ uuid_text version in
+    subst (λ bytes. IsRequestAnswer bytes (Ok (AddSnapshot client version snapshot))) (sym (append_assoc (post_head target snapshot_type client host (length snapshot)) snapshot more))
+    (post_answer target snapshot_type client host (length snapshot) (snapshot ++ more) (Ok (AddSnapshot client version snapshot)) h (on_path store_path version refl) (omega arith) (omega (arith, long)) (visible snapshot_type refl) (omega arith) few
+    (post_after target snapshot_type (at.Store version) client host snapshot more refl refl (ap (λ o. option_map at.Store o) ve) ce few))
+
+-- what was written is read as it, whatever follows
+pub request_back : (request : Request) (host more : List ℕ) → IsHost host → length (request_body request) ≤ max_body → IsReadBack (Some (client_of request)) → IsReadBack (asked_uuid request) → IsRequestAnswer (request_text request host ++ more) (Ok request)
+request_back (Add client parent segment) host more h few ce ue = add_back client parent segment host more h few ce ue
+request_back (Child client parent) host more h few ce ue = child_back client parent host more h ce ue
+request_back (AddSnapshot client version snapshot) host more h few ce ue = store_back client version snapshot host more h few ce ue
+request_back (Snapshot client) host more h few ce ue = snapshot_back client host more h ce

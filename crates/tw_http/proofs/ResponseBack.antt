@@ -1,14 +1,13 @@
 -- Each response is read back.
-use Rattle.std.proofs.Common.{◌≡◌, ℕ, ◌+◌, ◌≤◌, List, [], ◌∷◌, ◌++◌, true, not, Some, Result, Ok, refl, sym, ap, subst, arith, length, ◌==◌, IsTrue, codes, decimal, append_assoc, unwrap_or}
+use Rattle.std.proofs.Common.{◌≡◌, ◌∙◌, ℕ, ◌+◌, ◌≤◌, Bool, false, List, [], ◌∷◌, ◌++◌, true, not, Some, Result, Ok, refl, sym, ap, subst, arith, length, ◌==◌, IsTrue, codes, decimal, append_assoc}
 use Rattle.std.specs.List.{list_all}
 use Rattle.std.specs.Char.{is_ascii_digit}
 use Rattle.std.specs.Str.Parse.{digits_value}
 use Rattle.std.proofs.lemmas.Bool.{false≢true}
 use Rattle.std.proofs.lemmas.List.{append-nil}
-use Rattle.std.proofs.lemmas.Fmt.{length-decimal-le}
 use Rattle.uuid.specs.Text.{parsed_hyphenated}
 use Rattle.http.specs.StatusCode.{code_digits}
-use Rattle.httparse.specs.Grammar.{Field, is_token_byte, is_value_byte}
+use Rattle.httparse.specs.Grammar.{Field, is_value_byte}
 use Rattle.tw_http.specs.declared.message.HttpError.{HttpError}
 use Rattle.tw_http.specs.declared.message.HttpError.TheVariants.{Header, Length}
 use Rattle.tw_http.specs.declared.message.Response.{Response}
@@ -17,41 +16,16 @@ use Rattle.tw_http.specs.declared.message.Asked.{Asked}
 use Rattle.tw_http.specs.declared.message.Asked.TheVariants as asked
 use Rattle.tw_http.specs.declared.response_reader.Kind.{Kind}
 use Rattle.tw_http.specs.declared.response_reader.Kind.TheVariants as kinds
-use Rattle.tw_http.specs.Messages.{max_body, crlf, line, uuid_text, segment_type, head_of_parts, response_text, id_of, parent_of, segment_of}
+use Rattle.tw_http.specs.Messages.{max_body, line, uuid_text, segment_type, snapshot_type, head_of_parts, response_text, response_body, id_of, parent_of}
 use Rattle.tw_http.specs.Fields.{Fields, uuid_field}
-use Rattle.tw_http.specs.Heads.{or_err}
+use Rattle.tw_http.specs.Heads.{◌>>=◌, or_err}
 use Rattle.tw_http.specs.Bodies.{body_len, body_of}
 use Rattle.tw_http.specs.Responses.{kind_in, response_made, response_after, answers, IsResponseAnswer}
 use Rattle.tw_http.specs.Messages.{IsReadBack}
-use Rattle.tw_http.proofs.Visible.{uuid_long, uuid_visible, decimal_visible, length_reads}
-use Rattle.tw_http.proofs.RequestBack.{bind_ok, body_back, field, closing, visible}
-use Rattle.tw_http.proofs.ResponseSections.{IsSection, closed, field_on, front_of, section_answer}
-
-abbrev closing_pairs : Fields
-closing_pairs = (codes "Connection", codes "close") ∷ []
-
-abbrev closing_text : List ℕ
-closing_text = line (codes "Connection: close") ++ crlf
-
-length_on : (n : ℕ) (fs : List Field) (t : List ℕ) (ps : Fields) (most : ℕ) → n ≤ max_body → IsSection fs t ps most
-    → IsSection (field (codes "Content-Length") (decimal n) ∷ fs) (line (codes "Content-Length: " ++ decimal n) ++ t) ((codes "Content-Length", decimal n) ∷ ps) (14 + length (decimal n) + 4 + most)
-unfolding is_token_byte
-length_on n fs t ps most few s = field_on (codes "Content-Length") (decimal n) fs t ps most refl (omega arith) refl (decimal_visible n (omega (arith, few))) (λ rest. refl) s
-
-id_on : (uuid : List ℕ) (fs : List Field) (t : List ℕ) (ps : Fields) (most : ℕ) → IsSection fs t ps most
-    → IsSection (field (codes "X-Version-Id") (uuid_text uuid) ∷ fs) (line (codes "X-Version-Id: " ++ uuid_text uuid) ++ t) ((codes "X-Version-Id", uuid_text uuid) ∷ ps) (12 + length (uuid_text uuid) + 4 + most)
-unfolding is_token_byte
-id_on uuid fs t ps most s = field_on (codes "X-Version-Id") (uuid_text uuid) fs t ps most refl (omega arith) refl (uuid_visible uuid) (λ rest. refl) s
-
-parent_on : (uuid : List ℕ) (fs : List Field) (t : List ℕ) (ps : Fields) (most : ℕ) → IsSection fs t ps most
-    → IsSection (field (codes "X-Parent-Version-Id") (uuid_text uuid) ∷ fs) (line (codes "X-Parent-Version-Id: " ++ uuid_text uuid) ++ t) ((codes "X-Parent-Version-Id", uuid_text uuid) ∷ ps) (19 + length (uuid_text uuid) + 4 + most)
-unfolding is_token_byte
-parent_on uuid fs t ps most s = field_on (codes "X-Parent-Version-Id") (uuid_text uuid) fs t ps most refl (omega arith) refl (uuid_visible uuid) (λ rest. refl) s
-
-type_on : (fs : List Field) (t : List ℕ) (ps : Fields) (most : ℕ) → IsSection fs t ps most
-    → IsSection (field (codes "Content-Type") segment_type ∷ fs) (line (codes "Content-Type: " ++ segment_type) ++ t) ((codes "Content-Type", segment_type) ∷ ps) (12 + length segment_type + 4 + most)
-unfolding is_token_byte
-type_on fs t ps most s = field_on (codes "Content-Type") segment_type fs t ps most refl (omega arith) refl (visible segment_type refl) (λ rest. refl) s
+use Rattle.tw_http.proofs.Visible.{uuid_long, length_reads}
+use Rattle.tw_http.proofs.MessageParts.{bind_ok, body_back, field, closing, visible}
+use Rattle.tw_http.proofs.Sections.{IsSection, closed, closing_pairs, closing_text, length_on, id_on, parent_on, type_on, wanted_on, short_decimal}
+use Rattle.tw_http.proofs.ResponseSections.{front_of, section_answer}
 
 after_is : (what : Asked) (status : ℕ) (ps : Fields) (kind : Kind) (segment more : List ℕ) → kind_in what status ps ≡ Ok kind → body_len true ps ≡ Ok (length segment) → length segment ≤ max_body
     → response_after what status ps (segment ++ more) ≡ Ok (response_made kind segment)
@@ -61,9 +35,6 @@ after_is what status ps kind segment more ne le few =
     bind_ok (kind_in what status ps) _ kind r ne
     (bind_ok (body_len true ps) _ (length segment) r le
     (bind_ok (body_of (length segment) (segment ++ more)) _ segment r (body_back segment more few) refl))
-
-short_decimal : (n : ℕ) → n ≤ max_body → length (decimal n) ≤ 19
-short_decimal n few = length-decimal-le 19 n (omega arith) (omega (arith, few)) (omega (arith, few))
 
 -- ---- responses with no header of their own
 
@@ -97,37 +68,60 @@ bad : (what : Asked) (more : List ℕ) → IsResponseAnswer what (response_text 
 unfolding head_of_parts
 bad asked.Add more = bare asked.Add 400 (codes "Bad Request") kinds.Bad more refl refl refl refl (omega arith) refl
 bad asked.Child more = bare asked.Child 400 (codes "Bad Request") kinds.Bad more refl refl refl refl (omega arith) refl
+bad asked.AddSnapshot more = bare asked.AddSnapshot 400 (codes "Bad Request") kinds.Bad more refl refl refl refl (omega arith) refl
+bad asked.Snapshot more = bare asked.Snapshot 400 (codes "Bad Request") kinds.Bad more refl refl refl refl (omega arith) refl
 
 too_long : (what : Asked) (more : List ℕ) → IsResponseAnswer what (response_text answer.TooLong ++ more) (Ok answer.TooLong)
 unfolding head_of_parts
 too_long asked.Add more = bare asked.Add 413 (codes "Payload Too Large") kinds.TooLong more refl refl refl refl (omega arith) refl
 too_long asked.Child more = bare asked.Child 413 (codes "Payload Too Large") kinds.TooLong more refl refl refl refl (omega arith) refl
+too_long asked.AddSnapshot more = bare asked.AddSnapshot 413 (codes "Payload Too Large") kinds.TooLong more refl refl refl refl (omega arith) refl
+too_long asked.Snapshot more = bare asked.Snapshot 413 (codes "Payload Too Large") kinds.TooLong more refl refl refl refl (omega arith) refl
 
 taken : (what : Asked) (more : List ℕ) → IsResponseAnswer what (response_text answer.Taken ++ more) (Ok answer.Taken)
 unfolding head_of_parts
 taken asked.Add more = bare asked.Add 500 (codes "Internal Server Error") kinds.Taken more refl refl refl refl (omega arith) refl
 taken asked.Child more = bare asked.Child 500 (codes "Internal Server Error") kinds.Taken more refl refl refl refl (omega arith) refl
+taken asked.AddSnapshot more = bare asked.AddSnapshot 500 (codes "Internal Server Error") kinds.Taken more refl refl refl refl (omega arith) refl
+taken asked.Snapshot more = bare asked.Snapshot 500 (codes "Internal Server Error") kinds.Taken more refl refl refl refl (omega arith) refl
+
+stored : (more : List ℕ) → IsResponseAnswer asked.AddSnapshot (response_text answer.Stored ++ more) (Ok answer.Stored)
+unfolding head_of_parts
+stored more = bare asked.AddSnapshot 200 (codes "OK") kinds.Stored more refl refl refl refl (omega arith) refl
+
+none_stored : (more : List ℕ) → IsResponseAnswer asked.Snapshot (response_text answer.UpToDate ++ more) (Ok answer.UpToDate)
+unfolding head_of_parts
+none_stored more = bare asked.Snapshot 404 (codes "Not Found") kinds.UpToDate more refl refl refl refl (omega arith) refl
 
 -- ---- the three with uuids
 
-abbrev added_pairs : List ℕ → Fields
-added_pairs id = (codes "Content-Length", decimal 0) ∷ (codes "X-Version-Id", uuid_text id) ∷ closing_pairs
+abbrev added_pairs : List ℕ → Fields → Fields
+added_pairs id ps = (codes "Content-Length", decimal 0) ∷ (codes "X-Version-Id", uuid_text id) ∷ ps
 
-added : (id more : List ℕ) → parsed_hyphenated (uuid_text id) ≡ Some id → IsResponseAnswer asked.Add (response_text (answer.Added id) ++ more) (Ok (answer.Added id))
-unfolding head_of_parts
-added id more ide =
-    let t1 = line (codes "X-Version-Id: " ++ uuid_text id) ++ closing_text in
-    let f1 = field (codes "X-Version-Id") (uuid_text id) ∷ closing in
-    let m1 = 12 + length (uuid_text id) + 4 + 30 in
+added_on : (id : List ℕ) (wanted : Bool) (fs : List Field) (t : List ℕ) (ps : Fields) (most : ℕ) (more : List ℕ) → parsed_hyphenated (uuid_text id) ≡ Some id
+    → IsSection fs t ps most → most ≤ 100 → length fs ≤ 10 → kind_in asked.Add 200 (added_pairs id ps) ≡ (uuid_field (codes "X-Version-Id") (added_pairs id ps) >>= λ x. Ok (kinds.Added x wanted))
+    → uuid_field (codes "X-Version-Id") (added_pairs id ps) ≡ Ok id → body_len true (added_pairs id ps) ≡ Ok 0
+    → IsResponseAnswer asked.Add (front_of 200 (codes "OK") (line (codes "Content-Length: " ++ decimal 0) ++ (line (codes "X-Version-Id: " ++ uuid_text id) ++ t)) ++ [] ++ more) (Ok (answer.Added id wanted))
+added_on id wanted fs t ps most more ide s few lines kind ue le =
+    let t1 = line (codes "X-Version-Id: " ++ uuid_text id) ++ t in
+    let f1 = field (codes "X-Version-Id") (uuid_text id) ∷ fs in
+    let m1 = 12 + length (uuid_text id) + 4 + most in
     let front = front_of 200 (codes "OK") (line (codes "Content-Length: " ++ decimal 0) ++ t1) in
     let short = short_decimal 0 (omega arith) in
     let long = uuid_long id in
-    subst (λ bytes. IsResponseAnswer asked.Add (bytes ++ more) (Ok (answer.Added id))) (sym (append-nil front))
-    (section_answer asked.Add 200 (codes "OK") (field (codes "Content-Length") (decimal 0) ∷ f1) (line (codes "Content-Length: " ++ decimal 0) ++ t1) (added_pairs id) (14 + length (decimal 0) + 4 + m1) more (Ok (answer.Added id)) refl refl refl refl (omega arith)
-    (length_on 0 f1 t1 ((codes "X-Version-Id", uuid_text id) ∷ closing_pairs) m1 (omega arith) (id_on id closing closing_text closing_pairs 30 closed)) (omega (arith, short, long)) (omega arith)
-    (after_is asked.Add 200 (added_pairs id) (kinds.Added id) [] more
-    (bind_ok (uuid_field (codes "X-Version-Id") (added_pairs id)) _ id (Ok (kinds.Added id)) (ap (λ o. or_err Header o) ide) refl)
-    (ap (λ o. or_err Length o) (length_reads 0 (omega arith))) (omega arith)))
+    subst (λ bytes. IsResponseAnswer asked.Add (bytes ++ more) (Ok (answer.Added id wanted))) (sym (append-nil front))
+    (section_answer asked.Add 200 (codes "OK") (field (codes "Content-Length") (decimal 0) ∷ f1) (line (codes "Content-Length: " ++ decimal 0) ++ t1) (added_pairs id ps) (14 + length (decimal 0) + 4 + m1) more (Ok (answer.Added id wanted)) refl refl refl refl (omega arith)
+    (length_on 0 f1 t1 ((codes "X-Version-Id", uuid_text id) ∷ ps) m1 (omega arith) (id_on id fs t ps most s)) (omega (arith, short, long, few)) (omega (arith, lines))
+    (after_is asked.Add 200 (added_pairs id ps) (kinds.Added id wanted) [] more
+    (kind ∙ bind_ok (uuid_field (codes "X-Version-Id") (added_pairs id ps)) _ id (Ok (kinds.Added id wanted)) ue refl) le (omega arith)))
+
+added : (id : List ℕ) (wanted : Bool) (more : List ℕ) → parsed_hyphenated (uuid_text id) ≡ Some id → IsResponseAnswer asked.Add (response_text (answer.Added id wanted) ++ more) (Ok (answer.Added id wanted))
+unfolding head_of_parts
+added id true more ide =
+    added_on id true (field (codes "X-Snapshot-Request") (codes "urgency=high") ∷ closing) (line (codes "X-Snapshot-Request: urgency=high") ++ closing_text) ((codes "X-Snapshot-Request", codes "urgency=high") ∷ closing_pairs) (18 + 12 + 4 + 30) more ide
+    (wanted_on closing closing_text closing_pairs 30 closed) (omega arith) (omega arith) refl (ap (or_err Header) ide) (ap (or_err Length) (length_reads 0 (omega arith)))
+added id false more ide =
+    added_on id false closing closing_text closing_pairs 30 more ide closed (omega arith) (omega arith) refl (ap (or_err Header) ide) (ap (or_err Length) (length_reads 0 (omega arith)))
 
 abbrev conflict_pairs : List ℕ → Fields
 conflict_pairs id = (codes "Content-Length", decimal 0) ∷ (codes "X-Parent-Version-Id", uuid_text id) ∷ closing_pairs
@@ -177,16 +171,45 @@ child id parent segment more ide pe few =
     let ps = child_pairs id parent d in
     subst (λ bytes. IsResponseAnswer asked.Child bytes r) (sym (append_assoc (front_of 200 (codes "OK") t4) segment more))
     (section_answer asked.Child 200 (codes "OK") f4 t4 ps (12 + length segment_type + 4 + m3) (segment ++ more) r refl refl refl refl (omega arith)
-    (type_on f3 t3 p3 m3 (length_on (length segment) f2 t2 p2 m2 few (id_on id f1 t1 p1 m1 (parent_on parent closing closing_text closing_pairs 30 closed)))) (omega (arith, short, long, long2)) (omega arith)
+    (type_on segment_type f3 t3 p3 m3 (visible segment_type refl) (length_on (length segment) f2 t2 p2 m2 few (id_on id f1 t1 p1 m1 (parent_on parent closing closing_text closing_pairs 30 closed)))) (omega (arith, short, long, long2)) (omega arith)
     (after_is asked.Child 200 ps (kinds.Child id parent) segment more
     (bind_ok (uuid_field (codes "X-Version-Id") ps) _ id (Ok (kinds.Child id parent)) (ap (λ o. or_err Header o) ide)
     (bind_ok (uuid_field (codes "X-Parent-Version-Id") ps) _ parent (Ok (kinds.Child id parent)) (ap (λ o. or_err Header o) pe) refl))
     (ap (λ o. or_err Length o) (length_reads (length segment) few)) few))
 
+abbrev snapshot_pairs : List ℕ → List ℕ → Fields
+snapshot_pairs version d = (codes "Content-Type", snapshot_type) ∷ (codes "Content-Length", d) ∷ (codes "X-Version-Id", uuid_text version) ∷ closing_pairs
+
+snapshot : (version body more : List ℕ) → parsed_hyphenated (uuid_text version) ≡ Some version → length body ≤ max_body
+    → IsResponseAnswer asked.Snapshot (response_text (answer.Snapshot version body) ++ more) (Ok (answer.Snapshot version body))
+unfolding head_of_parts
+snapshot version body more ve few =
+    let d = decimal (length body) in
+    let t2 = line (codes "X-Version-Id: " ++ uuid_text version) ++ closing_text in
+    let f2 = field (codes "X-Version-Id") (uuid_text version) ∷ closing in
+    let p2 : Fields = (codes "X-Version-Id", uuid_text version) ∷ closing_pairs in
+    let m2 = 12 + length (uuid_text version) + 4 + 30 in
+    let t3 = line (codes "Content-Length: " ++ d) ++ t2 in
+    let f3 = field (codes "Content-Length") d ∷ f2 in
+    let p3 : Fields = (codes "Content-Length", d) ∷ p2 in
+    let m3 = 14 + length d + 4 + m2 in
+    let t4 = line (codes "Content-Type: " ++ snapshot_type) ++ t3 in
+    let f4 = field (codes "Content-Type") snapshot_type ∷ f3 in
+    let r : Result Response HttpError = Ok (answer.Snapshot version body) in
+    let short = short_decimal (length body) few in
+    let long = uuid_long version in
+    let ps = snapshot_pairs version d in
+    subst (λ bytes. IsResponseAnswer asked.Snapshot bytes r) (sym (append_assoc (front_of 200 (codes "OK") t4) body more))
+    (section_answer asked.Snapshot 200 (codes "OK") f4 t4 ps (12 + length snapshot_type + 4 + m3) (body ++ more) r refl refl refl refl (omega arith)
+    (type_on snapshot_type f3 t3 p3 m3 (visible snapshot_type refl) (length_on (length body) f2 t2 p2 m2 few (id_on version closing closing_text closing_pairs 30 closed))) (omega (arith, short, long)) (omega arith)
+    (after_is asked.Snapshot 200 ps (kinds.Snapshot version) body more
+    (bind_ok (uuid_field (codes "X-Version-Id") ps) _ version (Ok (kinds.Snapshot version)) (ap (or_err Header) ve) refl)
+    (ap (or_err Length) (length_reads (length body) few)) few))
+
 -- what was written in answer to a request is read as it, whatever follows
-pub response_back : (what : Asked) (response : Response) (more : List ℕ) → IsReadBack (id_of response) → IsReadBack (parent_of response) → IsTrue (answers what response) → length (unwrap_or (segment_of response) []) ≤ max_body
+pub response_back : (what : Asked) (response : Response) (more : List ℕ) → IsReadBack (id_of response) → IsReadBack (parent_of response) → IsTrue (answers what response) → length (response_body response) ≤ max_body
     → IsResponseAnswer what (response_text response ++ more) (Ok response)
-response_back asked.Add (answer.Added id) more ide pe fits few = added id more ide
+response_back asked.Add (answer.Added id wanted) more ide pe fits few = added id wanted more ide
 response_back asked.Add (answer.Conflict latest) more ide pe fits few = conflict latest more pe
 response_back asked.Add (answer.Child id parent segment) more ide pe fits few = absurd (false≢true fits)
 response_back asked.Add answer.UpToDate more ide pe fits few = absurd (false≢true fits)
@@ -194,7 +217,9 @@ response_back asked.Add answer.Gone more ide pe fits few = absurd (false≢true 
 response_back asked.Add answer.Bad more ide pe fits few = bad asked.Add more
 response_back asked.Add answer.TooLong more ide pe fits few = too_long asked.Add more
 response_back asked.Add answer.Taken more ide pe fits few = taken asked.Add more
-response_back asked.Child (answer.Added id) more ide pe fits few = absurd (false≢true fits)
+response_back asked.Add answer.Stored more ide pe fits few = absurd (false≢true fits)
+response_back asked.Add (answer.Snapshot version bytes) more ide pe fits few = absurd (false≢true fits)
+response_back asked.Child (answer.Added id wanted) more ide pe fits few = absurd (false≢true fits)
 response_back asked.Child (answer.Conflict latest) more ide pe fits few = absurd (false≢true fits)
 response_back asked.Child (answer.Child id parent segment) more ide pe fits few = child id parent segment more ide pe few
 response_back asked.Child answer.UpToDate more ide pe fits few = up_to_date more
@@ -202,3 +227,25 @@ response_back asked.Child answer.Gone more ide pe fits few = gone more
 response_back asked.Child answer.Bad more ide pe fits few = bad asked.Child more
 response_back asked.Child answer.TooLong more ide pe fits few = too_long asked.Child more
 response_back asked.Child answer.Taken more ide pe fits few = taken asked.Child more
+response_back asked.Child answer.Stored more ide pe fits few = absurd (false≢true fits)
+response_back asked.Child (answer.Snapshot version bytes) more ide pe fits few = absurd (false≢true fits)
+response_back asked.AddSnapshot (answer.Added id wanted) more ide pe fits few = absurd (false≢true fits)
+response_back asked.AddSnapshot (answer.Conflict latest) more ide pe fits few = absurd (false≢true fits)
+response_back asked.AddSnapshot (answer.Child id parent segment) more ide pe fits few = absurd (false≢true fits)
+response_back asked.AddSnapshot answer.UpToDate more ide pe fits few = absurd (false≢true fits)
+response_back asked.AddSnapshot answer.Gone more ide pe fits few = absurd (false≢true fits)
+response_back asked.AddSnapshot answer.Bad more ide pe fits few = bad asked.AddSnapshot more
+response_back asked.AddSnapshot answer.TooLong more ide pe fits few = too_long asked.AddSnapshot more
+response_back asked.AddSnapshot answer.Taken more ide pe fits few = taken asked.AddSnapshot more
+response_back asked.AddSnapshot answer.Stored more ide pe fits few = stored more
+response_back asked.AddSnapshot (answer.Snapshot version bytes) more ide pe fits few = absurd (false≢true fits)
+response_back asked.Snapshot (answer.Added id wanted) more ide pe fits few = absurd (false≢true fits)
+response_back asked.Snapshot (answer.Conflict latest) more ide pe fits few = absurd (false≢true fits)
+response_back asked.Snapshot (answer.Child id parent segment) more ide pe fits few = absurd (false≢true fits)
+response_back asked.Snapshot answer.UpToDate more ide pe fits few = none_stored more
+response_back asked.Snapshot answer.Gone more ide pe fits few = absurd (false≢true fits)
+response_back asked.Snapshot answer.Bad more ide pe fits few = bad asked.Snapshot more
+response_back asked.Snapshot answer.TooLong more ide pe fits few = too_long asked.Snapshot more
+response_back asked.Snapshot answer.Taken more ide pe fits few = taken asked.Snapshot more
+response_back asked.Snapshot answer.Stored more ide pe fits few = absurd (false≢true fits)
+response_back asked.Snapshot (answer.Snapshot version bytes) more ide pe fits few = snapshot version bytes more ide few

@@ -1,14 +1,14 @@
 -- What a link means, and what an exchange does to it.
-use Rattle.std.specs.Prelude.{◌≡◌, ◌⊎◌, ℕ, ◌+◌, ◌-◌, ◌^◌, ◌≤◌, min, Bool, false, IsTrue, List, [], ◌∷◌, ◌++◌, Result, Ok, Err, OnOk, All, Contains}
+use Rattle.std.specs.Prelude.{◌≡◌, ◌⊎◌, ℕ, ◌+◌, ◌-◌, ◌^◌, ◌≤◌, min, Bool, true, false, IsTrue, IfSome, length, drop, List, [], ◌∷◌, ◌++◌, Result, Ok, Err, OnOk, All, Contains}
 use Rattle.uuid.specs.Parts.{zero_bytes}
-use Rattle.tw_protocol.specs.Chain.{Version, IsUuid, IsChain, Grows, same_id}
-use Rattle.tw_protocol.specs.Answer.{answer, answered}
+use Rattle.tw_protocol.specs.Chain.{Version, IsUuid, IsChain, Grows, same_id, has_id}
+use Rattle.tw_protocol.specs.Snapshots.{Account}
 use Rattle.tw_http.specs.declared.link.LinkError.{LinkError}
 use Rattle.tw_http.specs.declared.message.Request.{Request}
 use Rattle.tw_http.specs.declared.message.HttpError.{HttpError}
-use Rattle.tw_http.specs.Messages.{response_text}
+use Rattle.tw_http.specs.Messages.{response_text, max_body}
 use Rattle.tw_http.specs.Requests.{IsRequestAnswer}
-use Rattle.tw_http.specs.Serving.{client_of, ask_of, response_in, refusal_of, SegmentsFit}
+use Rattle.tw_http.specs.Serving.{client_of, account_after, response_to, refusal_of, SegmentsFit}
 
 -- a request and the reply to it
 pub record Exchange : Type 0 where
@@ -36,16 +36,17 @@ pub record LinkModel (L : Type 0) : Type 1 where
   -- is every reply the server's?
   pub honest : L → Bool
 
--- The server answers a request at a chain: others have added to it before, and may add more after what it adds.
+-- The server answers a request at an account: others have added to its chain before, may add more after what it adds, and may have stored any sound snapshot.
 pub record Serves (old new own own_now : List Version) (request : Request) (reply : List ℕ) : Type 0 where
-  pub at : List Version
+  pub at : Account
+  pub stored : IfSome at.stored (λ s. (has_id s.version at.chain ≡ true) × (length s.bytes ≤ max_body))
   pub id : List ℕ
   pub uuid : IsUuid id
   pub real : same_id id zero_bytes ≡ false
-  pub before : Grows old at
-  pub after : Grows (answered at (ask_of request) id) new
-  pub mine : own_now ≡ own ++ (answer at (ask_of request) id).0
-  pub says : reply ≡ response_text (response_in at request id)
+  pub before : Grows old at.chain
+  pub after : Grows (account_after at request id).chain new
+  pub mine : own_now ≡ own ++ drop (length at.chain) (account_after at request id).chain
+  pub says : reply ≡ response_text (response_to at request id)
 
 -- others may have added to the chain, and this link has not
 pub record OthersAdd (old new own own_now : List Version) : Type 0 where

@@ -72,7 +72,7 @@ fn first_field<'f, 'h>(
 }
 
 // The name of a field is the same in any case (RFC 9110, section 5.1).
-fn same_name(a: &[u8], b: &[u8]) -> bool
+pub(crate) fn same_name(a: &[u8], b: &[u8]) -> bool
     ensures { result ≡ same_name a.now b.now }
 {
     a.eq_ignore_ascii_case(b)

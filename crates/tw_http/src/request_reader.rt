@@ -1,13 +1,14 @@
 // Reads a request.
 ghost use Rattle.std.specs.Prelude.{◌≡◌, ◌++◌, ◌≤◌, length, map, take, drop, All, option_map, List, ℕ};
 ghost use Rattle.httparse.specs.Spans.{IsHeaderWithin, header_bytes};
-ghost use Rattle.tw_http.specs.Requests.{after_prefix, asked_of, is_type, type_of, request_after, IsRequestHeadAnswer, IsRequestAnswer};
+ghost use Rattle.tw_http.specs.Requests.{after_prefix, uuid_after, posted, fetched, asked_of, content_type, has_body, is_type, typed_as};
+ghost use Rattle.tw_http.specs.Requests.{request_made, request_after, IsRequestHeadAnswer, IsRequestAnswer};
 ghost use Rattle.tw_http.specs.Faults.{Unless, Decided};
 
 use crate::body::{body_len, body_of};
 use crate::fields::{only_value, read_uuid, uuid_field};
 use crate::head::{first_bytes, head_len, no_head};
-use crate::message::{Asked, HttpError, Request};
+use crate::message::{Bytes, HttpError, Request};
 use httparse::Status;
 use httparse::spans::{EMPTY_HEADER_SPAN, HeaderSpan, parse_request};
 use std::alloc::Global;
@@ -17,8 +18,8 @@ use uuid::Uuid;
 ///
 /// The refusals come in this order. `NotYet`: the head, or the body, is not all there. `TooLong`: no head
 /// ends within 16,384 bytes, or the body's length passes 16,777,216 bytes. `Head`: it is no head of HTTP/1.0
-/// or 1.1 with at most 64 header lines. `Path`: it is neither add-version nor get-child-version of a
-/// hyphenated uuid. `Header`: the client's id or the content type is missing, doubled or another.
+/// or 1.1 with at most 64 header lines. `Path`: it is neither add-version, get-child-version nor add-snapshot
+/// of a hyphenated uuid, nor snapshot. `Header`: the client's id or the content type is missing, doubled or another.
 /// `Length`: a transfer coding, or no length of 1 to 19 digits. `Status` never comes.
 /// An answer other than `NotYet` and `Memory` is the same whatever bytes follow.
 pub fn read_request(alloc: Global, bytes: &[u8]) -> Result<Request, HttpError>
@@ -74,36 +75,68 @@ fn request_after(
     requires { All (IsHeaderWithin (length front.now)) headers.now }
     ensures { Unless (λ r. r ≡ request_after method.now target.now (map (header_bytes front.now) headers.now) rest.now) result }
 {
-    let Some((asked, parent)) = asked_of(method, target) else {
+    let Some(asked) = asked_of(method, target) else {
         return Err(HttpError::Path);
     };
     let client = uuid_field(front, headers, b"X-Client-Id")?;
-    type_of(asked, front, headers)?;
-    let n = body_len(matches!(asked, Asked::Add), front, headers)?;
-    let segment = body_of(alloc, n, rest)?;
-    match asked {
-        Asked::Add => Ok(Request::Add {
-            client,
-            parent,
-            segment,
-        }),
-        Asked::Child => Ok(Request::Child { client, parent }),
-    }
+    typed_as(content_type(&asked), front, headers)?;
+    let n = body_len(has_body(&asked), front, headers)?;
+    let body = body_of(alloc, n, rest)?;
+    Ok(request_made(asked, client, body))
 }
 
-// What a method and a target ask, and the uuid in the target.
-fn asked_of(method: &[u8], target: &[u8]) -> Option<(Asked, Uuid)>
+// What a method and a target ask.
+#[derive(Clone, Copy)]
+enum Target {
+    Add { parent: Uuid },
+    Child { parent: Uuid },
+    Store { version: Uuid },
+    Fetch,
+}
+
+fn asked_of(method: &[u8], target: &[u8]) -> Option<Target>
     ensures { result ≡ asked_of method.now target.now }
 {
     if method == b"POST".as_slice() {
-        let uuid = read_uuid(after_prefix(target, b"/v1/client/add-version/")?)?;
-        return Some((Asked::Add, uuid));
+        return posted(target);
     }
     if method == b"GET".as_slice() {
-        let uuid = read_uuid(after_prefix(target, b"/v1/client/get-child-version/")?)?;
-        return Some((Asked::Child, uuid));
+        return fetched(target);
     }
     None
+}
+
+fn posted(target: &[u8]) -> Option<Target>
+    ensures { result ≡ posted target.now }
+{
+    match uuid_after(target, b"/v1/client/add-version/") {
+        Some(parent) => Some(Target::Add { parent }),
+        None => {
+            let version = uuid_after(target, b"/v1/client/add-snapshot/")?;
+            Some(Target::Store { version })
+        }
+    }
+}
+
+fn fetched(target: &[u8]) -> Option<Target>
+    ensures { result ≡ fetched target.now }
+{
+    match uuid_after(target, b"/v1/client/get-child-version/") {
+        Some(parent) => Some(Target::Child { parent }),
+        None => {
+            if target == b"/v1/client/snapshot".as_slice() {
+                Some(Target::Fetch)
+            } else {
+                None
+            }
+        }
+    }
+}
+
+fn uuid_after(target: &[u8], prefix: &[u8]) -> Option<Uuid>
+    ensures { result ≡ uuid_after prefix.now target.now }
+{
+    read_uuid(after_prefix(target, prefix)?)
 }
 
 fn after_prefix<'t>(text: &'t [u8], prefix: &[u8]) -> Option<&'t [u8]>
@@ -116,28 +149,70 @@ fn after_prefix<'t>(text: &'t [u8], prefix: &[u8]) -> Option<&'t [u8]>
     }
 }
 
-// An add-version has the one content type.
-fn type_of(asked: Asked, front: &[u8], headers: &[HeaderSpan]) -> Result<(), HttpError>
-    requires { All (IsHeaderWithin (length front.now)) headers.now }
-    ensures { result ≡ type_of asked (map (header_bytes front.now) headers.now) }
+// The type of the body of what is asked.
+fn content_type(asked: &Target) -> Option<&'static [u8]>
+    ensures { option_map (λ t. t.now) result ≡ content_type asked.now }
 {
     match asked {
-        Asked::Add => {
-            if is_type(only_value(front, headers, b"Content-Type")) {
+        Target::Add { .. } => Some(b"application/vnd.taskchampion.history-segment"),
+        Target::Child { .. } => None,
+        Target::Store { .. } => Some(b"application/vnd.taskchampion.snapshot"),
+        Target::Fetch => None,
+    }
+}
+
+fn has_body(asked: &Target) -> bool
+    ensures { result ≡ has_body asked.now }
+{
+    match asked {
+        Target::Add { .. } => true,
+        Target::Child { .. } => false,
+        Target::Store { .. } => true,
+        Target::Fetch => false,
+    }
+}
+
+// A request with a body has the one type.
+fn typed_as(needed: Option<&[u8]>, front: &[u8], headers: &[HeaderSpan]) -> Result<(), HttpError>
+    requires { All (IsHeaderWithin (length front.now)) headers.now }
+    ensures { result ≡ typed_as (option_map (λ t. t.now) needed.entry) (map (header_bytes front.now) headers.now) }
+{
+    match needed {
+        Some(needed) => {
+            if is_type(needed, only_value(front, headers, b"Content-Type")) {
                 Ok(())
             } else {
                 Err(HttpError::Header)
             }
         }
-        Asked::Child => Ok(()),
+        None => Ok(()),
     }
 }
 
-fn is_type(value: Option<&[u8]>) -> bool
-    ensures { result ≡ is_type (option_map (λ v. v.now) value.entry) }
+fn is_type(needed: &[u8], value: Option<&[u8]>) -> bool
+    ensures { result ≡ is_type needed.now (option_map (λ v. v.now) value.entry) }
 {
     match value {
-        Some(value) => value == b"application/vnd.taskchampion.history-segment".as_slice(),
+        Some(value) => value == needed,
         None => false,
+    }
+}
+
+fn request_made(asked: Target, client: Uuid, body: Bytes) -> Request
+    ensures { result ≡ request_made asked client body }
+{
+    match asked {
+        Target::Add { parent } => Request::Add {
+            client,
+            parent,
+            segment: body,
+        },
+        Target::Child { parent } => Request::Child { client, parent },
+        Target::Store { version } => Request::AddSnapshot {
+            client,
+            version,
+            snapshot: body,
+        },
+        Target::Fetch => Request::Snapshot { client },
     }
 }

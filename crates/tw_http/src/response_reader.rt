@@ -1,12 +1,12 @@
 // Reads a response.
 ghost use Rattle.std.specs.Prelude.{◌≡◌, ◌++◌, ◌≤◌, length, map, take, drop, All, List, ℕ};
 ghost use Rattle.httparse.specs.Spans.{IsHeaderWithin, header_bytes};
-ghost use Rattle.tw_http.specs.Responses.{refused, added_in, conflict_in, child_in, kind_in, response_made, response_after};
-ghost use Rattle.tw_http.specs.Responses.{IsResponseHeadAnswer, IsResponseAnswer};
+ghost use Rattle.tw_http.specs.Responses.{refused, is_urgent, urgent, wanted_in, added_in, conflict_in, child_in, snapshot_in, kind_in};
+ghost use Rattle.tw_http.specs.Responses.{response_made, response_after, IsResponseHeadAnswer, IsResponseAnswer};
 ghost use Rattle.tw_http.specs.Faults.{Unless, Decided};
 
 use crate::body::{body_len, body_of};
-use crate::fields::uuid_field;
+use crate::fields::{same_name, uuid_field};
 use crate::head::{first_bytes, head_len, no_head};
 use crate::message::{Asked, Bytes, HttpError, Response};
 use httparse::Status;
@@ -83,14 +83,14 @@ fn response_after(
 {
     let kind = kind_in(asked, status, front, headers)?;
     let n = body_len(true, front, headers)?;
-    let segment = body_of(alloc, n, rest)?;
-    Ok(response_made(kind, segment))
+    let body = body_of(alloc, n, rest)?;
+    Ok(response_made(kind, body))
 }
 
-// A response without its segment.
+// A response without its body.
 #[derive(Clone, Copy)]
 enum Kind {
-    Added { id: Uuid },
+    Added { id: Uuid, wanted: bool },
     Conflict { latest: Uuid },
     Child { id: Uuid, parent: Uuid },
     UpToDate,
@@ -98,6 +98,8 @@ enum Kind {
     Bad,
     TooLong,
     Taken,
+    Stored,
+    Snapshot { version: Uuid },
 }
 
 fn kind_in(
@@ -121,6 +123,15 @@ fn kind_in(
             410 => Ok(Kind::Gone),
             _ => refused(status),
         },
+        Asked::AddSnapshot => match status {
+            200 => Ok(Kind::Stored),
+            _ => refused(status),
+        },
+        Asked::Snapshot => match status {
+            200 => snapshot_in(front, headers),
+            404 => Ok(Kind::UpToDate),
+            _ => refused(status),
+        },
     }
 }
 
@@ -129,7 +140,32 @@ fn added_in(front: &[u8], headers: &[HeaderSpan]) -> Result<Kind, HttpError>
     ensures { result ≡ added_in (map (header_bytes front.now) headers.now) }
 {
     let id = uuid_field(front, headers, b"X-Version-Id")?;
-    Ok(Kind::Added { id })
+    let wanted = wanted_in(front, headers);
+    Ok(Kind::Added { id, wanted })
+}
+
+// Exactly one field asks for a snapshot.
+fn wanted_in(front: &[u8], headers: &[HeaderSpan]) -> bool
+    requires { All (IsHeaderWithin (length front.now)) headers.now }
+    ensures { result ≡ wanted_in (map (header_bytes front.now) headers.now) }
+{
+    let mut found: usize = 0;
+    let mut at = 0;
+    while at < headers.len() {
+        let header = headers[at];
+        if is_urgent(header.name.of(front), header.value.of(front)) {
+            found += 1;
+        }
+        at += 1;
+    }
+    found == 1
+}
+
+fn is_urgent(name: &[u8], value: &[u8]) -> bool
+    ensures { result ≡ is_urgent (name.now, value.now) }
+{
+    same_name(name, b"X-Snapshot-Request")
+        && (value == b"urgency=high".as_slice() || value == b"urgency=low".as_slice())
 }
 
 fn conflict_in(front: &[u8], headers: &[HeaderSpan]) -> Result<Kind, HttpError>
@@ -149,6 +185,14 @@ fn child_in(front: &[u8], headers: &[HeaderSpan]) -> Result<Kind, HttpError>
     Ok(Kind::Child { id, parent })
 }
 
+fn snapshot_in(front: &[u8], headers: &[HeaderSpan]) -> Result<Kind, HttpError>
+    requires { All (IsHeaderWithin (length front.now)) headers.now }
+    ensures { result ≡ snapshot_in (map (header_bytes front.now) headers.now) }
+{
+    let version = uuid_field(front, headers, b"X-Version-Id")?;
+    Ok(Kind::Snapshot { version })
+}
+
 // The statuses that any request may get.
 fn refused(status: u16) -> Result<Kind, HttpError>
     ensures { result ≡ refused status }
@@ -161,21 +205,26 @@ fn refused(status: u16) -> Result<Kind, HttpError>
     }
 }
 
-fn response_made(kind: Kind, segment: Bytes) -> Response
-    ensures { result ≡ response_made kind segment }
+fn response_made(kind: Kind, body: Bytes) -> Response
+    ensures { result ≡ response_made kind body }
 {
     match kind {
-        Kind::Added { id } => Response::Added { id },
+        Kind::Added { id, wanted } => Response::Added { id, wanted },
         Kind::Conflict { latest } => Response::Conflict { latest },
         Kind::Child { id, parent } => Response::Child {
             id,
             parent,
-            segment,
+            segment: body,
         },
         Kind::UpToDate => Response::UpToDate,
         Kind::Gone => Response::Gone,
         Kind::Bad => Response::Bad,
         Kind::TooLong => Response::TooLong,
         Kind::Taken => Response::Taken,
+        Kind::Stored => Response::Stored,
+        Kind::Snapshot { version } => Response::Snapshot {
+            version,
+            bytes: body,
+        },
     }
 }

@@ -1,7 +1,8 @@
 // Writes a response.
-ghost use Rattle.std.specs.Prelude.{◌≡◌, ◌++◌, [], IfOk, OnOk, option_map, unwrap_or};
+ghost use Rattle.std.specs.Prelude.{◌≡◌, ◌++◌, IfOk, OnOk, [], None, false, option_map, unwrap_or};
 ghost use Rattle.http.specs.StatusCode.{reason_phrase};
-ghost use Rattle.tw_http.specs.Messages.{status_line, type_line, uuid_line, text_of_parts, response_text, id_of, parent_of, IsReadBack};
+ghost use Rattle.tw_http.specs.Messages.{status_line, type_line, bytes_in, uuid_line, wanted_line, text_of_parts, response_text};
+ghost use Rattle.tw_http.specs.Messages.{id_of, parent_of, IsReadBack};
 ghost use Rattle.tw_http.specs.Responses.{IsReadAs};
 
 use crate::lines::{put, put_length_line, put_line, put_uuid_line};
@@ -11,10 +12,10 @@ use std::alloc::{AllocError, Global};
 use tw_world::Memory;
 use uuid::Uuid;
 
-/// Writes a response as HTTP/1.1 with its status, its length, its ids and its segment
+/// Writes a response as HTTP/1.1 with its status, its length, its ids and its body
 /// (TaskChampion book, "HTTP Representation"; RFC 9110, section 15, has the statuses).
 ///
-/// A segment of more than 16,777,216 bytes is written too, and no client reads it.
+/// A body of more than 16,777,216 bytes is written too, and no client reads it.
 pub fn write_response(alloc: Global, response: &Response) -> Result<Vec<u8>, Memory>
     ensures text { IfOk result (λ v. v.items ≡ response_text response.now) }
     ensures back { IfOk result (λ v. IsReadAs response.now v.items) }
@@ -27,49 +28,75 @@ fn parts(alloc: Global, response: &Response) -> Result<Vec<u8>, AllocError>
     ensures back { IfOk result (λ v. IsReadBack (id_of response.now) × IsReadBack (parent_of response.now)) }
 {
     match response {
-        Response::Added { id } => write_parts(alloc, StatusCode::OK, None, Some(*id), None),
+        Response::Added { id, wanted } => {
+            write_parts(alloc, StatusCode::OK, None, Some(*id), None, *wanted)
+        }
         Response::Conflict { latest } => {
-            write_parts(alloc, StatusCode::CONFLICT, None, None, Some(*latest))
+            write_parts(
+                alloc,
+                StatusCode::CONFLICT,
+                None,
+                None,
+                Some(*latest),
+                false,
+            )
         }
         Response::Child {
             id,
             parent,
             segment,
-        } => write_parts(
-            alloc,
-            StatusCode::OK,
-            Some(segment.as_slice()),
-            Some(*id),
-            Some(*parent),
-        ),
-        Response::UpToDate => write_parts(alloc, StatusCode::NOT_FOUND, None, None, None),
-        Response::Gone => write_parts(alloc, StatusCode::GONE, None, None, None),
-        Response::Bad => write_parts(alloc, StatusCode::BAD_REQUEST, None, None, None),
-        Response::TooLong => write_parts(alloc, StatusCode::PAYLOAD_TOO_LARGE, None, None, None),
-        Response::Taken => {
-            write_parts(alloc, StatusCode::INTERNAL_SERVER_ERROR, None, None, None)
+        } => {
+            let kind = "application/vnd.taskchampion.history-segment";
+            let content = Some((kind, segment.as_slice()));
+            write_parts(
+                alloc,
+                StatusCode::OK,
+                content,
+                Some(*id),
+                Some(*parent),
+                false,
+            )
+        }
+        Response::UpToDate => write_bare(alloc, StatusCode::NOT_FOUND),
+        Response::Gone => write_bare(alloc, StatusCode::GONE),
+        Response::Bad => write_bare(alloc, StatusCode::BAD_REQUEST),
+        Response::TooLong => write_bare(alloc, StatusCode::PAYLOAD_TOO_LARGE),
+        Response::Taken => write_bare(alloc, StatusCode::INTERNAL_SERVER_ERROR),
+        Response::Stored => write_bare(alloc, StatusCode::OK),
+        Response::Snapshot { version, bytes } => {
+            let kind = "application/vnd.taskchampion.snapshot";
+            let content = Some((kind, bytes.as_slice()));
+            write_parts(alloc, StatusCode::OK, content, Some(*version), None, false)
         }
     }
+}
+
+fn write_bare(alloc: Global, status: StatusCode) -> Result<Vec<u8>, AllocError>
+    ensures { IfOk result (λ v. v.items ≡ text_of_parts status None None None false) }
+{
+    write_parts(alloc, status, None, None, None, false)
 }
 
 #[tactic(auto, unfolding(crate::specs::Messages::head_of_parts))]
 fn write_parts(
     alloc: Global,
     status: StatusCode,
-    segment: Option<&[u8]>,
+    content: Option<(&str, &[u8])>,
     id: Option<Uuid>,
     parent: Option<Uuid>,
+    wanted: bool,
 ) -> Result<Vec<u8>, AllocError>
-    ensures text { IfOk result (λ v. v.items ≡ text_of_parts status (option_map (λ s. s.now) segment.entry) id parent) }
+    ensures text { IfOk result (λ v. v.items ≡ text_of_parts status (option_map (λ c. (c.0.now, c.1.now)) content.entry) id parent wanted) }
     ensures back { IfOk result (λ v. IsReadBack id × IsReadBack parent) }
 {
     let mut out = Vec::new(alloc);
     put_status_line(&mut out, status)?;
-    put_type_line(&mut out, segment)?;
-    let bytes = bytes_of(segment);
+    put_type_line(&mut out, content)?;
+    let bytes = bytes_in(content);
     put_length_line(alloc, &mut out, bytes.len())?;
     put_some_uuid(&mut out, "X-Version-Id: ", id)?;
     put_some_uuid(&mut out, "X-Parent-Version-Id: ", parent)?;
+    put_wanted_line(&mut out, wanted)?;
     put(&mut out, "Connection: close\r\n\r\n")?;
     out.extend_from_slice(bytes)?;
     Ok(out)
@@ -94,15 +121,11 @@ fn phrase(status: StatusCode) -> &'static str
     }
 }
 
-fn put_type_line(out: &mut Vec<u8>, segment: Option<&[u8]>) -> Result<(), AllocError>
-    ensures { OnOk result (out.new.items ≡ out.old.items ++ type_line (option_map (λ s. s.now) segment.entry)) }
+fn put_type_line(out: &mut Vec<u8>, content: Option<(&str, &[u8])>) -> Result<(), AllocError>
+    ensures { OnOk result (out.new.items ≡ out.old.items ++ type_line (option_map (λ c. (c.0.now, c.1.now)) content.entry)) }
 {
-    match segment {
-        Some(_) => put_line(
-            out,
-            "Content-Type: ",
-            "application/vnd.taskchampion.history-segment",
-        ),
+    match content {
+        Some((kind, _)) => put_line(out, "Content-Type: ", kind),
         None => Ok(()),
     }
 }
@@ -117,11 +140,21 @@ fn put_some_uuid(out: &mut Vec<u8>, name: &str, uuid: Option<Uuid>) -> Result<()
     }
 }
 
-fn bytes_of(segment: Option<&[u8]>) -> &[u8]
-    ensures { result.now ≡ unwrap_or (option_map (λ s. s.now) segment.entry) [] }
+fn put_wanted_line(out: &mut Vec<u8>, wanted: bool) -> Result<(), AllocError>
+    ensures { OnOk result (out.new.items ≡ out.old.items ++ wanted_line wanted) }
 {
-    match segment {
-        Some(segment) => segment,
+    if wanted {
+        put(out, "X-Snapshot-Request: urgency=high\r\n")
+    } else {
+        Ok(())
+    }
+}
+
+fn bytes_in<'c>(content: Option<(&str, &'c [u8])>) -> &'c [u8]
+    ensures { result.now ≡ bytes_in (option_map (λ c. (c.0.now, c.1.now)) content.entry) }
+{
+    match content {
+        Some((_, bytes)) => bytes,
         None => &[],
     }
 }

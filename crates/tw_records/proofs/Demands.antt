@@ -47,7 +47,7 @@ pub apart : (client other : List ℕ) (t : Bool) → same_id client other ≡ t 
 apart client other true e differs = absurd (differs (sym (same_id_exact client other e)))
 apart client other false e differs = e
 
-stored_from-push : (client : List ℕ) (before : Option Snapshot) (ts : List ClientSnapshot) (t : ClientSnapshot)
+pub stored_from-push : (client : List ℕ) (before : Option Snapshot) (ts : List ClientSnapshot) (t : ClientSnapshot)
     → stored_from client before (ts ++ t ∷ []) ≡ cond (same_id t.client client) (Some t.snapshot) (stored_from client before ts)
 stored_from-push client before [] t = refl
 stored_from-push client before (u ∷ ts) t = stored_from-push client (cond (same_id u.client client) (Some u.snapshot) before) ts t

@@ -35,7 +35,7 @@ and_some : (o : Option Reading) → option_and_then (λ r. Some r) o ≡ o
 and_some None = refl
 and_some (Some r) = refl
 
-read_push : (r : Reading) (xs : List (List ℕ)) (x : List ℕ) → read_from r (xs ++ x ∷ []) ≡ option_and_then (λ q. read_body q x) (read_from r xs)
+pub read_push : (r : Reading) (xs : List (List ℕ)) (x : List ℕ) → read_from r (xs ++ x ∷ []) ≡ option_and_then (λ q. read_body q x) (read_from r xs)
 read_push r [] x = and_some (read_body r x)
 read_push r (y ∷ ys) x = by (read_body r y) (λ q. read_push q ys x)
   where

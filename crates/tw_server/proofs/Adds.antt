@@ -1,33 +1,39 @@
--- What an add-version makes of the log.
-use Rattle.std.proofs.Common.{◌≡◌, ◌∙◌, ◌⊎◌, ℕ, ◌+◌, ◌/◌, ◌%◌, ◌^◌, ◌<◌, Bool, true, false, not, cond, if◌then◌else◌, List, [], ◌∷◌, ◌++◌, length, map, refl, sym, ap, subst, arith}
+-- What an add-version and an add-snapshot make of the log.
+use Rattle.std.proofs.Common.{◌≡◌, ◌∙◌, inl, inr, ℕ, ◌+◌, ◌/◌, ◌%◌, ◌^◌, ◌<◌, Bool, true, false, not, cond, if◌then◌else◌, Some, List, [], ◌∷◌, ◌++◌, length, map, refl, sym, ap, subst, arith}
 use Rattle.std.specs.Prelude.{slice_index, All}
-use Rattle.std.proofs.lemmas.List.{append-nil, map-append}
+use Rattle.std.specs.Ordering.{is_eq}
+use Rattle.std.proofs.lemmas.List.{append-nil}
 use Rattle.std.proofs.lemmas.List.Elements.{All-from_recursion, All-head, All-tail}
 use Rattle.uuid.specs.Parts.{zero_bytes}
 use Rattle.tw_world.specs.Disk.{DiskModel, LeavesOnly, Untouched}
+use Rattle.tw_world.proofs.Moments.{weaker}
 use Rattle.tw_server.proofs.Disks.{server_stays}
 use Rattle.tw_http.specs.declared.message.Response.{Response}
 use Rattle.tw_world.specs.Ids.{id_bytes}
 use Rattle.tw_world.specs.declared.ids.IdWords.{IdWords}
 use Rattle.tw_journal.specs.Journal.{IsOpenOn, RecordsOrMore}
-use Rattle.tw_journal.specs.Open.{Records}
 use Rattle.tw_protocol.specs.Chain.{Version, IsUuid, same_id, last_from, latest, has_id}
 use Rattle.tw_protocol.specs.Answer.{Finding, accepts, answer, version}
 use Rattle.tw_protocol.specs.Answer.Ask.{Add as Ask_add}
 use Rattle.tw_protocol.specs.Answer.Finding.{Added, Conflict, Taken}
+use Rattle.tw_protocol.specs.Snapshots.{Account, Reply, Of, Stored, Refused, is_welcome, is_wanted}
 use Rattle.tw_protocol.proofs.Chains.{same_id_exact}
-use Rattle.tw_http.specs.declared.message.Request.TheVariants.{Add, Child}
+use Rattle.tw_http.specs.declared.message.Request.TheVariants.{Add, Child, AddSnapshot, Snapshot}
 use Rattle.tw_http.specs.declared.message.Response.TheVariants as responses
 use Rattle.tw_http.specs.Serving.{response_of}
-use Rattle.tw_records.specs.Log.{Accepted, HasUuids, chain_of, accepted_for}
-use Rattle.tw_records.specs.Bodies.{body_of, entry_of}
-use Rattle.tw_server.specs.Log.{bodies_of, added, response_at}
-use Rattle.tw_server.specs.Server.{magic, drawn_id, IsServerOn, IsAnswer, LogOrMore}
-use Rattle.tw_server.specs.Versions.{has_that_id}
+use Rattle.tw_records.specs.Log.{ClientSnapshot, Log, HasUuids, IsSound, chain_of, account_of, accepted_for}
+use Rattle.tw_records.specs.Bodies.{body_of, entry_of, snapshot_body}
+use Rattle.tw_records.specs.Reading.{StandFor}
+use Rattle.tw_records.proofs.Demands.{answered_stands, snapshot_again, snapshot_follows}
+use Rattle.tw_records.proofs.Standing.{snapshot_stands_after}
+use Rattle.tw_server.specs.Log.{log_after, response_at}
+use Rattle.tw_server.specs.Server.{magic, drawn_id, IsServerOn, IsAnswer, LogOrAfter}
+use Rattle.tw_server.specs.Versions.{image_at, uuid_cmp}
 use Rattle.tw_server.specs.declared.server.Server.{Server}
-use Rattle.tw_server.proofs.Logs.{sound-push, list_any-id}
-use Rattle.tw_records.specs.declared.entry.Entry.{Entry}
-use Rattle.std.specs.List.{list_any}
+use Rattle.tw_server.proofs.Logs.{sound-push}
+use Rattle.tw_server.proofs.LogLaws.{told, own_account_is_answered}
+use Rattle.tw_server.proofs.Accounts.{accounts_version, accounts_image, welcome_there}
+use Rattle.tw_server.proofs.Knowing.{with_accepted, with_stored, AreKept, last_body, version_places, image_places, known_long, client_long}
 
 -- ---- a drawn id
 
@@ -80,90 +86,229 @@ not_other true e = refl
 not_other false e = let no : ⊥ = cc in absurd no
 
 -- whether the client has a version of the drawn id
-pub id_is_there : (client id : List ℕ) (start : ℕ) (log : List Accepted) (entries : List Entry) (b : Bool) → entries ≡ map entry_of log → id ≡ drawn_id start → b ≡ list_any (has_that_id client id) entries → has_id (drawn_id start) (chain_of client log) ≡ b
-id_is_there client id start log entries b same is e =
-    ap (λ x. has_id x (chain_of client log)) (sym is) ∙ sym (list_any-id client id log) ∙ ap (list_any (has_that_id client id)) (sym same) ∙ sym e
+pub id_is_there : (client id : List ℕ) (start : ℕ) (log : Log) (b : Bool) → id ≡ drawn_id start → b ≡ has_id id (chain_of client log.versions) → has_id (drawn_id start) (chain_of client log.versions) ≡ b
+id_is_there client id start log b is e = ap (λ x. has_id x (chain_of client log.versions)) (sym is) ∙ sym e
+
+module _ (client parent segment : List ℕ) (log : Log) where
+  -- the log after an add-version that is answered so
+  abbrev after : List Version × Finding → Log
+  after x = record { versions = log.versions ++ map (accepted_for client) x.0; snapshots = log.snapshots ++ [] }
+
+  same_after : (x : List Version × Finding) (t : Finding) → x ≡ ([], t) → after x ≡ log
+  same_after x t is = ap after is ∙ (λ i. record { versions = append-nil log.versions i; snapshots = append-nil log.snapshots i })
+
+  -- nothing is added
+  pub nothing_added : (id : List ℕ) (t : Finding) → answer (chain_of client log.versions) (Ask_add parent segment) id ≡ ([], t) → log_after log (Add client parent segment) id ≡ log
+  nothing_added id t is = same_after (answer (chain_of client log.versions) (Ask_add parent segment) id) t is
+
+  -- what an accepted version adds
+  pub adds_one : (id last : List ℕ) → last ≡ latest (chain_of client log.versions) → same_id last parent ≡ true → has_id id (chain_of client log.versions) ≡ false
+      → answer (chain_of client log.versions) (Ask_add parent segment) id ≡ (version id parent segment ∷ [], Added id)
+  adds_one id last is same fresh = answer_is true false (chain_of client log.versions) parent segment id (ap (λ x. same_id x parent) (sym is) ∙ same) fresh
+
+  pub one_added : (id last : List ℕ) → last ≡ latest (chain_of client log.versions) → same_id last parent ≡ true → has_id id (chain_of client log.versions) ≡ false
+      → log_after log (Add client parent segment) id ≡ with_accepted log (accepted_for client (version id parent segment))
+  one_added id last is same fresh =
+      ap after (adds_one id last is same fresh)
+      ∙ (λ i. record { versions = log.versions ++ accepted_for client (version id parent segment) ∷ []; snapshots = append-nil log.snapshots i })
+
+  pub drawn_after : (t : Bool) (start step : ℕ) → accepts (chain_of client log.versions) parent ≡ t
+      → (if t then (start + step) % 2 ^ 128 else start) ≡ (if accepts (chain_of client log.versions) parent then (start + step) % 2 ^ 128 else start)
+  drawn_after t start step at = ap (λ b. if b then (start + step) % 2 ^ 128 else start) (sym at)
+
+  accepted_if : (last : List ℕ) (t : Bool) → last ≡ latest (chain_of client log.versions) → same_id last parent ≡ t → accepts (chain_of client log.versions) parent ≡ t
+  accepted_if last t is same = ap (λ x. same_id x parent) (sym is) ∙ same
+
+  pub added_says : (drawn id last : List ℕ) (wanted : Bool) → id ≡ drawn → last ≡ latest (chain_of client log.versions) → same_id last parent ≡ true → has_id drawn (chain_of client log.versions) ≡ false
+      → wanted ≡ is_wanted (account_of client (log_after log (Add client parent segment) drawn)) → responses.Added id wanted ≡ response_at log (Add client parent segment) drawn
+  added_says drawn id last wanted named is same fresh wants =
+      let one = adds_one drawn last is same fresh in
+      let wants_now = wants ∙ ap is_wanted (own_account_is_answered log (Add client parent segment) drawn)
+      ∙ ap (λ (x : List Version × Finding). is_wanted (record { chain = chain_of client log.versions ++ x.0; stored = (account_of client log).stored })) one in
+      (λ i. responses.Added (named i) (wants_now i)) ∙ sym (ap (told log client) one)
+
+  -- the records with the new one stand for the new log
+  pub version_stands : (bodies : List (List ℕ)) (id last : List ℕ) → StandFor bodies log → IsSound log.versions → length client ≡ 16 → IsUuid id → same_id id zero_bytes ≡ false
+      → last ≡ latest (chain_of client log.versions) → same_id last parent ≡ true → has_id id (chain_of client log.versions) ≡ false
+      → StandFor (bodies ++ body_of (accepted_for client (version id parent segment)) ∷ []) (log_after log (Add client parent segment) id)
+  version_stands bodies id last stands sound long uuid real is same fresh =
+      let chain = chain_of client log.versions in
+      let behind : parent ≡ latest chain = sym (same_id_exact (latest chain) parent (accepted_if last true is same)) in
+      let fits = (subst IsUuid (sym behind) (last_uuid zero_bytes chain nil_uuid (sound.chains client).uuids)).long in
+      let more = ap (λ (x : List Version × Finding). map body_of (map (accepted_for client) x.0) ++ []) (adds_one id last is same fresh) in
+      subst (λ bs. StandFor (bodies ++ bs) (log_after log (Add client parent segment) id)) more
+      (answered_stands bodies log client (Of (Ask_add parent segment)) id stands long uuid.long real fits)
 
 module _ {D : Type 0} (m : DiskModel D) (client parent segment : List ℕ) where
-  -- nothing is added
-  unchanged : (server : Server) (disk : D) (log : List Accepted) (id : List ℕ) (t : Finding) → answer (chain_of client log) (Ask_add parent segment) id ≡ ([], t) → IsServerOn m server disk log
-      → IsServerOn m server disk (log ++ added log (Add client parent segment) id)
-  unchanged server disk log id t is on = subst (IsServerOn m server disk) (sym (ap (λ x. log ++ map (accepted_for client) x.0) is ∙ append-nil log)) on
+  unchanged : (server : Server) (disk : D) (log : Log) (id : List ℕ) (t : Finding) → answer (chain_of client log.versions) (Ask_add parent segment) id ≡ ([], t) → IsServerOn m server disk log
+      → IsServerOn m server disk (log_after log (Add client parent segment) id)
+  unchanged server disk log id t is on = subst (IsServerOn m server disk) (sym (nothing_added client parent segment log id t is)) on
 
-  pub conflict_answer : (server : Server) (disk : D) (log : List Accepted) (old : IdWords) (last : List ℕ) → IsServerOn m server disk log → last ≡ latest (chain_of client log) → same_id last parent ≡ false
+  pub conflict_answer : (server : Server) (disk : D) (log : Log) (old : IdWords) (last : List ℕ) → IsServerOn m server disk log → last ≡ latest (chain_of client log.versions) → same_id last parent ≡ false
       → IsAnswer m server disk log (Add client parent segment) old old (responses.Conflict last)
   conflict_answer server disk log old last on is other =
-      let chain = chain_of client log in
+      let chain = chain_of client log.versions in
       let at : accepts chain parent ≡ false = ap (λ x. same_id x parent) (sym is) ∙ other in
       let answered = conflicts chain parent segment (drawn_id old.start) at in
       record {
-        says = ap (λ x. responses.Conflict x) is ∙ sym (ap (λ x. response_of x.1) answered);
+        says = ap (λ x. responses.Conflict x) is ∙ sym (ap (told log client) answered);
         holds = unchanged server disk log (drawn_id old.start) (Conflict (latest chain)) answered on;
-        drawn = record { start = sym (ap (λ t. if t then (old.start + old.step) % 2 ^ 128 else old.start) at); step = refl };
+        drawn = record { start = drawn_after client parent segment log false old.start old.step at; step = refl };
       }
 
-  pub taken_answer : (server : Server) (disk : D) (log : List Accepted) (old new : IdWords) (last : List ℕ) → IsServerOn m server disk log → last ≡ latest (chain_of client log) → same_id last parent ≡ true
-      → has_id (drawn_id old.start) (chain_of client log) ≡ true → new.start ≡ (old.start + old.step) % 2 ^ 128 → new.step ≡ old.step → IsAnswer m server disk log (Add client parent segment) old new responses.Taken
+  pub taken_answer : (server : Server) (disk : D) (log : Log) (old new : IdWords) (last : List ℕ) → IsServerOn m server disk log → last ≡ latest (chain_of client log.versions) → same_id last parent ≡ true
+      → has_id (drawn_id old.start) (chain_of client log.versions) ≡ true → new.start ≡ (old.start + old.step) % 2 ^ 128 → new.step ≡ old.step → IsAnswer m server disk log (Add client parent segment) old new responses.Taken
   taken_answer server disk log old new last on is same there start step =
-      let chain = chain_of client log in
+      let chain = chain_of client log.versions in
       let at : accepts chain parent ≡ true = ap (λ x. same_id x parent) (sym is) ∙ same in
       let answered = answer_is true true chain parent segment (drawn_id old.start) at there in
       record {
-        says = sym (ap (λ x. response_of x.1) answered);
+        says = sym (ap (told log client) answered);
         holds = unchanged server disk log (drawn_id old.start) Taken answered on;
-        drawn = record { start = start ∙ sym (ap (λ t. if t then (old.start + old.step) % 2 ^ 128 else old.start) at); step = step };
+        drawn = record { start = start ∙ drawn_after client parent segment log true old.start old.step at; step = step };
       }
 
-  -- what an accepted version adds
-  pub adds_one : (log : List Accepted) (id last : List ℕ) → last ≡ latest (chain_of client log) → same_id last parent ≡ true → has_id id (chain_of client log) ≡ false
-      → answer (chain_of client log) (Ask_add parent segment) id ≡ (version id parent segment ∷ [], Added id)
-  adds_one log id last is same fresh = answer_is true false (chain_of client log) parent segment id (ap (λ x. same_id x parent) (sym is) ∙ same) fresh
-
-  pub added_answer : (before server : Server) (first disk : D) (log : List Accepted) (old new : IdWords) (last : List ℕ) → IsServerOn m before first log → length client ≡ 16 → last ≡ latest (chain_of client log) → same_id last parent ≡ true
-      → has_id (drawn_id old.start) (chain_of client log) ≡ false → IsUuid (drawn_id old.start) → same_id (drawn_id old.start) zero_bytes ≡ false → new.start ≡ (old.start + old.step) % 2 ^ 128 → new.step ≡ old.step
-      → IsOpenOn m magic server.journal disk (bodies_of log ++ body_of (accepted_for client (version (drawn_id old.start) parent segment)) ∷ [])
-      → server.versions.entries.items ≡ map entry_of log ++ entry_of (accepted_for client (version (drawn_id old.start) parent segment)) ∷ []
-      → IsAnswer m server disk log (Add client parent segment) old new (responses.Added (drawn_id old.start))
-  added_answer before server first disk log old new last on long is same fresh uuid real start step open_on entries =
-      let chain = chain_of client log in
-      let id = drawn_id old.start in
-      let v = version id parent segment in
-      let a = accepted_for client v in
-      let at : accepts chain parent ≡ true = ap (λ x. same_id x parent) (sym is) ∙ same in
-      let behind : parent ≡ latest chain = sym (same_id_exact (latest chain) parent at) in
-      let answered = adds_one log id last is same fresh in
-      let whole = on.sound.chains client in
+  -- the server after the record of a version
+  pub version_on : (before server : Server) (first disk : D) (log : Log) (id last : List ℕ) (n : ℕ) (on : IsServerOn m before first log) → length client ≡ 16 → IsUuid id → same_id id zero_bytes ≡ false
+      → last ≡ latest (chain_of client log.versions) → same_id last parent ≡ true → has_id id (chain_of client log.versions) ≡ false
+      → IsOpenOn m magic server.journal disk (on.bodies ++ body_of (accepted_for client (version id parent segment)) ∷ [])
+      → n ≡ length on.bodies → AreKept before on.bodies (on.bodies ++ body_of (accepted_for client (version id parent segment)) ∷ [])
+      → server.versions.entries.items ≡ before.versions.entries.items ++ entry_of (accepted_for client (version id parent segment)) ∷ []
+      → server.versions.numbers.items ≡ before.versions.numbers.items ++ n ∷ [] → ((c : List ℕ) → image_at server.images c ≡ image_at before.images c)
+      → IsServerOn m server disk (log_after log (Add client parent segment) id)
+  version_on before server first disk log id last n on long uuid real is same fresh open_on at kept entries numbers images =
+      let chain = chain_of client log.versions in
+      let a = accepted_for client (version id parent segment) in
+      let behind : parent ≡ latest chain = sym (same_id_exact (latest chain) parent (ap (λ x. same_id x parent) (sym is) ∙ same)) in
+      let whole = on.places.sound.chains client in
       let known : HasUuids a = record { client = long; id = uuid; parent = subst IsUuid (sym behind) (last_uuid zero_bytes chain nil_uuid whole.uuids) } in
-      let holds : IsServerOn m server disk (log ++ a ∷ []) = record {
-        journal = subst (IsOpenOn m magic server.journal disk) (sym (map-append body_of log (a ∷ []))) open_on;
-        entries = entries ∙ sym (map-append entry_of log (a ∷ []));
-        sound = sound-push log client v on.sound known behind fresh real;
+      let sound = sound-push log.versions client (version id parent segment) on.places.sound known behind fresh real in
+      let becomes = one_added client parent segment log id last is same fresh in
+      let more = on.bodies ++ body_of a ∷ [] in
+      let accounts = accounts_version log a sound on.places.accounts in
+      let stands = subst (StandFor more) becomes (version_stands client parent segment log on.bodies id last on.stands on.places.sound long uuid real is same fresh) in
+      let there : IsServerOn m server disk (with_accepted log a) = record {
+        bodies = more;
+        journal = open_on;
+        stands = stands;
+        places = version_places before server on.bodies more log on.places kept n a entries numbers images (last_body on.bodies (body_of a) n at) sound accounts;
       } in
-      record {
-        says = sym (ap (λ x. response_of x.1) answered);
-        holds = subst (IsServerOn m server disk) (sym (ap (λ x. log ++ map (accepted_for client) x.0) answered)) holds;
-        drawn = record { start = start ∙ sym (ap (λ t. if t then (old.start + old.step) % 2 ^ 128 else old.start) at); step = step };
-      }
+      subst (IsServerOn m server disk) (sym becomes) there
 
-  -- the id that was drawn, by another name
-  pub added_as : (server : Server) (disk : D) (log : List Accepted) (old new : IdWords) (id : List ℕ) → id ≡ drawn_id old.start → IsAnswer m server disk log (Add client parent segment) old new (responses.Added (drawn_id old.start))
-      → IsAnswer m server disk log (Add client parent segment) old new (responses.Added id)
-  added_as server disk log old new id is ans = subst (λ x. IsAnswer m server disk log (Add client parent segment) old new (responses.Added x)) (sym is) ans
+  pub added_answer : (server : Server) (disk : D) (log : Log) (old new : IdWords) (id last : List ℕ) (wanted : Bool) → id ≡ drawn_id old.start → last ≡ latest (chain_of client log.versions) → same_id last parent ≡ true
+      → has_id (drawn_id old.start) (chain_of client log.versions) ≡ false → new.start ≡ (old.start + old.step) % 2 ^ 128 → new.step ≡ old.step
+      → wanted ≡ is_wanted (account_of client (log_after log (Add client parent segment) (drawn_id old.start)))
+      → IsServerOn m server disk (log_after log (Add client parent segment) (drawn_id old.start)) → IsAnswer m server disk log (Add client parent segment) old new (responses.Added id wanted)
+  added_answer server disk log old new id last wanted drawn is same fresh start step wants on =
+      let chain = chain_of client log.versions in
+      let at : accepts chain parent ≡ true = ap (λ x. same_id x parent) (sym is) ∙ same in
+      record {
+        says = added_says client parent segment log (drawn_id old.start) id last wanted drawn is same fresh wants;
+        holds = on;
+        drawn = record { start = start ∙ drawn_after client parent segment log true old.start old.step at; step = step };
+      }
 
   -- a crash leaves the log, or it and the new version
-  pub added_moments : (first disk : D) (log : List Accepted) (id last body : List ℕ) → last ≡ latest (chain_of client log) → same_id last parent ≡ true → has_id id (chain_of client log) ≡ false
-      → body ≡ body_of (accepted_for client (version id parent segment)) → LeavesOnly m first disk (RecordsOrMore magic (bodies_of log) body) → LeavesOnly m first disk (LogOrMore log (added log (Add client parent segment) id))
-  added_moments first disk log id last body is same fresh body_is run =
+  pub added_moments : (first disk : D) (server : Server) (log : Log) (id last : List ℕ) (on : IsServerOn m server first log) → length client ≡ 16 → IsUuid id → same_id id zero_bytes ≡ false
+      → last ≡ latest (chain_of client log.versions) → same_id last parent ≡ true → has_id id (chain_of client log.versions) ≡ false
+      → LeavesOnly m first disk (RecordsOrMore magic on.bodies (body_of (accepted_for client (version id parent segment)))) → LeavesOnly m first disk (LogOrAfter log (log_after log (Add client parent segment) id))
+  added_moments first disk server log id last on long uuid real is same fresh run =
       let a = accepted_for client (version id parent segment) in
-      let more : added log (Add client parent segment) id ≡ a ∷ [] = ap (λ x. map (accepted_for client) x.0) (adds_one log id last is same fresh) in
-      let bodies : bodies_of log ++ body ∷ [] ≡ bodies_of (log ++ added log (Add client parent segment) id) = ap (λ b. bodies_of log ++ b ∷ []) body_is ∙ sym (map-append body_of log (a ∷ [])) ∙ ap (λ x. bodies_of (log ++ x)) (sym more) in
-      subst (λ bs. LeavesOnly m first disk (λ c. Records magic c (bodies_of log) ⊎ Records magic c bs)) bodies run
+      let stands = version_stands client parent segment log on.bodies id last on.stands on.places.sound long uuid real is same fresh in
+      weaker m first disk (RecordsOrMore magic on.bodies (body_of a)) (LogOrAfter log (log_after log (Add client parent segment) id)) run (λ c left. elim left [
+        | inl old ↦ inl (on.bodies, old, on.stands)
+        | inr new ↦ inr (on.bodies ++ body_of a ∷ [], new, stands)
+      ])
 
-  -- a get-child-version adds nothing
-  pub child_answer : (server : Server) (old new : D) (log : List Accepted) (ids : IdWords) (response : Response) → IsServerOn m server old log → Untouched m old new → response ≡ response_at log (Child client parent) (drawn_id ids.start)
-      → IsAnswer m server new log (Child client parent) ids ids response
-  child_answer server old new log ids response on same says = record {
-    says = says;
-    holds = subst (IsServerOn m server new) (sym (append-nil log)) (server_stays m server old new log same on);
+-- ---- a request that only reads
+
+-- it leaves the log
+pub reads_only : (log : Log) → record { versions = log.versions ++ []; snapshots = log.snapshots ++ [] } ≡ log
+reads_only log = λ i. record { versions = append-nil log.versions i; snapshots = append-nil log.snapshots i }
+
+pub child_answer : {D : Type 0} (m : DiskModel D) (client parent : List ℕ) (server : Server) (old new : D) (log : Log) (ids : IdWords) (response : Response) → IsServerOn m server old log → Untouched m old new
+    → response ≡ response_at log (Child client parent) (drawn_id ids.start) → IsAnswer m server new log (Child client parent) ids ids response
+child_answer m client parent server old new log ids response on same says = record {
+  says = says;
+  holds = subst (IsServerOn m server new) (sym (reads_only log)) (server_stays m server old new log same on);
+  drawn = record { start = refl; step = refl };
+}
+
+pub fetch_answer : {D : Type 0} (m : DiskModel D) (client : List ℕ) (server : Server) (old new : D) (log : Log) (ids : IdWords) (response : Response) → IsServerOn m server old log → Untouched m old new
+    → response ≡ response_at log (Snapshot client) (drawn_id ids.start) → IsAnswer m server new log (Snapshot client) ids ids response
+fetch_answer m client server old new log ids response on same says = record {
+  says = says;
+  holds = subst (IsServerOn m server new) (sym (reads_only log)) (server_stays m server old new log same on);
+  drawn = record { start = refl; step = refl };
+}
+
+-- ---- an add-snapshot
+
+module _ (client v bytes : List ℕ) (log : Log) where
+  abbrev pub snapshot : ClientSnapshot
+  snapshot = record { client = client; snapshot = record { version = v; bytes = bytes } }
+
+  abbrev stored_after : Bool → Log
+  stored_after t = record { versions = log.versions ++ []; snapshots = log.snapshots ++ cond t (snapshot ∷ []) [] }
+
+  abbrev pub told_store : Bool → Response
+  told_store t = response_of (cond {A = Account × Reply} t (record { chain = chain_of client log.versions; stored = Some (record { version = v; bytes = bytes }) }, Stored) (account_of client log, Refused)).1
+
+  pub not_stored : is_welcome (account_of client log) v ≡ false → (id : List ℕ) → log_after log (AddSnapshot client v bytes) id ≡ log
+  not_stored not id = ap stored_after not ∙ reads_only log
+
+  pub one_stored : is_welcome (account_of client log) v ≡ true → (id : List ℕ) → log_after log (AddSnapshot client v bytes) id ≡ with_stored log snapshot
+  one_stored welcome id = ap stored_after welcome ∙ (λ i. record { versions = append-nil log.versions i; snapshots = log.snapshots ++ snapshot ∷ [] })
+
+  -- a snapshot that is welcome is of a version of the client, so that its uuids have sixteen bytes
+  pub welcome_long : IsSound log.versions → is_welcome (account_of client log) v ≡ true → (length client ≡ 16) × (length v ≡ 16)
+  welcome_long sound welcome =
+      let there = welcome_there (account_of client log).stored v (chain_of client log.versions) welcome in
+      (client_long client v log.versions sound.uuids there, known_long v (chain_of client log.versions) (sound.chains client).uuids there)
+
+  pub snapshot_stands : (bodies : List (List ℕ)) → StandFor bodies log → IsSound log.versions → is_welcome (account_of client log) v ≡ true → StandFor (bodies ++ snapshot_body snapshot ∷ []) (with_stored log snapshot)
+  snapshot_stands bodies stands sound welcome =
+      let long = welcome_long sound welcome in
+      subst (StandFor (bodies ++ snapshot_body snapshot ∷ [])) (λ i. with_stored log (snapshot_again snapshot long.0 long.1 i))
+      (snapshot_stands_after bodies log (snapshot_body snapshot) stands (snapshot_follows snapshot long.0 long.1 log welcome))
+
+module _ {D : Type 0} (m : DiskModel D) (client v bytes : List ℕ) where
+  pub bad_answer : (server : Server) (disk : D) (log : Log) (ids : IdWords) → IsServerOn m server disk log → is_welcome (account_of client log) v ≡ false → IsAnswer m server disk log (AddSnapshot client v bytes) ids ids responses.Bad
+  bad_answer server disk log ids on not = record {
+    says = sym (ap (told_store client v bytes log) not);
+    holds = subst (IsServerOn m server disk) (sym (not_stored client v bytes log not (drawn_id ids.start))) on;
     drawn = record { start = refl; step = refl };
   }
+
+  -- the server after the record of a snapshot
+  pub store_answer : (before server : Server) (first disk : D) (log : Log) (ids : IdWords) (n : ℕ) (on : IsServerOn m before first log) → is_welcome (account_of client log) v ≡ true
+      → IsOpenOn m magic server.journal disk (on.bodies ++ snapshot_body (snapshot client v bytes log) ∷ [])
+      → n ≡ length on.bodies → AreKept before on.bodies (on.bodies ++ snapshot_body (snapshot client v bytes log) ∷ [])
+      → server.versions.entries.items ≡ before.versions.entries.items → server.versions.numbers.items ≡ before.versions.numbers.items
+      → ((c : List ℕ) → image_at server.images c ≡ cond (is_eq (uuid_cmp client c)) (Some (record { version = v; number = n })) (image_at before.images c))
+      → IsAnswer m server disk log (AddSnapshot client v bytes) ids ids responses.Stored
+  store_answer before server first disk log ids n on welcome open_on at kept entries numbers images =
+      let t = snapshot client v bytes log in
+      let more = on.bodies ++ snapshot_body t ∷ [] in
+      let there : IsServerOn m server disk (with_stored log t) = record {
+        bodies = more;
+        journal = open_on;
+        stands = snapshot_stands client v bytes log on.bodies on.stands on.places.sound welcome;
+        places = image_places before server on.bodies more log on.places kept n t entries numbers images (last_body on.bodies (snapshot_body t) n at) (accounts_image log t welcome on.places.accounts);
+      } in
+      record {
+        says = sym (ap (told_store client v bytes log) welcome);
+        holds = subst (IsServerOn m server disk) (sym (one_stored client v bytes log welcome (drawn_id ids.start))) there;
+        drawn = record { start = refl; step = refl };
+      }
+
+  -- a crash leaves the log, or it and the new snapshot
+  pub stored_moments : (server : Server) (first disk : D) (log : Log) (id : List ℕ) (on : IsServerOn m server first log) → is_welcome (account_of client log) v ≡ true
+      → LeavesOnly m first disk (RecordsOrMore magic on.bodies (snapshot_body (snapshot client v bytes log))) → LeavesOnly m first disk (LogOrAfter log (log_after log (AddSnapshot client v bytes) id))
+  stored_moments server first disk log id on welcome run =
+      let t = snapshot client v bytes log in
+      let stands = subst (StandFor (on.bodies ++ snapshot_body t ∷ [])) (sym (one_stored client v bytes log welcome id)) (snapshot_stands client v bytes log on.bodies on.stands on.places.sound welcome) in
+      weaker m first disk (RecordsOrMore magic on.bodies (snapshot_body t)) (LogOrAfter log (log_after log (AddSnapshot client v bytes) id)) run (λ c left. elim left [
+        | inl old ↦ inl (on.bodies, old, on.stands)
+        | inr new ↦ inr (on.bodies ++ snapshot_body t ∷ [], new, stands)
+      ])

@@ -7,15 +7,13 @@ use Rattle.tw_http.specs.declared.message.HttpError.{HttpError}
 use Rattle.tw_http.specs.declared.link.LinkError.{LinkError}
 use Rattle.tw_http.specs.Requests.{IsRequestAnswer}
 use Rattle.tw_records.specs.Log.{Accepted, chain_of}
-use Rattle.tw_server.specs.Log.{added}
-use Rattle.tw_server.specs.Server.{drawn_id}
 use Rattle.tw_server.specs.declared.memory.link.MemoryLink.{MemoryLink}
-use Rattle.tw_server.specs.Memory.Holding.{Holding, log_of, stored_as, own_of, after_request, after_others, AfterSome, Acts, MayAct}
+use Rattle.tw_server.specs.Memory.Holding.{Holding, log_in, added_by, stored_as, own_of, after_request, after_others, AfterSome, Acts, MayAct}
 use Rattle.tw_server.specs.Memory.Server.{holding_of}
 use Rattle.tw_server.specs.Memory.Link.{IsAlone, KeepsScript, before_request}
 use Rattle.tw_server.specs.Memory.Script.{others_at}
-use Rattle.tw_server.proofs.Logs.{chain_of-append}
-use Rattle.tw_server.proofs.MemoryVersions.{log_of-more}
+use Rattle.tw_records.proofs.Demands.{chain_of-append}
+use Rattle.tw_server.proofs.MemoryVersions.{accepted-more}
 use Rattle.tw_server.proofs.MemoryOthers.{no_step}
 use Rattle.tw_server.proofs.MemoryExchange.{chain_in, own_in, own_append}
 
@@ -33,10 +31,10 @@ IsOwn client h = own_in client h ≡ chain_in client h
 
 own_after : (client : List ℕ) (h : Holding) (asked : Request) → IsOwn client h → IsOwn client (after_request h asked true)
 own_after client h asked e =
-    let more : List Accepted = added (log_of h.versions) asked (drawn_id h.start) in
+    let more = added_by h asked in
     own_append client h.versions (map (stored_as true) more)
     ∙ (λ n. e n ++ own_all client more n)
-    ∙ sym (ap (chain_of client) (log_of-more true h.versions more) ∙ chain_of-append client (log_of h.versions) more)
+    ∙ sym (ap (chain_of client) (accepted-more true h.versions more) ∙ chain_of-append client (log_in h).versions more)
 
 own_acted : (client : List ℕ) (old new : Holding) (request : List ℕ) → Acts old new request → IsOwn client old → IsOwn client new
 own_acted client old new request acts own = by acts.read.0 acts.read.1

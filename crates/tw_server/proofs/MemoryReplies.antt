@@ -13,7 +13,7 @@ use Rattle.tw_http.proofs.OneAnswer.{one_request}
 use Rattle.tw_server.specs.Message.{is_no_memory}
 use Rattle.tw_server.specs.Log.{response_at}
 use Rattle.tw_server.specs.Server.{drawn_id}
-use Rattle.tw_server.specs.Memory.Holding.{Holding, log_of, after_request, Acts, IsReply}
+use Rattle.tw_server.specs.Memory.Holding.{Holding, log_in, after_request, Acts, IsReply}
 
 -- the answer that is there, if memory did not run out
 pub answer_there : (P : Result Request HttpError → Type 0) (r s : Result Request HttpError) → r ≡ s → is_no_memory r ≡ false → Unless P r → P s
@@ -46,9 +46,9 @@ request_acts old new request asked is acted = record {
   read = (Ok asked, is);
 }
 
-pub request_response : (old : Holding) (request reply : List ℕ) (asked : Request) (response : Response) → IsRequestAnswer request (Ok asked) → response ≡ response_at (log_of old.versions) asked (drawn_id old.start) → reply ≡ response_text response → IsReply old request reply
+pub request_response : (old : Holding) (request reply : List ℕ) (asked : Request) (response : Response) → IsRequestAnswer request (Ok asked) → response ≡ response_at (log_in old) asked (drawn_id old.start) → reply ≡ response_text response → IsReply old request reply
 request_response old request reply asked response is says text = record {
-  asked = λ other also. text ∙ ap response_text says ∙ ap (λ r. response_text (response_at (log_of old.versions) r (drawn_id old.start))) (ok_is (one_request request (Ok asked) (Ok other) is also));
+  asked = λ other also. text ∙ ap response_text says ∙ ap (λ r. response_text (response_at (log_in old) r (drawn_id old.start))) (ok_is (one_request request (Ok asked) (Ok other) is also));
   none = λ error also. absurd (ok_not_err (one_request request (Ok asked) (Err error) is also));
 }
 

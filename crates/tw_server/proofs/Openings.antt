@@ -1,7 +1,6 @@
--- What an opening reads from body to body.
-use Rattle.std.proofs.Common.{◌≡◌, ◌∙◌, inl, inr, ℕ, ◌+◌, ◌<◌, ◌≤◌, Bool, true, false, not, ◌&&◌, if◌then◌else◌, Some, None, List, [], ◌∷◌, ◌++◌, length, get_or, take, map, refl, sym, ap, subst, arith}
-use Rattle.std.proofs.lemmas.Bool.{and_parts}
-use Rattle.std.proofs.lemmas.List.{map-append, take_all, take_more}
+-- What an opening makes of a disk.
+use Rattle.std.proofs.Common.{◌≡◌, ◌∙◌, inl, inr, ℕ, ◌≤◌, Bool, true, false, not, ◌&&◌, if◌then◌else◌, Some, None, option_map, List, [], length, map, refl, sym, ap, subst, arith}
+use Rattle.std.proofs.lemmas.List.{take_all}
 use Rattle.std.proofs.lemmas.List.Elements.{All-nil}
 use Rattle.uuid.specs.Parts.{zero_bytes}
 use Rattle.tw_world.specs.Disk.{DiskModel, Tells, LeavesOnly, Untouched}
@@ -18,19 +17,18 @@ use Rattle.tw_journal.specs.declared.journal.Journal.{Journal}
 use Rattle.tw_journal.specs.declared.error.ReadError.{ReadError}
 use Rattle.tw_journal.specs.declared.error.ReadError.TheVariants as reads
 use Rattle.tw_protocol.specs.Chain.{Version, IsUuid, same_id, latest, has_id}
-use Rattle.tw_protocol.proofs.Chains.{same_id_exact}
 use Rattle.tw_records.specs.declared.entry.Entry.{Entry}
+use Rattle.tw_records.specs.declared.image.Image.{Image}
+use Rattle.tw_records.specs.Log.{Accepted, HasUuids, IsSound, Log, chain_of}
+use Rattle.tw_records.specs.Bodies.{entry_of, accepted_in, entry_in, is_body, is_next_entry, follows}
+use Rattle.tw_records.specs.Bodies.{image_in, image_of, snapshot_in, is_snapshot_body, is_next_image, is_stored}
+use Rattle.tw_records.specs.Reading.{nothing_read, read_from, StandFor}
+use Rattle.tw_records.specs.Table.{body_at}
+use Rattle.tw_server.specs.declared.images.Placed.{Placed}
 use Rattle.tw_server.specs.declared.server.Server.{Server}
 use Rattle.tw_server.specs.Faults.{open_in_opening, read_in_opening}
-use Rattle.tw_records.specs.Log.{Accepted, HasUuids, IsSound, chain_of}
-use Rattle.tw_records.specs.Bodies.{body_of, entry_of, accepted_in, entry_in, is_body, is_next_entry, follows}
-use Rattle.tw_server.specs.Log.{bodies_of}
-use Rattle.std.specs.List.{list_any}
-use Rattle.tw_server.specs.Versions.{has_that_id}
 use Rattle.tw_server.specs.Server.{magic, IsReadTo, IsBadBody, IsOpenedOn, TakeRefused, ServerOpenRefused}
-use Rattle.tw_server.proofs.Logs.{sound-push, list_any-id}
-use Rattle.tw_world.specs.Bytes.{IsBytes}
-use Rattle.tw_records.proofs.Spelled.{body_back, long_body, body_uuids}
+use Rattle.tw_server.specs.Versions.{image_at}
 
 -- a journal that is not opened refuses the opening
 pub not_opened : {D : Type 0} (m : DiskModel D) (before after : D) (e : OpenError) → OpenRefused m before after magic e → ServerOpenRefused m before after (open_in_opening e)
@@ -49,9 +47,8 @@ read_not_bad m j before after file bodies n reads.Memory refused on = tt
 pub bad_before : {D : Type 0} (m : DiskModel D) (old mid now : D) (j : Journal) (o : IsOpened m magic old mid j) (n : ℕ) (e : ServerOpenError) → m.seen now ≡ m.seen mid → IsBadBody (m.seen now) o.bodies n e → IsBadBody (m.seen old) o.bodies n e
 bad_before m old mid now j o n errors.Disk same bad = tt
 bad_before m old mid now j o n (errors.Damaged offset) same bad = record {
-  log = bad.log;
-  same = bad.same;
-  sound = bad.sound;
+  reading = bad.reading;
+  read = bad.read;
   inside = bad.inside;
   bad = bad.bad;
   at = bad.at ∙ ap (λ (s : List ℕ). offset_in magic s o.bodies n) same ∙ same_offset m magic old mid j o n bad.inside;
@@ -75,40 +72,18 @@ some_either : {X : Type 0} (t : Bool) (u : X → Bool) (x y : X) → Some y ≡ 
 some_either true u x y e = let same : y ≡ x = cc in ap (λ z. if u z then Some z else None) same
 some_either false u x y e = let no : ⊥ = cc in absurd no
 
-pub next_is : (log : List Accepted) (body : List ℕ) (e : Entry) (v : Bool) → entry_in body ≡ Some e → v ≡ is_next_entry log e → (if v then Some e else None) ≡ (if follows log body then Some (entry_of (accepted_in body)) else None)
-next_is log body e v some next = ap (λ b. if b then Some e else None) next ∙ some_either (is_body body) (is_next_entry log) (entry_of (accepted_in body)) e (sym some)
+pub next_is : (versions : List Accepted) (body : List ℕ) (e : Entry) (v : Bool) → entry_in body ≡ Some e → v ≡ is_next_entry versions e → (if v then Some e else None) ≡ (if follows versions body then Some (entry_of (accepted_in body)) else None)
+next_is versions body e v some next = ap (λ b. if b then Some e else None) next ∙ some_either (is_body body) (is_next_entry versions) (entry_of (accepted_in body)) e (sym some)
 
--- ---- the next body
-
-not_true : (b : Bool) → not b ≡ true → b ≡ false
-not_true true e = let no : ⊥ = cc in absurd no
-not_true false e = refl
-
--- it is read
-pub read_on : (server next : Server) (bodies : List (List ℕ)) (n : ℕ) (body : List ℕ) (read : IsReadTo server bodies n) → n < length bodies → body ≡ get_or bodies n [] → IsBytes body → follows read.log body ≡ true
-    → next.versions.entries.items ≡ server.versions.entries.items ++ entry_of (accepted_in body) ∷ [] → IsReadTo next bodies (n + 1)
-read_on server next bodies n body read inside is small ok entries =
-    let log = read.log in
-    let a = accepted_in body in
-    let parts = and_parts (is_body body) (is_next_entry log (entry_of a)) ok in
-    let first = and_parts (not (same_id a.version.id zero_bytes) && not (has_id a.version.id (chain_of a.client log))) (same_id (latest (chain_of a.client log)) a.version.parent) parts.1 in
-    let second = and_parts (not (same_id a.version.id zero_bytes)) (not (has_id a.version.id (chain_of a.client log))) first.0 in
-    record {
-      log = log ++ a ∷ [];
-      entries = entries ∙ ap (λ es. es ++ entry_of a ∷ []) read.entries ∙ sym (map-append entry_of log (a ∷ []));
-      same = map-append body_of log (a ∷ []) ∙ ap (λ bs. bs ++ body_of a ∷ []) read.same ∙ ap (λ b. take n bodies ++ b ∷ []) (body_back body parts.0 ∙ is) ∙ sym (take_more bodies n [] inside);
-      sound = sound-push log a.client a.version read.sound (body_uuids body (long_body body parts.0) small) (sym (same_id_exact (latest (chain_of a.client log)) a.version.parent first.1)) (not_true (has_id a.version.id (chain_of a.client log)) second.1) (not_true (same_id a.version.id zero_bytes) second.0);
-    }
+pub image_is : (log : Log) (body : List ℕ) (i : Image) (v : Bool) → image_in body ≡ Some i → v ≡ is_next_image log i → (if v then Some i else None) ≡ (if is_stored log body then Some (image_of (snapshot_in body)) else None)
+image_is log body i v some next = ap (λ b. if b then Some i else None) next ∙ some_either (is_snapshot_body body) (is_next_image log) (image_of (snapshot_in body)) i (sym some)
 
 -- the three tests of a version
-pub next_by : (log : List Accepted) (e : Entry) (t u v : Bool) → same_id e.id zero_bytes ≡ t → has_id e.id (chain_of e.client log) ≡ u → same_id (latest (chain_of e.client log)) e.parent ≡ v → (not t && not u && v) ≡ is_next_entry log e
-next_by log e t u v a b d =
+pub next_by : (versions : List Accepted) (e : Entry) (t u v : Bool) → same_id e.id zero_bytes ≡ t → has_id e.id (chain_of e.client versions) ≡ u → same_id (latest (chain_of e.client versions)) e.parent ≡ v → (not t && not u && v) ≡ is_next_entry versions e
+next_by versions e t u v a b d =
     let nil = same_id e.id zero_bytes in
-    let known = has_id e.id (chain_of e.client log) in
+    let known = has_id e.id (chain_of e.client versions) in
     ap (λ x. not x && not u && v) (sym a) ∙ ap (λ x. not nil && not x && v) (sym b) ∙ ap (λ x. not nil && not known && x) (sym d)
-
-pub id_among : (client id : List ℕ) (log : List Accepted) (entries : List Entry) (b : Bool) → entries ≡ map entry_of log → b ≡ list_any (has_that_id client id) entries → has_id id (chain_of client log) ≡ b
-id_among client id log entries b same e = sym (list_any-id client id log) ∙ ap (list_any (has_that_id client id)) (sym same) ∙ sym e
 
 pub nothing_sound : IsSound []
 nothing_sound = record {
@@ -133,11 +108,25 @@ open_refused m old mid now new n (errors.Damaged offset) first second refused ba
 open_refused m old mid now new n errors.Memory first second refused bad = tt
 
 -- all bodies are read
-pub opened_on : {D : Type 0} (m : DiskModel D) (old now : D) (server : Server) (bodies : List (List ℕ)) (n : ℕ) → Records magic (m.seen old) bodies → IsOpenOn m magic server.journal now bodies → IsReadTo server bodies n → length bodies ≤ n → IsOpenedOn m old now server
-opened_on m old now server bodies n records on read all =
-    let whole : bodies_of read.log ≡ bodies = read.same ∙ take_all n bodies all in
+pub opened_on : {D : Type 0} (m : DiskModel D) (old now : D) (server : Server) (bodies : List (List ℕ)) (n fresh : ℕ) → Records magic (m.seen old) bodies → IsOpenOn m magic server.journal now bodies → IsReadTo server bodies n fresh → length bodies ≤ n → IsOpenedOn m old now server
+opened_on m old now server bodies n fresh records on read all =
+    let stands : StandFor bodies read.log = (fresh, ap (read_from nothing_read) (sym (take_all n bodies all)) ∙ read.read) in
     record {
       log = read.log;
-      records = subst (λ bs. Records magic (m.seen old) bs) (sym whole) records;
-      now = record { journal = subst (λ bs. IsOpenOn m magic server.journal now bs) (sym whole) on; entries = read.entries; sound = read.sound };
+      holds = (bodies, records, stands);
+      now = record { bodies = bodies; journal = on; stands = stands; places = read.places };
     }
+
+-- nothing is read
+pub read_nothing : (server : Server) (bodies : List (List ℕ)) → server.versions.entries.items ≡ [] → server.versions.numbers.items ≡ [] → ((client : List ℕ) → image_at server.images client ≡ None) → IsReadTo server bodies 0 0
+read_nothing server bodies entries numbers images = record {
+  log = record { versions = []; snapshots = [] };
+  read = refl;
+  places = record {
+    knows = record { entries = entries; images = λ client. ap (option_map (λ (p : Placed). p.version)) (images client) };
+    numbers = ap (map (body_at bodies)) numbers;
+    images = λ client. ap (option_map (λ (p : Placed). body_at bodies p.number)) (images client);
+    sound = nothing_sound;
+    accounts = λ client. record { chain = nothing_sound.chains client; stored = tt };
+  };
+}

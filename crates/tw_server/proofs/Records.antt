@@ -1,83 +1,161 @@
--- The bodies of the log's records, and the child of a parent.
-use Rattle.std.proofs.Common.{◌≡◌, ◌∙◌, ℕ, ◌-◌, ◌<◌, ◌≤◌, true, cond, Some, None, List, [], length, get_or, take, drop, map, refl, sym, ap, arith}
-use Rattle.std.specs.List.{position}
+-- The bodies of the log's records, the child of a parent, and the stored snapshot.
+use Rattle.std.proofs.Common.{◌≡◌, ◌∙◌, ℕ, ◌<◌, ◌≤◌, true, cond, Option, Some, None, option_map, IfSome, List, [], length, get_or, drop, map, refl, sym, ap, arith}
+use Rattle.std.specs.Prelude.{Contains}
+use Rattle.std.specs.List.{position, slice_get}
+use Rattle.std.proofs.lemmas.Option.{slice_get_read}
 use Rattle.std.proofs.lemmas.Bool.{and_parts}
-use Rattle.std.proofs.lemmas.List.{get_or-map, length-map, take_rest}
+use Rattle.std.proofs.lemmas.List.{get_or-map, length-map}
 use Rattle.std.proofs.lemmas.List.Quantifiers.{position-Some}
 use Rattle.uuid.specs.Parts.{zero_bytes}
-use Rattle.tw_world.specs.Disk.{DiskModel}
-use Rattle.tw_protocol.specs.Chain.{same_id, latest}
+use Rattle.tw_protocol.specs.Chain.{same_id, has_id, latest}
+use Rattle.tw_protocol.specs.Answer.{Finding}
 use Rattle.tw_protocol.specs.Answer.Finding.{UpToDate, Gone}
+use Rattle.tw_protocol.specs.Snapshots.{Snapshot as Stored_snapshot, is_wanted, offered}
 use Rattle.tw_protocol.proofs.Chains.{same_id_exact}
+use Rattle.tw_http.specs.declared.message.Response.{Response}
 use Rattle.tw_http.specs.declared.message.Response.TheVariants as answer
-use Rattle.tw_http.specs.declared.message.Request.TheVariants.{Child}
-use Rattle.tw_http.specs.Serving.{response_of}
+use Rattle.tw_http.specs.declared.message.Request.TheVariants.{Child, Snapshot}
+use Rattle.tw_http.specs.Serving.{says, response_of, account_after}
 use Rattle.tw_records.specs.declared.entry.Entry.{Entry}
+use Rattle.tw_records.specs.Log.{Accepted, Log, chain_of, account_of, HasUuids, IsSound}
+use Rattle.tw_records.specs.Bodies.{body_of, entry_of, snapshot_body}
+use Rattle.tw_records.specs.Table.{body_at}
+use Rattle.tw_server.specs.declared.images.Placed.{Placed}
 use Rattle.tw_server.specs.declared.server.Server.{Server}
-use Rattle.tw_records.specs.Log.{Accepted, chain_of, HasUuids, IsSound}
-use Rattle.tw_records.specs.Bodies.{body_of, entry_of}
-use Rattle.tw_server.specs.Log.{bodies_of, IsSegmentOf, response_at}
-use Rattle.tw_server.specs.Server.{IsServerOn}
-use Rattle.tw_server.specs.Versions.{is_child}
-use Rattle.tw_server.proofs.Logs.{body_long, segment_behind, child_at, child_none, position_none}
+use Rattle.tw_server.specs.declared.versions.Versions.{Versions}
+use Rattle.tw_server.specs.Log.{IsSegmentOf, response_at}
+use Rattle.tw_server.specs.Server.{HasPlaces, snapshot_of}
+use Rattle.tw_server.specs.Versions.{is_child, image_at}
+use Rattle.tw_server.proofs.Logs.{body_long, segment_behind, bytes_long, bytes_behind, child_at, child_none, position_none}
+use Rattle.tw_server.proofs.Knowing.{known_long, client_long}
 
-within : {D : Type 0} (m : DiskModel D) (server : Server) (disk : D) (log : List Accepted) (n : ℕ) → IsServerOn m server disk log → n < length server.versions.entries.items → n < length log
-within m server disk log n on lt = let e = ap length on.entries ∙ length-map log entry_of in omega (arith, e, lt)
+-- ---- the record of a version
 
-pub body_at : {D : Type 0} (m : DiskModel D) (server : Server) (disk : D) (log : List Accepted) (n : ℕ) (d : Accepted) (items : List ℕ) → IsServerOn m server disk log → n < length server.versions.entries.items → items ≡ get_or (bodies_of log) n []
-    → (items ≡ body_of (get_or log n d)) × HasUuids (get_or log n d)
-body_at m server disk log n d items on lt e =
-    let inside = within m server disk log n on lt in
-    (e ∙ get_or-map body_of log n d [] inside, on.sound.uuids n d inside)
+module _ (server : Server) (bodies : List (List ℕ)) (log : Log) (places : HasPlaces server bodies log) (place number : ℕ)
+    (inside : place < length server.versions.numbers.items) (at : number ≡ get_or server.versions.numbers.items place number) where
+  within : place < length log.versions
+  within =
+      let e = ap length places.numbers in
+      let a = length-map server.versions.numbers.items (body_at bodies) in
+      let b = length-map log.versions body_of in
+      omega (arith, inside, e, a, b)
 
--- the body of a version has at least the bytes before its segment
-pub body_is_long : {D : Type 0} (m : DiskModel D) (server : Server) (disk : D) (log : List Accepted) (n : ℕ) → IsServerOn m server disk log → n < length server.versions.entries.items → 49 ≤ length (get_or (bodies_of log) n [])
-body_is_long m server disk log n on lt =
-    let d : Accepted = record { client = []; version = record { id = []; parent = []; segment = [] } } in
-    let at = body_at m server disk log n d (get_or (bodies_of log) n []) on lt refl in
-    let a = get_or log n d in
-    let long = body_long a.client a.version.id a.version.parent a.version.segment at.1.client at.1.id.long at.1.parent.long in
-    let same = ap length at.0 in
-    omega (arith, long, same)
+  -- its body is that of the version
+  version_body : (d : Accepted) → body_at bodies number ≡ body_of (get_or log.versions place d)
+  version_body d =
+      ap (body_at bodies) at
+      ∙ sym (get_or-map (body_at bodies) server.versions.numbers.items place number [] inside)
+      ∙ ap (λ xs. get_or xs place []) places.numbers
+      ∙ get_or-map body_of log.versions place d [] within
 
-pub never_short : {D : Type 0} (m : DiskModel D) (server : Server) (disk : D) (log : List Accepted) (n : ℕ) (items : List ℕ) → IsServerOn m server disk log → n < length server.versions.entries.items → items ≡ get_or (bodies_of log) n [] → length items < 49 → ⊥
-never_short m server disk log n items on lt e short =
-    let long = body_is_long m server disk log n on lt in
-    let same = ap length e in
-    omega (arith, long, same, short)
+  uuids : (d : Accepted) → HasUuids (get_or log.versions place d)
+  uuids d = places.sound.uuids place d within
 
-pub segment_at : {D : Type 0} (m : DiskModel D) (server : Server) (disk : D) (log : List Accepted) (n : ℕ) (items : List ℕ) → IsServerOn m server disk log → n < length server.versions.entries.items → items ≡ get_or (bodies_of log) n []
-    → IsSegmentOf log n (take (length items - 49) (drop 49 items))
-segment_at m server disk log n items on lt e d =
-    let at = body_at m server disk log n d items on lt e in
-    let a = get_or log n d in
-    take_rest items 49 ∙ ap (drop 49) at.0 ∙ segment_behind a.client a.version.id a.version.parent a.version.segment at.1.client at.1.id.long at.1.parent.long
+  pub version_long : 49 ≤ length (body_at bodies number)
+  version_long =
+      let d : Accepted = record { client = []; version = record { id = []; parent = []; segment = [] } } in
+      let a = get_or log.versions place d in
+      let u = uuids d in
+      let long = body_long a.client a.version.id a.version.parent a.version.segment u.client u.id.long u.parent.long in
+      let same = ap length (version_body d) in
+      omega (arith, long, same)
+
+  pub segment_at : (segment : List ℕ) → segment ≡ drop 49 (body_at bodies number) → IsSegmentOf log.versions place segment
+  segment_at segment is d =
+      let a = get_or log.versions place d in
+      let u = uuids d in
+      is ∙ ap (drop 49) (version_body d) ∙ segment_behind a.client a.version.id a.version.parent a.version.segment u.client u.id.long u.parent.long
+
+-- ---- the record of a stored snapshot
+
+module _ (server : Server) (bodies : List (List ℕ)) (log : Log) (places : HasPlaces server bodies log) (client : List ℕ) (p : Placed) (stored : image_at server.images client ≡ Some p) where
+  fits_by : (o : Option Stored_snapshot) → IfSome o (λ s. has_id s.version (chain_of client log.versions) ≡ true) → IfSome o (λ s. (length client ≡ 16) × (length s.version ≡ 16))
+  fits_by None h = h
+  fits_by (Some s) h = (client_long client s.version log.versions places.sound.uuids h, known_long s.version (chain_of client log.versions) (places.accounts client).chain.uuids h)
+
+  body_is : Some (body_at bodies p.number) ≡ option_map (λ s. snapshot_body (snapshot_of client s)) (account_of client log).stored
+  body_is = ap (option_map (λ (q : Placed). body_at bodies q.number)) (sym stored) ∙ places.images client
+
+  version_is : Some p.version ≡ option_map (λ (s : Stored_snapshot). s.version) (account_of client log).stored
+  version_is = ap (option_map (λ (q : Placed). q.version)) (sym stored) ∙ places.knows.images client
+
+  long_by : (o : Option Stored_snapshot) (body : List ℕ) → Some body ≡ option_map (λ s. snapshot_body (snapshot_of client s)) o → IfSome o (λ s. (length client ≡ 16) × (length s.version ≡ 16)) → 33 ≤ length body
+  long_by None body e h = absurd (let no : ⊥ = cc in no)
+  long_by (Some s) body e h =
+      let same : body ≡ snapshot_body (snapshot_of client s) = cc in
+      let long = bytes_long client s.version s.bytes h.0 h.1 in
+      let equal = ap length same in
+      omega (arith, long, equal)
+
+  pub image_long : 33 ≤ length (body_at bodies p.number)
+  image_long = long_by (account_of client log).stored (body_at bodies p.number) body_is (fits_by (account_of client log).stored (places.accounts client).stored)
+
+  fetched_by : (o : Option Stored_snapshot) (version body bytes : List ℕ) → Some version ≡ option_map (λ (s : Stored_snapshot). s.version) o → Some body ≡ option_map (λ s. snapshot_body (snapshot_of client s)) o
+      → IfSome o (λ s. (length client ≡ 16) × (length s.version ≡ 16)) → bytes ≡ drop 33 body → answer.Snapshot version bytes ≡ response_of (offered o)
+  fetched_by None version body bytes v b h is = absurd (let no : ⊥ = cc in no)
+  fetched_by (Some s) version body bytes v b h is =
+      let same : version ≡ s.version = cc in
+      let equal : body ≡ snapshot_body (snapshot_of client s) = cc in
+      λ i. answer.Snapshot (same i) ((is ∙ ap (drop 33) equal ∙ bytes_behind client s.version s.bytes h.0 h.1) i)
+
+  pub fetched_response : (bytes id : List ℕ) → bytes ≡ drop 33 (body_at bodies p.number) → answer.Snapshot p.version bytes ≡ response_at log (Snapshot client) id
+  fetched_response bytes id is =
+      fetched_by (account_of client log).stored p.version (body_at bodies p.number) bytes version_is body_is (fits_by (account_of client log).stored (places.accounts client).stored) is
+
+absent_by : (o : Option Stored_snapshot) → None ≡ option_map (λ (s : Stored_snapshot). s.version) o → answer.UpToDate ≡ response_of (offered o)
+absent_by None e = refl
+absent_by (Some s) e = absurd (let no : ⊥ = cc in no)
+
+-- no snapshot is stored
+pub absent_response : (log : Log) (client id : List ℕ) → None ≡ option_map (λ (s : Stored_snapshot). s.version) (account_of client log).stored → answer.UpToDate ≡ response_at log (Snapshot client) id
+absent_response log client id none = absent_by (account_of client log).stored none
 
 -- ---- the child
 
-entry_at : (log : List Accepted) (entries : List Entry) (n : ℕ) (d : Accepted) (e : Entry) → entries ≡ map entry_of log → n < length log → get_or entries n e ≡ entry_of (get_or log n d)
-entry_at log entries n d e same lt = ap (λ es. get_or es n e) same ∙ get_or-map entry_of log n d e lt
+entry_at : (versions : List Accepted) (entries : List Entry) (n : ℕ) (d : Accepted) (e : Entry) → entries ≡ map entry_of versions → n < length versions → get_or entries n e ≡ entry_of (get_or versions n d)
+entry_at versions entries n d e same lt = ap (λ es. get_or es n e) same ∙ get_or-map entry_of versions n d e lt
 
--- the first version whose parent is asked for
-pub found_response : (client parent id : List ℕ) (log : List Accepted) (entries : List Entry) (n : ℕ) (e : Entry) (segment : List ℕ) → IsSound log → entries ≡ map entry_of log → position (is_child client parent) entries ≡ Some n → get_or entries n e ≡ e
-    → IsSegmentOf log n segment → answer.Child e.id parent segment ≡ response_at log (Child client parent) id
-found_response client parent id log entries n e segment sound same place here has =
-    let d : Accepted = record { client = client; version = record { id = parent; parent = parent; segment = segment } } in
-    let at = position-Some (is_child client parent) entries n e place in
-    let lt : n < length log = let long = ap length same ∙ length-map log entry_of in let k = at.0 in omega (arith, long, k) in
-    let a = get_or log n d in
-    let is : e ≡ entry_of a = sym here ∙ entry_at log entries n d e same lt in
-    let yes : is_child client parent (entry_of a) ≡ true = ap (is_child client parent) (sym (entry_at log entries n d e same lt)) ∙ at.1 in
-    let first = child_at client parent log n d zero_bytes (sound.chains client).row lt yes
-    (λ j less. ap (is_child client parent) (sym (entry_at log entries j d e same (let l = less in omega (arith, l, lt)))) ∙ at.2 j less) in
-    let of_parent : a.version.parent ≡ parent = same_id_exact a.version.parent parent (and_parts (same_id a.client client) (same_id a.version.parent parent) yes).1 in
-    ap (λ x. answer.Child x parent segment) (ap (λ x. x.id) is) ∙ ap (λ p. answer.Child a.version.id p segment) (sym of_parent) ∙ ap (λ s. answer.Child a.version.id a.version.parent s) (has d) ∙ sym (ap response_of first)
+module _ (client parent id : List ℕ) (log : Log) where
+  abbrev pub says_of : Finding → Response
+  says_of finding = says finding (is_wanted (account_after (account_of client log) (Child client parent) id))
 
--- no child: the parent is the latest version, or the chain does not know it
-pub none_response : (client parent id : List ℕ) (log : List Accepted) (entries : List Entry) → IsSound log → entries ≡ map entry_of log → position (is_child client parent) entries ≡ None
-    → response_at log (Child client parent) id ≡ response_of (cond (same_id (latest (chain_of client log)) parent) UpToDate Gone)
-none_response client parent id log entries sound same place =
-    let d : Accepted = record { client = client; version = record { id = parent; parent = parent; segment = parent } } in
-    let e = entry_of d in
-    ap response_of (child_none client parent log d zero_bytes (sound.chains client).row
-    (λ j lt. ap (is_child client parent) (sym (entry_at log entries j d e same lt)) ∙ position_none (is_child client parent) entries e place j (let long = ap length same ∙ length-map log entry_of in let l = lt in omega (arith, long, l))))
+  -- the first version whose parent is asked for
+  pub found_response : (entries : List Entry) (n : ℕ) (e : Entry) (segment : List ℕ) → IsSound log.versions → entries ≡ map entry_of log.versions → position (is_child client parent) entries ≡ Some n → get_or entries n e ≡ e
+      → IsSegmentOf log.versions n segment → answer.Child e.id parent segment ≡ response_at log (Child client parent) id
+  found_response entries n e segment sound same place here has =
+      let versions = log.versions in
+      let d : Accepted = record { client = client; version = record { id = parent; parent = parent; segment = segment } } in
+      let at = position-Some (is_child client parent) entries n e place in
+      let lt : n < length versions = let long = ap length same ∙ length-map versions entry_of in let k = at.0 in omega (arith, long, k) in
+      let a = get_or versions n d in
+      let is : e ≡ entry_of a = sym here ∙ entry_at versions entries n d e same lt in
+      let yes : is_child client parent (entry_of a) ≡ true = ap (is_child client parent) (sym (entry_at versions entries n d e same lt)) ∙ at.1 in
+      let first = child_at client parent versions n d zero_bytes (sound.chains client).row lt yes
+      (λ j less. ap (is_child client parent) (sym (entry_at versions entries j d e same (let l = less in omega (arith, l, lt)))) ∙ at.2 j less) in
+      let of_parent : a.version.parent ≡ parent = same_id_exact a.version.parent parent (and_parts (same_id a.client client) (same_id a.version.parent parent) yes).1 in
+      ap (λ x. answer.Child x parent segment) (ap (λ x. x.id) is) ∙ ap (λ p. answer.Child a.version.id p segment) (sym of_parent) ∙ ap (λ s. answer.Child a.version.id a.version.parent s) (has d) ∙ sym (ap says_of first)
+
+  -- no child: the parent is the latest version, or the chain does not know it
+  pub none_response : (entries : List Entry) → IsSound log.versions → entries ≡ map entry_of log.versions → position (is_child client parent) entries ≡ None
+      → response_at log (Child client parent) id ≡ says_of (cond (same_id (latest (chain_of client log.versions)) parent) UpToDate Gone)
+  none_response entries sound same place =
+      let d : Accepted = record { client = client; version = record { id = parent; parent = parent; segment = parent } } in
+      let e = entry_of d in
+      ap says_of (child_none client parent log.versions d zero_bytes (sound.chains client).row
+      (λ j lt. ap (is_child client parent) (sym (entry_at log.versions entries j d e same lt)) ∙ position_none (is_child client parent) entries e place j (let long = ap length same ∙ length-map log.versions entry_of in let l = lt in omega (arith, long, l))))
+
+-- ---- a number at a place
+
+-- the place of a child has a number
+pub child_inside : (versions : Versions) (client parent : List ℕ) (n : ℕ) → position (is_child client parent) versions.entries.items ≡ Some n → n < length versions.numbers.items
+child_inside versions client parent n place =
+    let d : Entry = record { client = []; id = []; parent = [] } in
+    let at = (position-Some (is_child client parent) versions.entries.items n d place).0 in
+    let same = versions.paired in
+    omega (arith, at, same)
+
+pub number_there : (numbers : List ℕ) (place number : ℕ) → place < length numbers → number ≡ get_or numbers place number → slice_get numbers place ≡ Some number
+number_there numbers place number inside at = slice_get_read numbers (length numbers) place number refl inside at
+
+pub number_listed : (numbers : List ℕ) (place number : ℕ) → place < length numbers → number ≡ get_or numbers place number → Contains numbers number
+number_listed numbers place number inside at = (place, inside, sym at)

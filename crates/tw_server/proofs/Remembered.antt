@@ -1,127 +1,180 @@
 -- An answer by what a server knows.
-use Rattle.std.proofs.Common.{◌≡◌, ◌∙◌, ℕ, zero, suc, ◌+◌, ◌-◌, ◌%◌, ◌^◌, ◌<◌, ◌≤◌, Bool, true, false, not, cond, if◌then◌else◌, Some, None, List, [], ◌∷◌, ◌++◌, length, get_or, take, drop, map, refl, sym, ap, subst, arith}
+use Rattle.std.proofs.Common.{◌≡◌, ◌∙◌, ℕ, zero, suc, ◌+◌, ◌-◌, ◌%◌, ◌^◌, ◌<◌, ◌≤◌, Bool, true, false, not, cond, Option, Some, None, option_map, List, [], ◌∷◌, ◌++◌, length, get_or, take, drop, refl, sym, ap, subst, arith}
 use Rattle.std.specs.List.{position}
-use Rattle.std.proofs.lemmas.List.{append-nil, map-append, length-map, take_rest}
+use Rattle.std.specs.Ordering.{is_eq}
+use Rattle.std.proofs.lemmas.List.{length-map, length-drop, take_rest}
 use Rattle.std.proofs.lemmas.List.Quantifiers.{position-Some}
 use Rattle.tw_world.specs.Disk.{DiskModel, Tells, Untouched}
 use Rattle.tw_world.specs.declared.ids.IdWords.{IdWords}
 use Rattle.tw_journal.proofs.Unique.{one_place}
 use Rattle.tw_journal.specs.Journal.{HasBody, HasPart}
 use Rattle.tw_protocol.specs.Chain.{same_id, latest, has_id}
-use Rattle.tw_protocol.specs.Answer.{Finding, accepts, answer, version}
-use Rattle.tw_protocol.specs.Answer.Ask.{Add as Ask_add}
-use Rattle.tw_protocol.specs.Answer.Finding.{Added, Conflict, Taken, UpToDate, Gone}
-use Rattle.tw_http.specs.declared.message.Request.TheVariants.{Add, Child}
+use Rattle.tw_protocol.specs.Answer.{accepts, version}
+use Rattle.tw_protocol.specs.Answer.Finding.{Conflict, Taken, UpToDate, Gone}
+use Rattle.tw_protocol.specs.Snapshots.{Snapshot as Stored_snapshot, is_welcome, is_wanted, offered}
+use Rattle.tw_http.specs.declared.message.Request.TheVariants.{Add, Child, AddSnapshot, Snapshot}
 use Rattle.tw_http.specs.declared.message.Response.{Response}
 use Rattle.tw_http.specs.declared.message.Response.TheVariants as responses
 use Rattle.tw_http.specs.Serving.{response_of}
 use Rattle.tw_records.specs.declared.entry.Entry.{Entry}
-use Rattle.tw_server.specs.declared.server.Server.{Server}
-use Rattle.tw_records.specs.Log.{Accepted, IsSound, chain_of, accepted_for}
+use Rattle.tw_records.specs.Log.{Accepted, Log, IsSound, chain_of, account_of, accepted_for}
 use Rattle.tw_records.specs.Bodies.{entry_of}
-use Rattle.tw_server.specs.Log.{IsSegmentOf, response_at}
+use Rattle.tw_server.specs.declared.images.Placed.{Placed}
+use Rattle.tw_server.specs.declared.server.Server.{Server}
+use Rattle.tw_server.specs.Log.{IsSegmentOf, log_after, response_at}
 use Rattle.tw_server.specs.Server.{Knows, drawn_id}
-use Rattle.tw_server.specs.Versions.{is_child}
-use Rattle.tw_server.specs.Remembered.{IsAnswerByMemory, IsSegmentIn, without_segment}
-use Rattle.tw_server.proofs.Adds.{conflicts, answer_is}
-use Rattle.tw_server.proofs.Records.{found_response, none_response}
+use Rattle.tw_server.specs.Versions.{is_child, image_at, uuid_cmp}
+use Rattle.tw_server.specs.Remembered.{IsAnswerByMemory, IsRestIn, without_bytes}
+use Rattle.tw_server.proofs.Adds.{conflicts, answer_is, nothing_added, one_added, drawn_after, added_says, reads_only, told_store, not_stored, one_stored, snapshot}
+use Rattle.tw_server.proofs.LogLaws.{told}
+use Rattle.tw_server.proofs.Knowing.{version_known, image_known}
+use Rattle.tw_server.proofs.Records.{found_response, none_response, says_of}
 
 module _ (client parent segment : List ℕ) where
-  -- what the server knows if nothing is added
-  knows_the_same : (server : Server) (log : List Accepted) (id : List ℕ) (t : Finding) → answer (chain_of client log) (Ask_add parent segment) id ≡ ([], t) → Knows server log
-      → Knows server (log ++ map (accepted_for client) (answer (chain_of client log) (Ask_add parent segment) id).0)
-  knows_the_same server log id t is known = subst (Knows server) (sym (ap (λ x. log ++ map (accepted_for client) x.0) is ∙ append-nil log)) known
-
-  pub conflict_known : (server : Server) (log : List Accepted) (old : IdWords) (last : List ℕ) → Knows server log → last ≡ latest (chain_of client log) → same_id last parent ≡ false
+  pub conflict_known : (server : Server) (log : Log) (old : IdWords) (last : List ℕ) → Knows server log → last ≡ latest (chain_of client log.versions) → same_id last parent ≡ false
       → IsAnswerByMemory server log (Add client parent segment) old old (responses.Conflict last)
   conflict_known server log old last known is other =
-      let chain = chain_of client log in
+      let chain = chain_of client log.versions in
       let at : accepts chain parent ≡ false = ap (λ x. same_id x parent) (sym is) ∙ other in
       let answered = conflicts chain parent segment (drawn_id old.start) at in
       record {
-        says = ap without_segment (ap (λ x. responses.Conflict x) is ∙ sym (ap (λ x. response_of x.1) answered));
-        drawn = record { start = sym (ap (λ t. if t then (old.start + old.step) % 2 ^ 128 else old.start) at); step = refl };
-        knows = knows_the_same server log (drawn_id old.start) (Conflict (latest chain)) answered known;
+        says = ap without_bytes (ap (λ x. responses.Conflict x) is ∙ sym (ap (told log client) answered));
+        drawn = record { start = drawn_after client parent segment log false old.start old.step at; step = refl };
+        knows = subst (Knows server) (sym (nothing_added client parent segment log (drawn_id old.start) (Conflict (latest chain)) answered)) known;
       }
 
-  pub taken_known : (server : Server) (log : List Accepted) (old new : IdWords) (last : List ℕ) → Knows server log → last ≡ latest (chain_of client log) → same_id last parent ≡ true → has_id (drawn_id old.start) (chain_of client log) ≡ true
+  pub taken_known : (server : Server) (log : Log) (old new : IdWords) (last : List ℕ) → Knows server log → last ≡ latest (chain_of client log.versions) → same_id last parent ≡ true → has_id (drawn_id old.start) (chain_of client log.versions) ≡ true
       → new.start ≡ (old.start + old.step) % 2 ^ 128 → new.step ≡ old.step → IsAnswerByMemory server log (Add client parent segment) old new responses.Taken
   taken_known server log old new last known is same there start step =
-      let chain = chain_of client log in
+      let chain = chain_of client log.versions in
       let at : accepts chain parent ≡ true = ap (λ x. same_id x parent) (sym is) ∙ same in
       let answered = answer_is true true chain parent segment (drawn_id old.start) at there in
       record {
-        says = ap without_segment (sym (ap (λ x. response_of x.1) answered));
-        drawn = record { start = start ∙ sym (ap (λ t. if t then (old.start + old.step) % 2 ^ 128 else old.start) at); step = step };
-        knows = knows_the_same server log (drawn_id old.start) Taken answered known;
+        says = ap without_bytes (sym (ap (told log client) answered));
+        drawn = record { start = start ∙ drawn_after client parent segment log true old.start old.step at; step = step };
+        knows = subst (Knows server) (sym (nothing_added client parent segment log (drawn_id old.start) Taken answered)) known;
       }
 
-  pub added_known : (server : Server) (log : List Accepted) (old new : IdWords) (id last : List ℕ) → id ≡ drawn_id old.start → last ≡ latest (chain_of client log) → same_id last parent ≡ true → has_id (drawn_id old.start) (chain_of client log) ≡ false
-      → new.start ≡ (old.start + old.step) % 2 ^ 128 → new.step ≡ old.step → server.versions.entries.items ≡ map entry_of log ++ entry_of (accepted_for client (version (drawn_id old.start) parent segment)) ∷ []
-      → IsAnswerByMemory server log (Add client parent segment) old new (responses.Added id)
-  added_known server log old new id last drawn is same fresh start step entries =
-      let chain = chain_of client log in
-      let a = accepted_for client (version (drawn_id old.start) parent segment) in
-      let at : accepts chain parent ≡ true = ap (λ x. same_id x parent) (sym is) ∙ same in
-      let answered = answer_is true false chain parent segment (drawn_id old.start) at fresh in
-      record {
-        says = ap without_segment (ap (λ x. responses.Added x) drawn ∙ sym (ap (λ x. response_of x.1) answered));
-        drawn = record { start = start ∙ sym (ap (λ t. if t then (old.start + old.step) % 2 ^ 128 else old.start) at); step = step };
-        knows = subst (Knows server) (sym (ap (λ x. log ++ map (accepted_for client) x.0) answered)) (entries ∙ sym (map-append entry_of log (a ∷ [])));
-      }
+  -- what the server knows once a version was added
+  pub knows_added : (before server : Server) (log : Log) (id last : List ℕ) → Knows before log → last ≡ latest (chain_of client log.versions) → same_id last parent ≡ true → has_id id (chain_of client log.versions) ≡ false
+      → server.versions.entries.items ≡ before.versions.entries.items ++ entry_of (accepted_for client (version id parent segment)) ∷ [] → ((c : List ℕ) → image_at server.images c ≡ image_at before.images c)
+      → Knows server (log_after log (Add client parent segment) id)
+  knows_added before server log id last known is same fresh entries images =
+      subst (Knows server) (sym (one_added client parent segment log id last is same fresh)) (version_known before server log (accepted_for client (version id parent segment)) known entries images)
+
+  pub added_known : (server : Server) (log : Log) (old new : IdWords) (id last : List ℕ) (wanted : Bool) → id ≡ drawn_id old.start → last ≡ latest (chain_of client log.versions) → same_id last parent ≡ true → has_id (drawn_id old.start) (chain_of client log.versions) ≡ false
+      → new.start ≡ (old.start + old.step) % 2 ^ 128 → new.step ≡ old.step → Knows server (log_after log (Add client parent segment) (drawn_id old.start))
+      → wanted ≡ is_wanted (account_of client (log_after log (Add client parent segment) (drawn_id old.start))) → IsAnswerByMemory server log (Add client parent segment) old new (responses.Added id wanted)
+  added_known server log old new id last wanted drawn is same fresh start step knows wants = record {
+    says = ap without_bytes (added_says client parent segment log (drawn_id old.start) id last wanted drawn is same fresh wants);
+    drawn = record { start = start ∙ drawn_after client parent segment log true old.start old.step (ap (λ x. same_id x parent) (sym is) ∙ same); step = step };
+    knows = knows;
+  }
 
 pub is_other : (b : Bool) → true ≡ not b → b ≡ false
 is_other true e = let no : ⊥ = cc in absurd no
 is_other false e = refl
 
+-- ---- an add-snapshot
+
+module _ (client v bytes : List ℕ) (log : Log) (ids : IdWords) where
+  pub bad_known : (server : Server) → Knows server log → is_welcome (account_of client log) v ≡ false → IsAnswerByMemory server log (AddSnapshot client v bytes) ids ids responses.Bad
+  bad_known server known not = record {
+    says = ap without_bytes (sym (ap (told_store client v bytes log) not));
+    drawn = record { start = refl; step = refl };
+    knows = subst (Knows server) (sym (not_stored client v bytes log not (drawn_id ids.start))) known;
+  }
+
+  pub stored_known : (before server : Server) (n : ℕ) → Knows before log → is_welcome (account_of client log) v ≡ true → server.versions.entries.items ≡ before.versions.entries.items
+      → ((c : List ℕ) → image_at server.images c ≡ cond (is_eq (uuid_cmp client c)) (Some (record { version = v; number = n })) (image_at before.images c))
+      → IsAnswerByMemory server log (AddSnapshot client v bytes) ids ids responses.Stored
+  stored_known before server n known welcome entries images = record {
+    says = ap without_bytes (sym (ap (told_store client v bytes log) welcome));
+    drawn = record { start = refl; step = refl };
+    knows = subst (Knows server) (sym (one_stored client v bytes log welcome (drawn_id ids.start))) (image_known before server log (snapshot client v bytes log) n known entries images);
+  }
+
 -- ---- a get-child-version
 
-module _ (client parent : List ℕ) (server : Server) (log : List Accepted) (ids : IdWords) where
-  pub child_known : (response : Response) → Knows server log → without_segment response ≡ without_segment (response_at log (Child client parent) (drawn_id ids.start)) → IsAnswerByMemory server log (Child client parent) ids ids response
+module _ (client parent : List ℕ) (server : Server) (log : Log) (ids : IdWords) where
+  pub child_known : (response : Response) → Knows server log → without_bytes response ≡ without_bytes (response_at log (Child client parent) (drawn_id ids.start)) → IsAnswerByMemory server log (Child client parent) ids ids response
   child_known response known says = record {
     says = says;
     drawn = record { start = refl; step = refl };
-    knows = subst (Knows server) (sym (append-nil log)) known;
+    knows = subst (Knows server) (sym (reads_only log)) known;
   }
 
-  -- the segment of a version, whatever is answered where there is no version
-  segment_is : (n : ℕ) (d : Accepted) → n < length log → IsSegmentOf log n (get_or log n d).version.segment
-  segment_is n d inside e = ap (λ (a : Accepted). a.version.segment) (get_or_same log n d e inside)
+  -- the segment of a version, whatever is answered if there is no version
+  segment_is : (n : ℕ) (d : Accepted) → n < length log.versions → IsSegmentOf log.versions n (get_or log.versions n d).version.segment
+  segment_is n d inside e = ap (λ (a : Accepted). a.version.segment) (get_or_same log.versions n d e inside)
     where
       get_or_same : (l : List Accepted) (k : ℕ) (d e : Accepted) → k < length l → get_or l k d ≡ get_or l k e
       get_or_same [] k d e lt = absurd (omega (arith, lt))
       get_or_same (x ∷ l) zero d e lt = refl
       get_or_same (x ∷ l) (suc k) d e lt = get_or_same l k d e (omega (arith, lt))
 
-  pub found_known : (n : ℕ) (e : Entry) (segment : List ℕ) → IsSound log → Knows server log → position (is_child client parent) server.versions.entries.items ≡ Some n → get_or server.versions.entries.items n e ≡ e
+  pub found_known : (n : ℕ) (e : Entry) (segment : List ℕ) → IsSound log.versions → Knows server log → position (is_child client parent) server.versions.entries.items ≡ Some n → get_or server.versions.entries.items n e ≡ e
       → IsAnswerByMemory server log (Child client parent) ids ids (responses.Child e.id parent segment)
   found_known n e segment sound known place here =
       let d : Accepted = record { client = client; version = record { id = parent; parent = parent; segment = segment } } in
       let at = position-Some (is_child client parent) server.versions.entries.items n e place in
-      let lt : n < length log = let long = ap length known ∙ length-map log entry_of in let k = at.0 in omega (arith, long, k) in
-      child_known (responses.Child e.id parent segment) known (ap without_segment (found_response client parent (drawn_id ids.start) log server.versions.entries.items n e (get_or log n d).version.segment sound known place here (segment_is n d lt)))
+      let lt : n < length log.versions = let long = ap length known.entries ∙ length-map log.versions entry_of in let k = at.0 in omega (arith, long, k) in
+      child_known (responses.Child e.id parent segment) known (ap without_bytes (found_response client parent (drawn_id ids.start) log server.versions.entries.items n e (get_or log.versions n d).version.segment sound known.entries place here (segment_is n d lt)))
 
-  pub none_known : (response : Response) (last : List ℕ) → IsSound log → Knows server log → position (is_child client parent) server.versions.entries.items ≡ None → last ≡ latest (chain_of client log)
-      → response ≡ response_of (cond (same_id last parent) UpToDate Gone) → IsAnswerByMemory server log (Child client parent) ids ids response
+  pub none_known : (response : Response) (last : List ℕ) → IsSound log.versions → Knows server log → position (is_child client parent) server.versions.entries.items ≡ None → last ≡ latest (chain_of client log.versions)
+      → response ≡ says_of client parent (drawn_id ids.start) log (cond (same_id last parent) UpToDate Gone) → IsAnswerByMemory server log (Child client parent) ids ids response
   none_known response last sound known place is says =
-      child_known response known (ap without_segment (says ∙ ap (λ x. response_of (cond (same_id x parent) UpToDate Gone)) is ∙ sym (none_response client parent (drawn_id ids.start) log server.versions.entries.items sound known place)))
+      child_known response known (ap without_bytes (says ∙ ap (λ x. says_of client parent (drawn_id ids.start) log (cond (same_id x parent) UpToDate Gone)) is ∙ sym (none_response client parent (drawn_id ids.start) log server.versions.entries.items sound known.entries place)))
 
--- ---- its segment
+-- ---- a request for the stored snapshot
 
-pub segment_there : {D : Type 0} (m : DiskModel D) (server : Server) (disk : D) (n : ℕ) (body bytes segment : List ℕ) → (Tells m disk → HasBody server.journal (m.seen disk) n body) → bytes ≡ body → 49 ≤ length bytes → segment ≡ take (length bytes - 49) (drop 49 bytes)
-    → Tells m disk → IsSegmentIn server (m.seen disk) n segment
-segment_there m server disk n body bytes segment has same long is tells = record {
+module _ (client : List ℕ) (server : Server) (log : Log) (ids : IdWords) where
+  fetch_known : (response : Response) → Knows server log → without_bytes response ≡ without_bytes (response_at log (Snapshot client) (drawn_id ids.start)) → IsAnswerByMemory server log (Snapshot client) ids ids response
+  fetch_known response known says = record {
+    says = says;
+    drawn = record { start = refl; step = refl };
+    knows = subst (Knows server) (sym (reads_only log)) known;
+  }
+
+  fetched_by : (o : Option Stored_snapshot) (v bytes : List ℕ) → Some v ≡ option_map (λ (s : Stored_snapshot). s.version) o → responses.Snapshot v [] ≡ without_bytes (response_of (offered o))
+  fetched_by None v bytes e = absurd (let no : ⊥ = cc in no)
+  fetched_by (Some s) v bytes e = let same : v ≡ s.version = cc in ap (λ x. responses.Snapshot x []) same
+
+  absent_by : (o : Option Stored_snapshot) → None ≡ option_map (λ (s : Stored_snapshot). s.version) o → responses.UpToDate ≡ without_bytes (response_of (offered o))
+  absent_by None e = refl
+  absent_by (Some s) e = absurd (let no : ⊥ = cc in no)
+
+  pub fetched_known : (p : Placed) (bytes : List ℕ) → Knows server log → image_at server.images client ≡ Some p → IsAnswerByMemory server log (Snapshot client) ids ids (responses.Snapshot p.version bytes)
+  fetched_known p bytes known stored =
+      fetch_known (responses.Snapshot p.version bytes) known (fetched_by (account_of client log).stored p.version bytes (ap (option_map (λ (q : Placed). q.version)) (sym stored) ∙ known.images client))
+
+  pub absent_known : Knows server log → image_at server.images client ≡ None → IsAnswerByMemory server log (Snapshot client) ids ids responses.UpToDate
+  absent_known known none = fetch_known responses.UpToDate known (absent_by (account_of client log).stored (ap (option_map (λ (q : Placed). q.version)) (sym none) ∙ known.images client))
+
+-- ---- the bytes
+
+pub rest_there : {D : Type 0} (m : DiskModel D) (server : Server) (disk : D) (n from : ℕ) (body bytes rest : List ℕ) → (Tells m disk → HasBody server.journal (m.seen disk) n body) → bytes ≡ body → from ≤ length bytes → rest ≡ take (length bytes - from) (drop from bytes)
+    → Tells m disk → IsRestIn server (m.seen disk) n from rest
+rest_there m server disk n from body bytes rest has same long is tells = record {
   body = body;
   stands = has tells;
   long = omega (arith, long, ap length same);
-  is = is ∙ take_rest bytes 49 ∙ ap (drop 49) same;
+  is = is ∙ take_rest bytes from ∙ ap (drop from) same;
 }
 
--- a body that has no room for what comes before a segment has no part there
-pub never_part : {D : Type 0} (m : DiskModel D) (server : Server) (old mid : D) (n : ℕ) (body part : List ℕ) → Untouched m old mid → (Tells m old → HasBody server.journal (m.seen old) n body) → length body < 49 → (Tells m mid → HasPart server.journal (m.seen mid) n 49 part)
+-- what comes after the end of a body is nothing
+pub nothing_after : (body part : List ℕ) (from : ℕ) → length body < from → part ≡ take 0 (drop from body) → part ≡ drop from body
+nothing_after body part from short is = is ∙ nil (drop from body) (length-drop from body)
+  where
+    nil : (xs : List ℕ) → length xs ≡ length body - from → take 0 xs ≡ xs
+    nil [] long = refl
+    nil (x ∷ xs) long = absurd (omega (arith, long, short))
+
+-- a body that is too short has no part there
+pub never_part : {D : Type 0} (m : DiskModel D) (server : Server) (old mid : D) (n from : ℕ) (body part : List ℕ) → Untouched m old mid → (Tells m old → HasBody server.journal (m.seen old) n body) → length body < from → (Tells m mid → HasPart server.journal (m.seen mid) n from part)
     → Tells m old → ⊥
-never_part m server old mid n body part same has few other tells =
+never_part m server old mid n from body part same has few other tells =
     let one = has tells in
-    let two = subst (λ file. HasPart server.journal file n 49 part) (same.seen tells) (other (same.kept.tells ∙ tells)) in
+    let two = subst (λ file. HasPart server.journal file n from part) (same.seen tells) (other (same.kept.tells ∙ tells)) in
     let size = (one_place server.journal.start server.journal.offsets.items n (m.seen old) one.at (length body) two.at two.size one.stands two.stands).1 in
     omega (arith, few, size, two.inside)

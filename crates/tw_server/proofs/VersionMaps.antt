@@ -1,6 +1,6 @@
 -- What the maps of the versions say, as versions are added.
-use Rattle.std.proofs.Common.{◌≡◌, ◌⊎◌, inl, inr, ◌∙◌, ℕ, ◌+◌, ◌<◌, ◌≤◌, Bool, true, false, not, cond, ◌&&◌, ◌||◌, if◌then◌else◌, Option, Some, None, is_some, unwrap_or, List, [], ◌∷◌, ◌++◌, length, refl, sym, ap, arith, nat_lt}
-use Rattle.std.specs.List.{list_any, position, position_or_len}
+use Rattle.std.proofs.Common.{◌≡◌, ◌⊎◌, inl, inr, ◌∙◌, ℕ, suc, ◌+◌, ◌<◌, ◌≤◌, Bool, true, false, not, cond, ◌&&◌, if◌then◌else◌, Option, Some, None, option_map, is_some, unwrap_or, List, [], ◌∷◌, ◌++◌, length, refl, sym, ap, arith, nat_lt}
+use Rattle.std.specs.List.{position, position_or_len}
 use lib.Dec.{eqb}
 use Rattle.std.proofs.lemmas.Bool.{cases_eq}
 use Rattle.std.specs.Cmp.{both_tied}
@@ -10,12 +10,13 @@ use Rattle.std.specs.declared.cmp.Ordering.{Ordering}
 use Rattle.std.specs.declared.cmp.Ordering.TheVariants.{Less, Equal, Greater}
 use Rattle.std.proofs.lemmas.Bool.Decides.{nat_tests}
 use Rattle.std.proofs.lemmas.List.{length-append}
-use Rattle.std.proofs.lemmas.List.Folds.{list_any-append, position_or_len_push}
+use Rattle.std.proofs.lemmas.List.Folds.{position_or_len_push}
 use Rattle.std.proofs.lemmas.List.Sums.{prefix_len-le-length}
 use Rattle.std.proofs.lemmas.Map.Lookups.{CmpEqualImpliesEq, exact_bytes, exact_pairs}
 use Rattle.tw_protocol.specs.Chain.{same_id}
+use Rattle.tw_protocol.proofs.Chains.{same_id_exact}
 use Rattle.tw_records.specs.declared.entry.Entry.{Entry}
-use Rattle.tw_server.specs.Versions.{latest_in, has_that_id, is_child, uuid_cmp, pair_cmp, first_of}
+use Rattle.tw_server.specs.Versions.{latest_in, ids_of, place_of, place_in, is_child, uuid_cmp, pair_cmp, first_of}
 
 pub exact_uuids : CmpEqualImpliesEq uuid_cmp
 exact_uuids = exact_bytes
@@ -54,16 +55,83 @@ latest_more client h known es e is = ap (cond (is_eq (uuid_cmp e.client client))
 keys_tied : (a b : List ℕ × List ℕ) → (same_id a.0 b.0 && same_id a.1 b.1) ≡ is_eq (pair_cmp a b)
 keys_tied a b = both_tied (same_id a.0 b.0) (same_id a.1 b.1) (uuid_cmp a.0 b.0) (uuid_cmp a.1 b.1) (texts_ties a.0 b.0) (texts_ties a.1 b.1)
 
--- whether an id is held, after one more version
-pub ids_more : (client id : List ℕ) (known : Bool) (es : List Entry) (e : Entry) → known ≡ list_any (has_that_id client id) es → cond (is_eq (pair_cmp (e.client, e.id) (client, id))) true known ≡ list_any (has_that_id client id) (es ++ e ∷ [])
-ids_more client id known es e is =
-    ap (λ t. cond t true known) (sym (keys_tied (e.client, e.id) (client, id))) ∙ by (has_that_id client id e) known ∙ ap (λ t. t || (has_that_id client id e || false)) is ∙ sym (list_any-append (has_that_id client id) es (e ∷ []))
+-- ---- the ids of a client, after one more version
+
+ids_push : (client : List ℕ) (es : List Entry) (e : Entry) → ids_of client (es ++ e ∷ []) ≡ cond (same_id e.client client) (ids_of client es ++ e.id ∷ []) (ids_of client es)
+ids_push client [] e = refl
+ids_push client (x ∷ es) e = by (same_id x.client client) (same_id e.client client) (ids_push client es e)
   where
-    by : (t u : Bool) → cond t true u ≡ (u || (t || false))
-    by true true = refl
-    by true false = refl
-    by false true = refl
-    by false false = refl
+    by : (t u : Bool) → ids_of client (es ++ e ∷ []) ≡ cond u (ids_of client es ++ e.id ∷ []) (ids_of client es)
+        → (if t then x.id ∷ ids_of client (es ++ e ∷ []) else ids_of client (es ++ e ∷ []))
+        ≡ cond u ((if t then x.id ∷ ids_of client es else ids_of client es) ++ e.id ∷ []) (if t then x.id ∷ ids_of client es else ids_of client es)
+    by true true rest = ap (λ l. x.id ∷ l) rest
+    by true false rest = ap (λ l. x.id ∷ l) rest
+    by false true rest = rest
+    by false false rest = rest
+
+place_push : (id y : List ℕ) (xs : List (List ℕ)) → place_of id (xs ++ y ∷ []) ≡ cond (same_id y id) (first_of (place_of id xs) (length xs)) (place_of id xs)
+place_push id y [] = refl
+place_push id y (x ∷ xs) = by (same_id x id) (same_id y id) (place_of id xs) (place_of id (xs ++ y ∷ [])) (place_push id y xs)
+  where
+    by : (t u : Bool) (o p : Option ℕ) → p ≡ cond u (first_of o (length xs)) o
+        → cond t (Some 0) (option_map suc p) ≡ cond u (first_of (cond t (Some 0) (option_map suc o)) (suc (length xs))) (cond t (Some 0) (option_map suc o))
+    by true true o p e = refl
+    by true false o p e = refl
+    by false true None p e = ap (option_map suc) e
+    by false true (Some k) p e = ap (option_map suc) e
+    by false false o p e = ap (option_map suc) e
+
+module _ (client : List ℕ) (es : List Entry) (e : Entry) where
+  ids_same : same_id e.client client ≡ true → ids_of client (es ++ e ∷ []) ≡ ids_of client es ++ e.id ∷ []
+  ids_same same = ids_push client es e ∙ ap (λ b. cond b (ids_of client es ++ e.id ∷ []) (ids_of client es)) same
+
+  ids_other : same_id e.client client ≡ false → ids_of client (es ++ e ∷ []) ≡ ids_of client es
+  ids_other other = ids_push client es e ∙ ap (λ b. cond b (ids_of client es ++ e.id ∷ []) (ids_of client es)) other
+
+  -- how many versions a client has
+  pub counts_more : (known n : ℕ) → known ≡ length (ids_of client es) → n ≡ length (ids_of e.client es) → cond (is_eq (uuid_cmp e.client client)) (n + 1) known ≡ length (ids_of client (es ++ e ∷ []))
+  counts_more known n is at = by (same_id e.client client) refl
+    where
+      by : (t : Bool) → same_id e.client client ≡ t → cond (is_eq (uuid_cmp e.client client)) (n + 1) known ≡ length (ids_of client (es ++ e ∷ []))
+      by true same =
+          ap (λ b. cond b (n + 1) known) (sym (texts_ties e.client client) ∙ same)
+          ∙ ap (λ k. k + 1) (at ∙ ap (λ c. length (ids_of c es)) (same_id_exact e.client client same))
+          ∙ sym (ap length (ids_same same) ∙ length-append (ids_of client es) (e.id ∷ []))
+      by false other = ap (λ b. cond b (n + 1) known) (sym (texts_ties e.client client) ∙ other) ∙ is ∙ sym (ap length (ids_other other))
+
+  -- the place of an id
+  pub places_more : (id : List ℕ) (here known : Option ℕ) (n : ℕ) → here ≡ place_in e.client e.id es → known ≡ place_in client id es → n ≡ length (ids_of e.client es)
+      → cond (is_eq (pair_cmp (e.client, e.id) (client, id))) (first_of here n) known ≡ place_in client id (es ++ e ∷ [])
+  places_more id here known n at is count = by (same_id e.client client) (same_id e.id id) refl refl
+    where
+      tied : (same_id e.client client && same_id e.id id) ≡ is_eq (pair_cmp (e.client, e.id) (client, id))
+      tied = keys_tied (e.client, e.id) (client, id)
+
+      after : same_id e.client client ≡ true → place_in client id (es ++ e ∷ []) ≡ cond (same_id e.id id) (first_of (place_in client id es) (length (ids_of client es))) (place_in client id es)
+      after same = ap (place_of id) (ids_same same) ∙ place_push id e.id (ids_of client es)
+
+      by : (t u : Bool) → same_id e.client client ≡ t → same_id e.id id ≡ u → cond (is_eq (pair_cmp (e.client, e.id) (client, id))) (first_of here n) known ≡ place_in client id (es ++ e ∷ [])
+      by true true a b =
+          let c = same_id_exact e.client client a in
+          let d = same_id_exact e.id id b in
+          ap (λ x. cond x (first_of here n) known) (sym tied ∙ (λ i. a i && b i))
+          ∙ (λ i. first_of ((at ∙ (λ j. place_in (c j) (d j) es)) i) ((count ∙ ap (λ k. length (ids_of k es)) c) i))
+          ∙ sym (after a ∙ ap (λ x. cond x (first_of (place_in client id es) (length (ids_of client es))) (place_in client id es)) b)
+      by true false a b =
+          ap (λ x. cond x (first_of here n) known) (sym tied ∙ (λ i. a i && b i)) ∙ is
+          ∙ sym (after a ∙ ap (λ x. cond x (first_of (place_in client id es) (length (ids_of client es))) (place_in client id es)) b)
+      by false u a b = ap (λ x. cond x (first_of here n) known) (sym tied ∙ ap (λ x. x && same_id e.id id) a) ∙ is ∙ sym (ap (place_of id) (ids_other a))
+
+-- no client has more versions than there are
+pub ids_few : (client : List ℕ) (es : List Entry) → length (ids_of client es) ≤ length es
+ids_few client [] = omega arith
+ids_few client (e ∷ es) = by (same_id e.client client) (ids_few client es)
+  where
+    by : (t : Bool) → length (ids_of client es) ≤ length es → length (if t then e.id ∷ ids_of client es else ids_of client es) ≤ length (e ∷ es)
+    by true few = omega (arith, few)
+    by false few = omega (arith, few)
+
+-- ---- the child of a parent
 
 place_by : (k n m l : ℕ) (t : Bool) → k ≤ n → m ≡ cond (eqb k n) (n + cond t 0 1) k → l ≡ n + 1
     → cond (nat_lt m l) (Some m) None ≡ cond t (first_of (cond (nat_lt k n) (Some k) None) n) (cond (nat_lt k n) (Some k) None)

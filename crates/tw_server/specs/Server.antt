@@ -1,5 +1,6 @@
 -- A server on its disk, and why it refuses.
-use Rattle.std.specs.Prelude.{◌≡◌, ◌⊎◌, ℕ, ◌+◌, ◌%◌, ◌<◌, ◌^◌, Bool, true, false, List, [], ◌++◌, codes, length, take, drop, slice_index_or, map, if◌then◌else◌}
+use Rattle.std.specs.Prelude.{◌≡◌, ◌⊎◌, ℕ, ◌+◌, ◌%◌, ◌<◌, ◌≤◌, ◌^◌, Bool, true, false, List, [], codes, length, take, drop, map}
+use Rattle.std.specs.Prelude.{if◌then◌else◌, Option, Some, None, option_map, Contains, slice_index_or}
 use Rattle.tw_world.specs.Disk.{DiskModel, Tells, LeavesOnly, Rose}
 use Rattle.tw_journal.specs.Journal.{IsOpenOn, IsOnWay, IsSameBesideRoom, is_closed as is_journal_closed, journal_end}
 use Rattle.tw_journal.specs.Form.{offset_in}
@@ -7,43 +8,73 @@ use Rattle.tw_journal.specs.Reading.{IsNoRecord, IsSizeAt}
 use Rattle.tw_journal.specs.Record.{IsLongerBy}
 use Rattle.tw_journal.specs.Open.{Records, IsDamagedAt}
 use Rattle.tw_server.specs.declared.server.Server.{Server}
+use Rattle.tw_server.specs.declared.images.Placed.{Placed}
 use Rattle.tw_server.specs.declared.error.ServerOpenError.{ServerOpenError}
 use Rattle.tw_server.specs.declared.error.ServerOpenError.TheVariants as opening
 use Rattle.tw_server.specs.declared.error.AnswerError.{AnswerError}
 use Rattle.tw_server.specs.declared.error.AnswerError.TheVariants as answer
 use Rattle.tw_protocol.specs.Answer.{accepts}
+use Rattle.tw_protocol.specs.Snapshots.{Snapshot, IsAccount}
 use Rattle.tw_world.specs.declared.ids.IdWords.{IdWords}
 use Rattle.tw_world.specs.Ids.{id_bytes}
 use Rattle.tw_http.specs.declared.message.Request.{Request}
-use Rattle.tw_http.specs.declared.message.Request.TheVariants.{Add, Child}
+use Rattle.tw_http.specs.declared.message.Request.TheVariants.{Add, Child, AddSnapshot}
+use Rattle.tw_http.specs.declared.message.Request.TheVariants as asks
 use Rattle.tw_http.specs.declared.message.Response.{Response}
 use Rattle.tw_http.specs.declared.message.Response.TheVariants as responses
 use Rattle.tw_http.specs.declared.message.Asked.{Asked}
+use Rattle.tw_http.specs.declared.message.Asked.TheVariants as kinds
 use Rattle.tw_http.specs.Responses.{answers}
-use Rattle.tw_records.specs.Log.{Accepted, IsSound, chain_of}
-use Rattle.tw_records.specs.Bodies.{entry_of, is_body, follows}
-use Rattle.tw_server.specs.Log.{bodies_of, added, response_at}
+use Rattle.tw_records.specs.Log.{ClientSnapshot, Log, IsSound, chain_of, account_of}
+use Rattle.tw_records.specs.Bodies.{body_of, entry_of, is_body, snapshot_body}
+use Rattle.tw_records.specs.Reading.{Reading, nothing_read, read_body, read_from, StandFor}
+use Rattle.tw_records.specs.Table.{body_at}
+use Rattle.tw_server.specs.Log.{log_after, response_at}
+use Rattle.tw_server.specs.Versions.{image_at}
 
 abbrev pub magic : List ℕ
 magic = codes "TWSERV01"
 
--- the disk holds the records of these versions and no others, each client's are a chain, and the server knows them
-pub record IsServerOn {D : Type 0} (m : DiskModel D) (server : Server) (disk : D) (log : List Accepted) : Type 0 where
-  pub journal : IsOpenOn m magic server.journal disk (bodies_of log)
-  pub entries : server.versions.entries.items ≡ map entry_of log
-  pub sound : IsSound log
+-- ---- what a server knows
 
--- whichever versions a server has on its disk
-abbrev pub OnLog : {D : Type 0} → DiskModel D → Server → D → (List Accepted → Type 0) → Type 0
-OnLog m server disk P = (log : List Accepted) → IsServerOn m server disk log → P log
+-- the version of a stored snapshot
+abbrev pub version_at : Server → List ℕ → Option (List ℕ)
+version_at server client = option_map (λ (p : Placed). p.version) (image_at server.images client)
 
--- this is the response to a request at those versions, whatever id would be drawn
-abbrev pub RespondsAt : List Accepted → Request → Response → Type 0
+-- the server knows the versions of this log, and of each client the version of the stored snapshot
+pub record Knows (server : Server) (log : Log) : Type 0 where
+  pub entries : server.versions.entries.items ≡ map entry_of log.versions
+  pub images : (client : List ℕ) → version_at server client ≡ option_map (λ (s : Snapshot). s.version) (account_of client log).stored
+
+abbrev pub snapshot_of : List ℕ → Snapshot → ClientSnapshot
+snapshot_of client s = record { client = client; snapshot = s }
+
+-- the body of the record of a client's stored snapshot, among these
+abbrev pub image_body : List (List ℕ) → Server → List ℕ → Option (List ℕ)
+image_body bodies server client = option_map (λ (p : Placed). body_at bodies p.number) (image_at server.images client)
+
+-- and it knows where their records are among these bodies
+pub record HasPlaces (server : Server) (bodies : List (List ℕ)) (log : Log) : Type 0 where
+  pub knows : Knows server log
+  pub numbers : map (body_at bodies) server.versions.numbers.items ≡ map body_of log.versions
+  pub images : (client : List ℕ) → image_body bodies server client ≡ option_map (λ s. snapshot_body (snapshot_of client s)) (account_of client log).stored
+  pub sound : IsSound log.versions
+  pub accounts : (client : List ℕ) → IsAccount (account_of client log)
+
+-- the disk holds records that stand for this log, and the server knows it and where its records are
+pub record IsServerOn {D : Type 0} (m : DiskModel D) (server : Server) (disk : D) (log : Log) : Type 0 where
+  pub bodies : List (List ℕ)
+  pub journal : IsOpenOn m magic server.journal disk bodies
+  pub stands : StandFor bodies log
+  pub places : HasPlaces server bodies log
+
+-- whichever log a server has on its disk
+abbrev pub OnLog : {D : Type 0} → DiskModel D → Server → D → (Log → Type 0) → Type 0
+OnLog m server disk P = (log : Log) → IsServerOn m server disk log → P log
+
+-- this is the response to a request of that log, whatever id would be drawn
+abbrev pub RespondsAt : Log → Request → Response → Type 0
 RespondsAt log request response = (id : List ℕ) → response ≡ response_at log request id
-
--- the server knows these versions
-abbrev pub Knows : Server → List Accepted → Type 0
-Knows server log = server.versions.entries.items ≡ map entry_of log
 
 -- whether a fault of the disk has closed it
 abbrev pub is_closed : Server → Bool
@@ -53,22 +84,28 @@ is_closed server = is_journal_closed server.journal
 abbrev pub server_end : Server → ℕ
 server_end server = journal_end server.journal
 
--- the file has the records of these versions, or of these and more
-abbrev pub LogOrMore : List Accepted → List Accepted → List ℕ → Type 0
-LogOrMore log more file = Records magic file (bodies_of log) ⊎ Records magic file (bodies_of (log ++ more))
+-- the file has records that stand for a log
+abbrev pub HoldsLog : Log → List ℕ → Type 0
+HoldsLog log file = (bodies : List (List ℕ)) × Records magic file bodies × StandFor bodies log
 
--- a crash leaves the versions that the server has, or these and more
-abbrev pub LeavesLog : {D : Type 0} → DiskModel D → Server → (before after : D) → (more : List Accepted → List Accepted) → Type 0
-LeavesLog m server before after more = OnLog m server before (λ log. LeavesOnly m before after (LogOrMore log (more log)))
+-- it has those of one log, or of another
+abbrev pub LogOrAfter : (log after : Log) → List ℕ → Type 0
+LogOrAfter log after file = HoldsLog log file ⊎ HoldsLog after file
+
+-- a crash leaves the log that the server has, or what becomes of it
+abbrev pub LeavesLog : {D : Type 0} → DiskModel D → Server → (before after : D) → (Log → Log) → Type 0
+LeavesLog m server before after change = OnLog m server before (λ log. LeavesOnly m before after (LogOrAfter log (change log)))
 
 -- a crash leaves an image that is longer by at most so many bytes
 abbrev pub GrowsLogBy : {D : Type 0} → DiskModel D → Server → (before after : D) → (bytes : ℕ) → Type 0
 GrowsLogBy m server before after bytes = OnLog m server before (λ log. LeavesOnly m before after (IsLongerBy m before bytes))
 
 -- whether a request is an accepted add-version
-abbrev pub is_accepted : List Accepted → Request → Bool
-is_accepted log (Add client parent segment) = accepts (chain_of client log) parent
+abbrev pub is_accepted : Log → Request → Bool
+is_accepted log (Add client parent segment) = accepts (chain_of client log.versions) parent
 is_accepted log (Child client parent) = false
+is_accepted log (AddSnapshot client version bytes) = false
+is_accepted log (asks.Snapshot client) = false
 
 -- the id that is drawn from ids that start here
 unfoldable pub drawn_id : ℕ → List ℕ
@@ -79,36 +116,63 @@ pub record IsDrawn (accepted : Bool) (old new : IdWords) : Type 0 where
   pub start : new.start ≡ (if accepted then (old.start + old.step) % 2 ^ 128 else old.start)
   pub step : new.step ≡ old.step
 
--- whether a response says that the bytes are no request
-abbrev pub is_refusal : Response → Bool
-is_refusal (responses.Added id) = false
-is_refusal (responses.Conflict latest) = false
-is_refusal (responses.Child id parent segment) = false
-is_refusal responses.UpToDate = false
-is_refusal responses.Gone = false
-is_refusal responses.Bad = true
-is_refusal responses.TooLong = true
-is_refusal responses.Taken = false
+-- whether Bad says of a request of this kind that the bytes are no request; of an add-snapshot it says that the snapshot may not be stored
+abbrev pub is_bad_refusal : Asked → Bool
+is_bad_refusal kinds.Add = true
+is_bad_refusal kinds.Child = true
+is_bad_refusal kinds.AddSnapshot = false
+is_bad_refusal kinds.Snapshot = true
+
+-- whether a response to a request of this kind says that the bytes are no request
+abbrev pub is_refusal : Asked → Response → Bool
+is_refusal asked (responses.Added id wanted) = false
+is_refusal asked (responses.Conflict latest) = false
+is_refusal asked (responses.Child id parent segment) = false
+is_refusal asked responses.UpToDate = false
+is_refusal asked responses.Gone = false
+is_refusal asked responses.Bad = is_bad_refusal asked
+is_refusal asked responses.TooLong = true
+is_refusal asked responses.Taken = false
+is_refusal asked responses.Stored = false
+is_refusal asked (responses.Snapshot version bytes) = false
 
 -- a response to a request of this kind, and no refusal
 abbrev pub Replies : Asked → Response → Type 0
-Replies asked response = (answers asked response ≡ true) × (is_refusal response ≡ false)
+Replies asked response = (answers asked response ≡ true) × (is_refusal asked response ≡ false)
 
--- the most bytes that a request adds: a gate, a length, a kind, three uuids and the segment
+-- the most bytes that a request adds: a gate, a length, a kind, the uuids, and the segment or the snapshot
 abbrev pub most_added : Request → ℕ
 most_added (Add client parent segment) = length segment + 54
 most_added (Child client parent) = 0
+most_added (AddSnapshot client version bytes) = length bytes + 38
+most_added (asks.Snapshot client) = 0
 
 module _ {D : Type 0} (m : DiskModel D) (server : Server) (disk : D) where
   -- a request was answered: the response to it, the log that the disk holds now, and the ids that are left
-  pub record IsAnswer (log : List Accepted) (request : Request) (old new : IdWords) (response : Response) : Type 0 where
+  pub record IsAnswer (log : Log) (request : Request) (old new : IdWords) (response : Response) : Type 0 where
     pub says : response ≡ response_at log request (drawn_id old.start)
-    pub holds : IsServerOn m server disk (log ++ added log request (drawn_id old.start))
+    pub holds : IsServerOn m server disk (log_after log request (drawn_id old.start))
     pub drawn : IsDrawn (is_accepted log request) old new
 
--- whichever versions the server had, the request was answered so
+-- whichever log the server had, the request was answered so
 abbrev pub IsAnswered : {D : Type 0} → DiskModel D → (old new : Server) (before after : D) → Request → (ids ids_now : IdWords) → Response → Type 0
 IsAnswered m old new before after request ids ids_now response = OnLog m old before (λ log. IsAnswer m new after log request ids ids_now response)
+
+-- it was answered so whatever the ids are, and they stay
+abbrev pub IsAnsweredUndrawn : {D : Type 0} → DiskModel D → (old new : Server) (before after : D) → Request → Response → Type 0
+IsAnsweredUndrawn m old new before after request response = (ids : IdWords) → IsAnswered m old new before after request ids ids response
+
+-- ---- damage
+
+-- the record of a version, or of a stored snapshot
+abbrev pub HasNumber : Server → ℕ → Type 0
+HasNumber server n =
+    Contains server.versions.numbers.items n
+    ⊎ ((client : List ℕ) × (p : Placed) × (image_at server.images client ≡ Some p) × (p.number ≡ n))
+
+-- whatever log the server has on the disk, the body of the record with this number has at least so many bytes
+abbrev pub IsLongBody : {D : Type 0} → DiskModel D → Server → D → (n bytes : ℕ) → Type 0
+IsLongBody m server disk n bytes = (log : Log) (on : IsServerOn m server disk log) → bytes ≤ length (body_at on.bodies n)
 
 -- the body, of so many bytes, of a record at this offset
 abbrev pub sized_body : (file : List ℕ) (offset size : ℕ) → List ℕ
@@ -118,11 +182,11 @@ sized_body file offset size = take size (drop 5 (drop offset file))
 abbrev pub IsNoVersionAt : List ℕ → ℕ → Type 0
 IsNoVersionAt file offset = IsNoRecord (drop offset file) ⊎ ((size : ℕ) × IsSizeAt (drop offset file) size × (is_body (sized_body file offset size) ≡ false))
 
--- damage was found at this offset of a disk, on the way to the record of a version, so that the server has no versions on it
+-- damage was found at this offset of a disk, on the way to the record of a version or of a snapshot, so that the server has no log on it
 pub record IsDamage {D : Type 0} (m : DiskModel D) (server : Server) (disk : D) (offset : ℕ) : Type 0 where
   pub at : Tells m disk → IsNoVersionAt (m.seen disk) offset
-  pub way : Tells m disk → (n : ℕ) × (n < length server.versions.entries.items) × IsOnWay server.journal (m.seen disk) n offset
-  pub never : Tells m disk → (log : List Accepted) → IsServerOn m server disk log → ⊥
+  pub way : Tells m disk → (n : ℕ) × HasNumber server n × IsOnWay server.journal (m.seen disk) n offset
+  pub never : Tells m disk → (log : Log) → IsServerOn m server disk log → ⊥
 
 -- why a request is not answered
 abbrev pub AnswerRefused : {D : Type 0} → DiskModel D → (old new : Server) (before after : D) → AnswerError → Type 0
@@ -134,40 +198,38 @@ AnswerRefused m old new before after answer.Memory = IsSameBesideRoom old.journa
 
 -- ---- an opening
 
--- the server knows the versions of the first so many bodies
-pub record IsReadTo (server : Server) (bodies : List (List ℕ)) (n : ℕ) : Type 0 where
-  pub log : List Accepted
-  pub entries : server.versions.entries.items ≡ map entry_of log
-  pub same : bodies_of log ≡ take n bodies
-  pub sound : IsSound log
+-- the server knows the log of the first so many bodies, and so many of its versions come after the last block
+pub record IsReadTo (server : Server) (bodies : List (List ℕ)) (n fresh : ℕ) : Type 0 where
+  pub log : Log
+  pub read : read_from nothing_read (take n bodies) ≡ Some (record { log = log; fresh = fresh })
+  pub places : HasPlaces server bodies log
 
 -- whichever bodies its journal has on a disk, of which the server knows the first so many
-abbrev pub OnRead : {D : Type 0} → DiskModel D → Server → D → (n : ℕ) → (List (List ℕ) → Type 0) → Type 0
-OnRead m server disk n P = (bodies : List (List ℕ)) → IsOpenOn m magic server.journal disk bodies → IsReadTo server bodies n → P bodies
+abbrev pub OnRead : {D : Type 0} → DiskModel D → Server → D → (n fresh : ℕ) → (List (List ℕ) → Type 0) → Type 0
+OnRead m server disk n fresh P = (bodies : List (List ℕ)) → IsOpenOn m magic server.journal disk bodies → IsReadTo server bodies n fresh → P bodies
 
--- the file had the records of these versions, and the server is open on them
+-- the file had records that stand for a log, and the server is open on them
 pub record IsOpenedOn {D : Type 0} (m : DiskModel D) (before after : D) (server : Server) : Type 0 where
-  pub log : List Accepted
-  pub records : Records magic (m.seen before) (bodies_of log)
+  pub log : Log
+  pub holds : HoldsLog log (m.seen before)
   pub now : IsServerOn m server after log
 
--- of a file with these bodies the versions before this number are chains, and the body of this number may not follow them
+-- the bodies before this number stand for a log, and the body of this number may not follow them
 pub record IsBadAt (file : List ℕ) (bodies : List (List ℕ)) (n offset : ℕ) : Type 0 where
-  pub log : List Accepted
-  pub same : bodies_of log ≡ take n bodies
-  pub sound : IsSound log
+  pub reading : Reading
+  pub read : read_from nothing_read (take n bodies) ≡ Some reading
   pub inside : n < length bodies
-  pub bad : follows log (slice_index_or bodies n []) ≡ false
+  pub bad : read_body reading (slice_index_or bodies n []) ≡ None
   pub at : offset ≡ offset_in magic file bodies n
 
--- the file's records are no versions, from this offset on
+-- the file's records stand for no log, from this offset on
 pub record IsDamagedLog (file : List ℕ) (offset : ℕ) : Type 0 where
   pub bodies : List (List ℕ)
   pub records : Records magic file bodies
   pub number : ℕ
   pub bad : IsBadAt file bodies number offset
 
--- a file of another form, or one with bytes that are no record or no version, at this offset
+-- a file of another form, or one with bytes that are no record, or a record that may not follow, at this offset
 abbrev pub IsDamagedFile : List ℕ → ℕ → Type 0
 IsDamagedFile file offset = IsDamagedAt magic file offset ⊎ IsDamagedLog file offset
 

@@ -1,35 +1,36 @@
 // The answer to a request.
-ghost use Rattle.std.specs.Prelude.{◌≡◌, ◌⊎◌, ◌<◌, ◌+◌, true, false, length, List, Err, IfOk, IfErr, OnOk, OnErr};
+ghost use Rattle.std.specs.Prelude.{◌≡◌, ◌⊎◌, ◌<◌, ◌≤◌, ◌+◌, true, false, drop, length, List, ℕ, Err, IfOk, IfErr, IsSome, OnOk, OnErr};
+ghost use Rattle.std.specs.BTreeMap.{get};
 ghost use Rattle.tw_world.specs.Disk.{Tells, FaultsRise, Untouched};
+ghost use Rattle.tw_journal.specs.Journal.{IsSameBesideRoom, HasRoom as HasJournalRoom, OnBody, journal_count};
 ghost use Rattle.tw_http.specs.declared.message.Request.TheVariants as asks;
 ghost use Rattle.tw_http.specs.declared.message.Asked.TheVariants as kinds;
 ghost use Rattle.tw_http.specs.Serving.{kind_of};
 ghost use Rattle.tw_server.specs.declared.error.AnswerError.TheVariants as refused;
-ghost use Rattle.tw_records.specs.Log.{Accepted};
-ghost use Rattle.tw_server.specs.Log.{added};
+ghost use Rattle.tw_records.specs.Log.{Log};
+ghost use Rattle.tw_server.specs.Log.{log_after};
+ghost use Rattle.tw_server.specs.Room.{HasRoom};
 ghost use Rattle.tw_server.specs.Server.{Knows, drawn_id, Replies, most_added, IsServerOn, OnLog, IsAnswered, is_closed, server_end};
-ghost use Rattle.tw_server.specs.Remembered.{IsRemembered, IsRememberedChild, IsSegmentIn};
-ghost use Rattle.tw_server.specs.Server.{LeavesLog, GrowsLogBy, RespondsAt, AnswerRefused};
+ghost use Rattle.tw_server.specs.Remembered.{IsRemembered, IsRememberedUndrawn, IsRestIn};
+ghost use Rattle.tw_server.specs.Server.{LeavesLog, GrowsLogBy, IsAnsweredUndrawn, RespondsAt, AnswerRefused, HasNumber, IsLongBody};
+ghost use Rattle.tw_server.specs.Versions.{image_at, uuid_cmp};
 
 use crate::error::AnswerError;
+use crate::images::Placed;
 use crate::server::Server;
 use std::alloc::Global;
 use tw_http::{Bytes, Request, Response};
-use tw_records::{BEFORE_SEGMENT, Entry, body_of};
+use tw_records::{BEFORE_BYTES, BEFORE_SEGMENT, Entry, Image, body_of, snapshot_body};
 use tw_world::{Disk, IdWords};
 use uuid::Uuid;
 
 impl Server {
-    ghost use Rattle.tw_journal.specs.Journal.{IsSameBesideRoom};
-    ghost use Rattle.tw_server.specs.Log.{IsSegmentOf};
-    ghost use Rattle.tw_server.specs.Room.{HasRoom};
-
-    /// Answers a request of the chain of its client, as the protocol's table says, and makes an accepted version durable
-    /// first. Only an accepted add-version draws an id.
+    /// Answers a request of the account of its client, as the protocol's table says, and makes an accepted version or a
+    /// snapshot durable first. Only an accepted add-version draws an id.
     ///
-    /// A crash at any moment leaves the versions from before the call, or with the new one. A refusal leaves the ids and
-    /// what the server knows, and the versions on a server that it leaves open. After a fault of the disk in an append
-    /// the server is closed.
+    /// A crash at any moment leaves the log from before the call, or with the new version or snapshot. A refusal leaves
+    /// the ids and what the server knows, and the log on a server that it leaves open. After a fault of the disk in an
+    /// append the server is closed.
     pub fn answer<D: Disk>(
         &mut self,
         alloc: Global,
@@ -42,7 +43,7 @@ impl Server {
         ensures answered { IfOk result (IsAnswered D.model self.old self.new disk.old disk.new request.now ids.old ids.new) }
         ensures remembered { IfOk result (IsRemembered D.model self.old self.new disk.old request.now ids.old ids.new) }
         ensures kind { IfOk result (Replies (kind_of request.now)) }
-        ensures any_moment { LeavesLog D.model self.old disk.old disk.new (λ log. added log request.now (drawn_id ids.old.start)) }
+        ensures any_moment { LeavesLog D.model self.old disk.old disk.new (λ log. log_after log request.now (drawn_id ids.old.start)) }
         ensures growth { GrowsLogBy D.model self.old disk.old disk.new (most_added request.now) }
         ensures length { is_closed self.new ≡ false → D.model.len disk.new ≡ server_end self.new }
         ensures kept { FaultsRise D.model disk.old disk.new }
@@ -50,7 +51,7 @@ impl Server {
         ensures refused { IfErr result (AnswerRefused D.model self.old self.new disk.old disk.new) }
         ensures no_id { OnErr result (ids.new ≡ ids.old) }
         ensures stays { OnErr result (OnLog D.model self.old disk.old (λ log. is_closed self.new ≡ false → IsServerOn D.model self.new disk.new log)) }
-        ensures known { OnErr result ((log : List Accepted) → Knows self.old log → Knows self.new log) }
+        ensures known { OnErr result ((log : Log) → Knows self.old log → Knows self.new log) }
         ensures closed { is_closed self.old ≡ true → result ≡ Err refused.Closed }
         ensures closes { is_closed self.new ≡ true → (is_closed self.old ≡ true) ⊎ (result ≡ Err refused.Disk) }
     {
@@ -64,6 +65,12 @@ impl Server {
                 segment,
             } => self.add(alloc, disk, *client, *parent, segment.as_slice(), ids),
             Request::Child { client, parent } => self.child(alloc, disk, *client, *parent),
+            Request::AddSnapshot {
+                client,
+                version,
+                snapshot,
+            } => self.store(alloc, disk, *client, *version, snapshot.as_slice()),
+            Request::Snapshot { client } => self.fetch(alloc, disk, *client),
         }
     }
 
@@ -83,7 +90,7 @@ impl Server {
         ensures answered { IfOk result (IsAnswered D.model self.old self.new disk.old disk.new (asks.Add client parent segment.now) ids.old ids.new) }
         ensures remembered { IfOk result (IsRemembered D.model self.old self.new disk.old (asks.Add client parent segment.now) ids.old ids.new) }
         ensures kind { IfOk result (Replies kinds.Add) }
-        ensures any_moment { LeavesLog D.model self.old disk.old disk.new (λ log. added log (asks.Add client parent segment.now) (drawn_id ids.old.start)) }
+        ensures any_moment { LeavesLog D.model self.old disk.old disk.new (λ log. log_after log (asks.Add client parent segment.now) (drawn_id ids.old.start)) }
         ensures growth { GrowsLogBy D.model self.old disk.old disk.new (length segment.now + 54) }
         ensures length { is_closed self.new ≡ false → D.model.len disk.new ≡ server_end self.new }
         ensures kept { FaultsRise D.model disk.old disk.new }
@@ -91,7 +98,7 @@ impl Server {
         ensures refused { IfErr result (AnswerRefused D.model self.old self.new disk.old disk.new) }
         ensures no_id { OnErr result (ids.new ≡ ids.old) }
         ensures stays { OnErr result (OnLog D.model self.old disk.old (λ log. is_closed self.new ≡ false → IsServerOn D.model self.new disk.new log)) }
-        ensures known { OnErr result ((log : List Accepted) → Knows self.old log → Knows self.new log) }
+        ensures known { OnErr result ((log : Log) → Knows self.old log → Knows self.new log) }
         ensures closes { is_closed self.new ≡ true → result ≡ Err refused.Disk }
     {
         let latest = self.latest(client);
@@ -103,28 +110,81 @@ impl Server {
             step: ids.step,
         };
         let id = Uuid::from_bytes(drawn.next());
-        if self.versions.has_id(client, id) {
+        if self.has_id(client, id) {
             *ids = drawn;
             return Ok(Response::Taken);
         }
         let entry = Entry { client, id, parent };
         let body = body_of(alloc, &entry, segment)?;
         self.make_room(&entry)?;
+        let number = self.journal.count();
         self.journal.append(disk, body.as_slice())?;
-        self.versions.push(entry);
+        self.versions.push(entry, number);
         *ids = drawn;
-        Ok(Response::Added { id })
+        let wanted = self.is_wanted(client);
+        Ok(Response::Added { id, wanted })
     }
 
     // Makes room for a version, and in the journal for the offset of its record.
     fn make_room(&mut self, entry: &Entry) -> Result<(), AnswerError>
         ensures same { IsSameBesideRoom self.old.journal self.new.journal }
-        ensures versions { self.new.versions.entries.items ≡ self.old.versions.entries.items }
+        ensures entries { self.new.versions.entries.items ≡ self.old.versions.entries.items }
+        ensures numbers { self.new.versions.numbers.items ≡ self.old.versions.numbers.items }
+        ensures images { self.new.images ≡ self.old.images }
         ensures room { OnOk result (HasRoom self.new.versions entry.now) }
         ensures refused { IfErr result (λ e. e ≡ refused.Memory) }
     {
         self.journal.make_room()?;
         self.versions.make_room(entry)?;
+        Ok(())
+    }
+
+    // Stores a snapshot, if its version is not before that of the one that is stored.
+    fn store<D: Disk>(
+        &mut self,
+        alloc: Global,
+        disk: &mut D,
+        client: Uuid,
+        version: Uuid,
+        bytes: &[u8],
+    ) -> Result<Response, AnswerError>
+        requires open { is_closed self.old ≡ false }
+        requires length { D.model.len disk.old ≡ server_end self.old }
+
+        ensures answered { IfOk result (IsAnsweredUndrawn D.model self.old self.new disk.old disk.new (asks.AddSnapshot client version bytes.now)) }
+        ensures remembered { IfOk result (IsRememberedUndrawn D.model self.old self.new disk.old (asks.AddSnapshot client version bytes.now)) }
+        ensures kind { IfOk result (Replies kinds.AddSnapshot) }
+        ensures any_moment { (id : List ℕ) → LeavesLog D.model self.old disk.old disk.new (λ log. log_after log (asks.AddSnapshot client version bytes.now) id) }
+        ensures growth { GrowsLogBy D.model self.old disk.old disk.new (length bytes.now + 38) }
+        ensures length { is_closed self.new ≡ false → D.model.len disk.new ≡ server_end self.new }
+        ensures kept { FaultsRise D.model disk.old disk.new }
+
+        ensures refused { IfErr result (AnswerRefused D.model self.old self.new disk.old disk.new) }
+        ensures stays { OnErr result (OnLog D.model self.old disk.old (λ log. is_closed self.new ≡ false → IsServerOn D.model self.new disk.new log)) }
+        ensures known { OnErr result ((log : Log) → Knows self.old log → Knows self.new log) }
+        ensures closes { is_closed self.new ≡ true → result ≡ Err refused.Disk }
+    {
+        if !self.is_welcome(client, version) {
+            return Ok(Response::Bad);
+        }
+        let body = snapshot_body(alloc, &Image { client, version }, bytes)?;
+        self.make_image_room(client)?;
+        let number = self.journal.count();
+        self.journal.append(disk, body.as_slice())?;
+        self.images.put(client, Placed { version, number });
+        Ok(Response::Stored)
+    }
+
+    // Makes room for a snapshot, and in the journal for the offset of its record.
+    fn make_image_room(&mut self, client: Uuid) -> Result<(), AnswerError>
+        ensures same { IsSameBesideRoom self.old.journal self.new.journal }
+        ensures versions { self.new.versions ≡ self.old.versions }
+        ensures images { (q : List ℕ) → image_at self.new.images q ≡ image_at self.old.images q }
+        ensures room { OnOk result (IsSome (get uuid_cmp self.new.images.map client)) }
+        ensures refused { IfErr result (λ e. e ≡ refused.Memory) }
+    {
+        self.journal.make_room()?;
+        self.images.make_room(client)?;
         Ok(())
     }
 
@@ -140,7 +200,7 @@ impl Server {
         requires length { D.model.len disk.old ≡ server_end self.now }
 
         ensures says { IfOk result (λ response. OnLog D.model self.now disk.old (λ log. RespondsAt log (asks.Child client parent) response)) }
-        ensures remembered { IfOk result (IsRememberedChild D.model self.now disk.old (asks.Child client parent)) }
+        ensures remembered { IfOk result (IsRememberedUndrawn D.model self.now self.now disk.old (asks.Child client parent)) }
         ensures kind { IfOk result (Replies kinds.Child) }
         ensures untouched { Untouched D.model disk.old disk.new }
         ensures refused { IfErr result (AnswerRefused D.model self.now self.now disk.old disk.new) }
@@ -148,7 +208,8 @@ impl Server {
         match self.versions.child(client, parent) {
             Some(n) => {
                 let id = self.versions.entries[n].id;
-                let segment = self.segment(alloc, disk, n as u64)?;
+                let number = self.versions.numbers[n];
+                let segment = self.rest(alloc, disk, number, BEFORE_SEGMENT)?;
                 Ok(Response::Child {
                     id,
                     parent,
@@ -165,25 +226,60 @@ impl Server {
         }
     }
 
-    // The segment of the version with this number.
-    fn segment<D: Disk>(&self, alloc: Global, disk: &mut D, n: u64) -> Result<Bytes, AnswerError>
-        requires known { n < length self.now.versions.entries.items }
+    // Gives the stored snapshot.
+    fn fetch<D: Disk>(
+        &self,
+        alloc: Global,
+        disk: &mut D,
+        client: Uuid,
+    ) -> Result<Response, AnswerError>
         requires open { is_closed self.now ≡ false }
         requires length { D.model.len disk.old ≡ server_end self.now }
 
-        ensures segment { IfOk result (λ segment. OnLog D.model self.now disk.old (λ log. IsSegmentOf log n segment)) }
-        ensures there { IfOk result (λ segment. Tells D.model disk.old → IsSegmentIn self.now (D.model.seen disk.old) n segment) }
+        ensures says { IfOk result (λ response. OnLog D.model self.now disk.old (λ log. RespondsAt log (asks.Snapshot client) response)) }
+        ensures remembered { IfOk result (IsRememberedUndrawn D.model self.now self.now disk.old (asks.Snapshot client)) }
+        ensures kind { IfOk result (Replies kinds.Snapshot) }
         ensures untouched { Untouched D.model disk.old disk.new }
         ensures refused { IfErr result (AnswerRefused D.model self.now self.now disk.old disk.new) }
     {
+        match self.images.get(client) {
+            Some(stored) => {
+                let bytes = self.rest(alloc, disk, stored.number, BEFORE_BYTES)?;
+                Ok(Response::Snapshot {
+                    version: stored.version,
+                    bytes,
+                })
+            }
+            None => Ok(Response::UpToDate),
+        }
+    }
+
+    // What comes after so many bytes of the body of the record with this number.
+    fn rest<D: Disk>(
+        &self,
+        alloc: Global,
+        disk: &mut D,
+        n: u64,
+        from: usize,
+    ) -> Result<Bytes, AnswerError>
+        requires inside { n < journal_count self.now.journal }
+        requires open { is_closed self.now ≡ false }
+        requires length { D.model.len disk.old ≡ server_end self.now }
+        requires few { from ≤ 49 }
+
+        ensures rest { IfOk result (λ rest. OnBody D.model self.now.journal disk.old n (λ body. rest ≡ drop from body)) }
+        ensures there { IfOk result (λ rest. Tells D.model disk.old → IsRestIn self.now (D.model.seen disk.old) n from rest) }
+        ensures untouched { Untouched D.model disk.old disk.new }
+        ensures refused { HasNumber self.now n → IsLongBody D.model self.now disk.old n from → IfErr result (AnswerRefused D.model self.now self.now disk.old disk.new) }
+    {
         let body = self.journal.body(alloc, disk, n)?;
         let bytes = body.as_slice();
-        if bytes.len() < BEFORE_SEGMENT {
+        if bytes.len() < from {
             // The read of what such a body does not have reports the record's offset.
-            let none = self.journal.part(alloc, disk, n, BEFORE_SEGMENT as u64, 0)?;
+            let none = self.journal.part(alloc, disk, n, from as u64, 0)?;
             return Ok(Bytes::from_slice(alloc, none.as_slice())?);
         }
-        let segment = Bytes::from_slice(alloc, &bytes[BEFORE_SEGMENT..])?;
-        Ok(segment)
+        let rest = Bytes::from_slice(alloc, &bytes[from..])?;
+        Ok(rest)
     }
 }

@@ -11,8 +11,8 @@ use tw_world::Memory;
 pub enum ServerOpenError {
     /// The disk failed.
     Disk,
-    /// The bytes at this offset of the file are no record, or one that is no version of its client's chain. At 0 the
-    /// file has another form.
+    /// The bytes at this offset of the file are no record, or a record that may not follow those before it. At 0 the file
+    /// has another form.
     Damaged { offset: u64 },
     /// There was no memory.
     Memory,
@@ -25,11 +25,11 @@ pub enum AnswerError {
     Disk,
     /// The disk failed in an append before: the server is to be opened again.
     Closed,
-    /// The bytes at this offset of the file are no record, or one whose body is no version.
+    /// The bytes at this offset of the file are no record, or one whose body is too short for what is in it.
     Damaged { offset: u64 },
     /// The record would have so many bytes, more than 2^30. Nothing is written.
     TooLong { bytes: u64 },
-    /// There was no memory. No version is added.
+    /// There was no memory. Nothing is added.
     Memory,
 }
 
@@ -63,6 +63,16 @@ impl From<AllocError> for ServerOpenError {
     ghost from_gives = { λ _ e. e ≡ no_memory };
 
     fn from(_: AllocError) -> ServerOpenError {
+        ServerOpenError::Memory
+    }
+}
+
+impl From<Memory> for ServerOpenError {
+    ghost use Rattle.tw_server.specs.declared.error.ServerOpenError.TheVariants.{Memory as no_memory};
+
+    ghost from_gives = { λ _ e. e ≡ no_memory };
+
+    fn from(_: Memory) -> ServerOpenError {
         ServerOpenError::Memory
     }
 }

@@ -24,15 +24,15 @@ use tw_world::{Disk, IdWords, Peer};
 pub enum ServeEnd {
     /// A response of this status was written.
     Served { status: u16 },
-    /// The peer failed. A version may have been added, and a front part of the response may be written.
+    /// The peer failed. A version or a snapshot may have been added, and a front part of the response may be written.
     PeerFault,
     /// The disk failed. After an append the server is closed.
     DiskFault,
     /// A fault of the disk closed the server before, and the message is a request.
     Closed,
-    /// The bytes at this offset of the file are no record, or one whose body is no version.
+    /// The bytes at this offset of the file are no record, or one whose body is too short for what is in it.
     Damaged { offset: u64 },
-    /// There was no memory. A version may have been added.
+    /// There was no memory. A version or a snapshot may have been added.
     Memory,
 }
 
@@ -135,6 +135,8 @@ fn status_of(response: &Response) -> u16
         Response::Bad => 400,
         Response::TooLong => 413,
         Response::Taken => 500,
+        Response::Stored => 200,
+        Response::Snapshot { .. } => 200,
     }
 }
 

@@ -1,5 +1,5 @@
 -- What a link in memory means.
-use Rattle.std.specs.Prelude.{◌≡◌, ◌⊎◌, ℕ, ◌≤◌, ◌&&◌, Bool, true, false, if◌then◌else◌, List, [], ◌∷◌, length, All, Contains, Result, Ok, Err}
+use Rattle.std.specs.Prelude.{◌≡◌, ◌⊎◌, ℕ, ◌≤◌, ◌&&◌, Bool, true, false, if◌then◌else◌, List, [], ◌∷◌, length, map, All, Contains, Result, Ok, Err}
 use Rattle.std.proofs.lemmas.List.Elements.{All-nil, All-cons, All-head, All-tail, All-weaker, Contains-append_left, Contains-append_right, Contains-push}
 use Rattle.tw_protocol.specs.Chain.{Version, same_id}
 use Rattle.tw_http.specs.Link.{LinkModel, IsChainOf, OwnAreOfChain}
@@ -8,7 +8,7 @@ use Rattle.tw_http.specs.declared.link.LinkError.TheVariants.{Failed, Memory}
 use Rattle.tw_http.specs.Messages.{max_body}
 use Rattle.tw_http.specs.Serving.{SegmentsFit}
 use Rattle.tw_records.specs.Log.{chain_of}
-use Rattle.tw_server.specs.Memory.Holding.{Holding, accepted_of, log_of, own_of, after_others, Acts, IsReply}
+use Rattle.tw_server.specs.Memory.Holding.{Holding, accepted_of, own_of, after_others, Acts, IsReply}
 use Rattle.tw_server.specs.Memory.Exchange.{exchanges_of}
 use Rattle.tw_server.specs.Memory.Server.{holding_of, nothing_held}
 use Rattle.tw_server.specs.Memory.Script.{fate_at, others_at}
@@ -21,7 +21,7 @@ use Rattle.tw_world.specs.declared.ids.IdWords.{IdWords}
 
 -- the chain of its client, and the versions of it that its exchanges added
 abbrev pub link_chain : MemoryLink → List Version
-link_chain l = chain_of l.client (log_of l.server.versions.items)
+link_chain l = chain_of l.client (map accepted_of l.server.versions.items)
 
 abbrev pub link_own : MemoryLink → List Version
 link_own l = own_of l.client l.server.versions.items
@@ -99,10 +99,10 @@ chain_fits false v vs fit rest = rest
 abbrev pub StoredFits : MemoryVersion → Type 0
 StoredFits v = length v.segment ≤ max_body
 
-segments_fit : (client : List ℕ) (versions : List MemoryVersion) → All StoredFits versions → SegmentsFit (chain_of client (log_of versions))
+segments_fit : (client : List ℕ) (versions : List MemoryVersion) → All StoredFits versions → SegmentsFit (chain_of client (map accepted_of versions))
 segments_fit client [] all = All-nil Fits
 segments_fit client (v ∷ vs) all =
-    chain_fits (same_id v.client client) (accepted_of v).version (chain_of client (log_of vs)) (All-head StoredFits v vs all)
+    chain_fits (same_id v.client client) (accepted_of v).version (chain_of client (map accepted_of vs)) (All-head StoredFits v vs all)
     (segments_fit client vs (All-tail StoredFits v vs all))
 
 pub memory_tells_chain : (link : MemoryLink) → IsChainOf memory_link_model link
@@ -128,10 +128,10 @@ own_within true true v own chain all = All-cons (λ w. Contains (v ∷ chain) w)
 own_within true false v own chain all = longer v chain own all
 own_within false u v own chain all = all
 
-own_stand : (client : List ℕ) (versions : List MemoryVersion) → AreWithin (chain_of client (log_of versions)) (own_of client versions)
+own_stand : (client : List ℕ) (versions : List MemoryVersion) → AreWithin (chain_of client (map accepted_of versions)) (own_of client versions)
 own_stand client [] = All-nil (λ w. Contains [] w)
 own_stand client (v ∷ vs) =
-    own_within (same_id v.client client) v.own (accepted_of v).version (own_of client vs) (chain_of client (log_of vs)) (own_stand client vs)
+    own_within (same_id v.client client) v.own (accepted_of v).version (own_of client vs) (chain_of client (map accepted_of vs)) (own_stand client vs)
 
 pub memory_own_stand : (link : MemoryLink) → OwnAreOfChain memory_link_model link
 memory_own_stand link tells = own_stand link.client link.server.versions.items

@@ -1,7 +1,7 @@
 use Rattle.std.proofs.Common.{◌∙◌, inr, Ok, Err, sym}
 use Rattle.tw_http.specs.Requests.{IsRequestAnswer}
 use Rattle.tw_server.specs.Memory.Server.{holding_of}
-use Rattle.tw_server.proofs.Requests.{asked_fits}
+use Rattle.tw_http.proofs.RequestFits.{asked_fits}
 use Rattle.tw_server.proofs.MemoryReplies.{answer_there, request_acts, request_response, none_acts, none_response, on_ok, on_err}
 use Rattle.tw_server.proofs.Refusals.{if_ok_weaker}
 use Rattle.tw_server.proofs.memory.exchange.reply_to.Goals as goal

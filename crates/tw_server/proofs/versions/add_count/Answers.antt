@@ -1,0 +1,9 @@
+use Rattle.std.specs.BTreeMap.{get}
+use Rattle.tw_server.specs.Versions.{uuid_cmp}
+use Rattle.tw_server.proofs.VersionMaps.{exact_uuids, absent, still_found}
+use Rattle.tw_server.proofs.versions.add_count.Goals as goal
+
+pub returns-in_ok-insert-clause-same : goal.returns-in_ok-insert-clause-same
+returns-in_ok-insert-clause-same c =
+    still_found uuid_cmp exact_uuids (λ q. get uuid_cmp c.args.map.now q) (λ q. get uuid_cmp c.insert.new.self q) c.args.client 0
+    (absent (get uuid_cmp c.args.map.now c.args.client) c.contains_key.result c.contains_key.ensures c.if-not-contains_key.true) c.in_ok-insert.ensures.updates.0
