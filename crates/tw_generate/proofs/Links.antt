@@ -1,11 +1,11 @@
 -- What is so of a link is so of one that means the same.
-use Rattle.std.proofs.Common.{◌≡◌, ◌∙◌, ℕ, Result, Ok, Err, List, [], length, sym, ap, subst}
+use Rattle.std.proofs.Common.{◌≡◌, ◌∙◌, ℕ, Result, Ok, Err, List, [], length, map, sym, ap, subst}
 use Rattle.tw_http.specs.Link.{LinkModel, IsExchange, IsAnswered, IsHonest, TellsTruly, IsHonestStep}
 use Rattle.tw_http.specs.declared.link.LinkError.{LinkError}
 use Rattle.tw_http.specs.declared.message.Request.{Request}
 use Rattle.tw_world.specs.declared.ids.IdWords.{IdWords}
 use Rattle.tw_records.specs.Log.{chain_of}
-use Rattle.tw_server.specs.Memory.Holding.{Holding, log_of, own_of}
+use Rattle.tw_server.specs.Memory.Holding.{Holding, accepted_of, own_of}
 use Rattle.tw_server.specs.Memory.Link.{IsAlone, IsNewLink}
 use Rattle.tw_server.specs.declared.memory.link.MemoryLink.{MemoryLink}
 use Rattle.tw_server.specs.declared.memory.script.LinkStep.{LinkStep}
@@ -49,5 +49,5 @@ module _ (client : List ℕ) (ids : IdWords) (script : List LinkStep) (link : Me
   pub new_is_alone : IsAlone link
   new_is_alone = record {
     script = ap length new.by_script ∙ ap length none;
-    own = ap (λ (h : Holding). own_of link.client h.versions) new.nothing ∙ sym (ap (λ (h : Holding). chain_of link.client (log_of h.versions)) new.nothing);
+    own = ap (λ (h : Holding). own_of link.client h.versions) new.nothing ∙ sym (ap (λ (h : Holding). chain_of link.client (map accepted_of h.versions)) new.nothing);
   }

@@ -4,11 +4,14 @@ use Rattle.std.specs.FinMap.{keys}
 use Rattle.tw_world.specs.declared.Moment.{Moment}
 use Rattle.tw_model.specs.Maps.{same_bytes}
 use Rattle.tw_model.specs.Changes.{ops_of_all, group_of}
-use Rattle.tw_model.specs.LocalOps.{plain}
 use Rattle.tw_model.specs.declared.changes.Change.{Change}
 use Rattle.tw_segment.specs.Segment.{segment_text}
 use Rattle.tw_replica.specs.State.{State, start, committed}
-use Rattle.tw_sync.specs.End.{ServerChain, SyncEnd}
+use Rattle.tw_groups.specs.Groups.{groups_of}
+use Rattle.tw_groups.specs.Cut.{first}
+use Rattle.tw_path.specs.Path.{is_batch}
+use Rattle.tw_outcome.specs.End.{ServerChain}
+use Rattle.tw_sync.specs.End.{SyncEnd}
 use Rattle.tw_sync.specs.declared.report.SyncReport.{SyncReport}
 use Rattle.tw_urgency.specs.declared.coefficients.Coefficients.{Coefficients}
 use Rattle.tw_export.specs.Export.{export_text}
@@ -95,4 +98,4 @@ pub record IsGenerated (count seed : ℕ) (weights : Coefficients) (text : List 
   pub first_sends : FirstSyncs report second_sent first_sent
   pub ends : (r : SyncReport) × SecondSyncs r first_sent ended
   pub alone : ended.server.own ≡ ended.server.chain
-  pub tells : text ≡ summary count (length (segment_text (plain filled.first.pending))) report (exports_equal ended weights)
+  pub tells : text ≡ summary count (length (segment_text (first is_batch (groups_of filled.first.pending)))) report (exports_equal ended weights)

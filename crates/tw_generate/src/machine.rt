@@ -4,9 +4,10 @@ use crate::link::LoneLink;
 use std::alloc::Global;
 use tw_export::export_text;
 use tw_model::Change;
+use tw_path::{first_batch, groups_of};
 use tw_replica::Replica;
 use tw_segment::write_segment;
-use tw_sync::{SyncReport, sync, sync_ops};
+use tw_sync::{SyncReport, sync};
 use tw_urgency::Coefficients;
 use tw_world::{Memory, MemoryDisk, Moment};
 use uuid::Uuid;
@@ -35,7 +36,9 @@ impl Drop for Machine {
 impl Machine {
     ghost use Rattle.std.specs.Prelude.{◌≡◌, length, IfOk, OnOk};
     ghost use Rattle.tw_http.specs.Link.{IsHonest};
-    ghost use Rattle.tw_model.specs.LocalOps.{plain};
+    ghost use Rattle.tw_groups.specs.Groups.{groups_of};
+    ghost use Rattle.tw_groups.specs.Cut.{first};
+    ghost use Rattle.tw_path.specs.Path.{is_batch};
     ghost use Rattle.tw_segment.specs.Segment.{segment_text};
     ghost use Rattle.tw_replica.specs.State.{start};
     ghost use Rattle.tw_replica.specs.Replica.{held_state};
@@ -95,12 +98,15 @@ impl Machine {
         }
     }
 
-    /// How many bytes the segment of what is pending has.
+    /// How many bytes the segment has that is sent first of what is pending.
     pub(crate) fn segment_bytes(&self, alloc: Global) -> Result<u64, Memory>
-        ensures { IfOk result (λ bytes. bytes ≡ length (segment_text (plain (held_state self.now.replica).pending))) }
+        ensures { IfOk result (λ bytes. bytes ≡ length (segment_text (first is_batch (groups_of (held_state self.now.replica).pending)))) }
     {
         let ops = self.replica.pending().ops(alloc)?;
-        match write_segment(alloc, &sync_ops(alloc, &ops)?) {
+        let left = groups_of(alloc, &ops)?;
+        let batch = first_batch(alloc, &left)?;
+        let sent = batch.sent(alloc, &left)?;
+        match write_segment(alloc, &sent) {
             Ok(text) => Ok(text.len() as u64),
             Err(_) => Err(Memory),
         }

@@ -1,6 +1,6 @@
 //! The path of a sync through a chain: where versions lead that are pulled or pushed one after another, with its laws, and code that goes along it.
 //! It promises what a path leaves of pending operations, what is sent first of them, and that what one sync sent no later one sends again.
-//! It stands on `tw_groups`, `tw_transform` and `tw_segment`, and knows no replica and no link. No command uses it yet.
+//! It stands on `tw_groups`, `tw_transform` and `tw_segment`, and knows no replica and no link.
 #![tactic(auto)]
 
 mod batch;

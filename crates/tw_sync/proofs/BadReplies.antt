@@ -9,7 +9,7 @@ use Rattle.tw_http.specs.declared.message.Asked.TheVariants as asked
 use Rattle.tw_http.specs.declared.message.Request.{Request}
 use Rattle.tw_http.specs.declared.message.Request.TheVariants as asks
 use Rattle.tw_http.specs.declared.message.Response.{Response}
-use Rattle.tw_http.specs.declared.message.Response.TheVariants.{Added, Conflict, Child, UpToDate, Gone}
+use Rattle.tw_http.specs.declared.message.Response.TheVariants.{Added, Conflict, Child, UpToDate, Gone, Stored, Snapshot}
 use Rattle.tw_http.specs.declared.message.HttpError.{HttpError}
 use Rattle.tw_http.specs.Responses.{answers, IsResponseAnswer}
 use Rattle.tw_http.specs.Serving.{kind_of}
@@ -43,8 +43,8 @@ is_same a b test = same_id_exact a b (by (same_id a b) test)
 bad : (asked : Request) (bytes : List ℕ) (e : AskError) (kind : ReplyKind) (r : Result Response HttpError) → e ≡ asking.Reply kind → IsResponseAnswer (kind_of asked) bytes r → IsBadReply kind (heard asked r) → IsBadlyAnswered asked bytes e
 bad asked bytes e kind r is read bad_reply = subst (IsBadlyAnswered asked bytes) (sym is) (r, read, bad_reply)
 
-pub added_nil : (asked : Request) (bytes id nil : List ℕ) (e : AskError) (r : Response) → e ≡ asking.Reply Nil → IsResponseAnswer (kind_of asked) bytes (Ok r) → r ≡ Added id → true ≡ same_id id nil → nil ≡ zero_bytes → IsBadlyAnswered asked bytes e
-added_nil asked bytes id nil e r is read same test zero = bad asked bytes e Nil (Ok r) is read (inl (ap Ok same ∙ ap (λ (x : List ℕ). Ok (Added x)) (same_id_exact id nil (sym test) ∙ zero)))
+pub added_nil : (asked : Request) (bytes id nil : List ℕ) (wanted : Bool) (e : AskError) (r : Response) → e ≡ asking.Reply Nil → IsResponseAnswer (kind_of asked) bytes (Ok r) → r ≡ Added id wanted → true ≡ same_id id nil → nil ≡ zero_bytes → IsBadlyAnswered asked bytes e
+added_nil asked bytes id nil wanted e r is read same test zero = bad asked bytes e Nil (Ok r) is read (inl (wanted, ap Ok same ∙ ap (λ (x : List ℕ). Ok (Added x wanted)) (same_id_exact id nil (sym test) ∙ zero)))
 
 pub child_nil : (client parent named bytes id nil segment : List ℕ) (e : AskError) (r : Response) → e ≡ asking.Reply Nil → IsResponseAnswer asked.Child bytes (Ok r) → r ≡ Child id named segment → named ≡ parent → true ≡ same_id id nil → nil ≡ zero_bytes → IsBadlyAnswered (asks.Child client parent) bytes e
 child_nil client parent named bytes id nil segment e r is read same right test zero =
@@ -69,6 +69,15 @@ not_to_add bytes r read (inr (inl same)) = to_add r UpToDate (reply_answers aske
 not_to_add bytes r read (inr (inr same)) = to_add r Gone (reply_answers asked.Add bytes (Ok r) read) same refl
 
 pub not_to_child : (bytes : List ℕ) (r : Response) → IsResponseAnswer asked.Child bytes (Ok r)
-    → ((id : List ℕ) × (r ≡ Added id)) ⊎ ((id : List ℕ) × (r ≡ Conflict id)) → ⊥
-not_to_child bytes r read (inl (id, same)) = to_child r (Added id) (reply_answers asked.Child bytes (Ok r) read) same refl
+    → ((id : List ℕ) × (wanted : Bool) × (r ≡ Added id wanted)) ⊎ ((id : List ℕ) × (r ≡ Conflict id)) → ⊥
+not_to_child bytes r read (inl (id, wanted, same)) = to_child r (Added id wanted) (reply_answers asked.Child bytes (Ok r) read) same refl
 not_to_child bytes r read (inr (id, same)) = to_child r (Conflict id) (reply_answers asked.Child bytes (Ok r) read) same refl
+
+-- what is said of a stored snapshot answers neither question
+pub no_snapshot_to_add : (bytes : List ℕ) (r : Response) → IsResponseAnswer asked.Add bytes (Ok r) → (r ≡ Stored) ⊎ ((version : List ℕ) × (snapshot : List ℕ) × (r ≡ Snapshot version snapshot)) → ⊥
+no_snapshot_to_add bytes r read (inl same) = to_add r Stored (reply_answers asked.Add bytes (Ok r) read) same refl
+no_snapshot_to_add bytes r read (inr (version, snapshot, same)) = to_add r (Snapshot version snapshot) (reply_answers asked.Add bytes (Ok r) read) same refl
+
+pub no_snapshot_to_child : (bytes : List ℕ) (r : Response) → IsResponseAnswer asked.Child bytes (Ok r) → (r ≡ Stored) ⊎ ((version : List ℕ) × (snapshot : List ℕ) × (r ≡ Snapshot version snapshot)) → ⊥
+no_snapshot_to_child bytes r read (inl same) = to_child r Stored (reply_answers asked.Child bytes (Ok r) read) same refl
+no_snapshot_to_child bytes r read (inr (version, snapshot, same)) = to_child r (Snapshot version snapshot) (reply_answers asked.Child bytes (Ok r) read) same refl

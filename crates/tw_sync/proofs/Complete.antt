@@ -1,5 +1,5 @@
 -- Where a sync can be done, its refusals are for want of memory or of a fresh id.
-use Rattle.std.proofs.Common.{◌≡◌, ℕ, ◌≤◌, inl, inr, List, length, Err, refl, sym, ap, ◌∙◌, arith}
+use Rattle.std.proofs.Common.{◌≡◌, ℕ, ◌≤◌, inl, inr, List, [], ◌∷◌, length, Err, refl, sym, ap, ◌∙◌, arith}
 use Rattle.std.proofs.lemmas.Bool.{true≢false}
 use Rattle.tw_world.specs.Disk.{DiskModel}
 use Rattle.tw_model.specs.declared.SyncOp.{SyncOp}
@@ -12,11 +12,13 @@ use Rattle.tw_segment.specs.declared.error.SegmentError.{SegmentError}
 use Rattle.tw_segment.specs.declared.error.SegmentError.TheVariants as segments
 use Rattle.tw_replica.specs.Core.{state_of}
 use Rattle.tw_replica.specs.declared.replica.Replica.{Replica}
+use Rattle.tw_path.specs.Path.{versions_of}
 use Rattle.tw_sync.specs.Refused.{SyncRefused}
 use Rattle.tw_sync.specs.Sync.{server_chain}
 use Rattle.tw_sync.specs.Honest.{HonestRefused, CanSync, RestsOnPulled, IsWant}
 use Rattle.tw_sync.specs.declared.error.SyncError.{SyncError}
 use Rattle.tw_sync.specs.declared.error.SyncError.TheVariants as errors
+use Rattle.tw_sync.proofs.CursorInChain.{segments_len-append, pulled_within}
 
 -- what is a segment within its limit is read
 only_memory : (bytes : List ℕ) (e : SegmentError) (ops : List SyncOp) → IsUnread bytes e → length bytes ≤ max_len → IsSegment bytes ops → e ≡ segments.Memory
@@ -34,15 +36,17 @@ can_sync m links old new before after first last client host (errors.Gone base) 
 can_sync m links old new before after first last client host (errors.Busy parent) can r h p = absurd (can.few h)
 can_sync m links old new before after first last client host (errors.OutOfSync base parent) can r h p = absurd h
 can_sync m links old new before after first last client host (errors.SegmentTooLong bytes) can r h p =
-    let within = can.within.segment h.h h.versions h.ops h.left h.last h.pulled in
+    let within = can.within.segment h.legs h.path h.between h.last h.some in
     let long = r.0 in
     let len = h.len in
     absurd (omega (arith, within, long, len))
 can_sync m links old new before after first last client host (errors.PullTooLong bytes) can r h p =
-    let within = can.within.pull p.0.versions p.0.v p.0.between p.1 in
+    let within = can.within.pull (versions_of p.0.legs) p.0.v p.0.between p.1 in
     let long = r.0 in
     let len = p.0.len in
-    absurd (omega (arith, within, long, len))
+    let all = segments_len-append (versions_of p.0.legs) (p.0.v ∷ []) in
+    let pulled = pulled_within p.0.legs in
+    absurd (omega (arith, within, long, len, all, pulled))
 can_sync m links old new before after first last client host (errors.Segment version) can r h p =
     let read = can.within.read p.0.versions p.0.v p.0.between p.1 in
     absurd (p.0.other (only_memory p.0.v.segment p.0.error read.ops p.0.unread read.within read.reads))

@@ -1,26 +1,24 @@
--- Where a sync stands, as the chain grows and versions are taken.
+-- Where a sync stands, as the chain grows and versions are taken and added.
 use Rattle.std.proofs.Common.{◌≡◌, ℕ, ◌+◌, ◌≤◌, inl, inr, length, List, [], ◌∷◌, ◌++◌, sym, refl, ap, subst, ◌∙◌, arith, length-append}
+use Rattle.std.specs.List.{AllByRecursion}
 use Rattle.std.proofs.lemmas.List.{append-nil, append_assoc}
-use Rattle.tw_model.specs.Ops.{TasksValue, apply_all, fit_part}
-use Rattle.tw_model.specs.LocalOps.{plain}
 use Rattle.tw_model.specs.declared.SyncOp.{SyncOp}
-use Rattle.tw_model.proofs.Ops.{apply_all-append}
-use Rattle.tw_protocol.specs.Chain.{Version, latest, IsChain, IsCut, IsBetween, Grows}
+use Rattle.tw_protocol.specs.Chain.{Version, latest, IsChain, IsCut, IsBetween, HoldsAll, Grows}
+use Rattle.tw_protocol.specs.Answer.{version}
 use Rattle.tw_protocol.proofs.Between.{between_joins}
-use Rattle.tw_transform.specs.Grid.{grid}
-use Rattle.tw_transform.specs.Positions.{IsPosition}
-use Rattle.tw_transform.proofs.Positions.{position_pulls}
+use Rattle.tw_segment.specs.Segment.{max_len, segment_text, IsSegment}
 use Rattle.tw_replica.specs.State.{State}
-use Rattle.tw_replica.specs.Sound.{start_of}
-use Rattle.tw_sync.specs.Fold.{Reads}
-use Rattle.tw_sync.specs.Alike.{SameFor}
-use Rattle.tw_sync.specs.End.{IsPulled}
-use Rattle.tw_sync.specs.Cursor.{TakesVersion, IsAtStart, HasLeft, StandsIn, Stands}
+use Rattle.tw_groups.specs.Groups.{joined}
+use Rattle.tw_groups.specs.Cut.{first}
+use Rattle.tw_path.specs.Path.{Leg, IsPush, is_batch, versions_of, version_on}
+use Rattle.tw_path.specs.Path.Leg.{Pull, Push}
+use Rattle.tw_path.specs.Walk.{StandsAt}
+use Rattle.tw_path.proofs.Paths.{paths_join}
+use Rattle.tw_outcome.specs.End.{starts_at}
+use Rattle.tw_sync.specs.Cursor.{place, pulled_len, IsOnPath, IsIn, LiesIn, TakesVersion, AddsVersion}
 use Rattle.tw_sync.specs.Honest.{segments_len}
 use Rattle.tw_sync.specs.declared.cursor.Cursor.{Cursor}
-use Rattle.tw_sync.proofs.Reading.{reads-append, reads_last}
-use Rattle.tw_sync.proofs.Fitting.{none_left}
-use Rattle.tw_sync.proofs.Alike.{grid_same, apply_all_same, grid_alike}
+use Rattle.tw_sync.proofs.Legs.{at_on, versions_on, ops_last, pulled_pull, sent_pull, len_pull, pulled_push, sent_push, len_push}
 
 -- ---- chains that grow
 
@@ -39,6 +37,13 @@ between_grows old new v w versions b g = record {
   to = b.to;
 }
 
+pub holds_grown : (old now later : List Version) (v : List ℕ) → HoldsAll old now v → Grows now later → HoldsAll old later v
+holds_grown old now later v h g = record { front = h.front; back = h.back ++ g.more; cut = cut_grows now later v h.front h.back h.cut g; holds = h.holds }
+
+pub pushes_grown : (old now later : List Version) (vs : List Version) → AllByRecursion (λ v. HoldsAll old now v.parent) vs → Grows now later → AllByRecursion (λ v. HoldsAll old later v.parent) vs
+pushes_grown old now later [] all g = tt
+pushes_grown old now later (v ∷ vs) all g = (holds_grown old now later v.parent all.0 g, pushes_grown old now later vs all.1 g)
+
 -- no version lies between a version and itself
 pub between_none : (chain : List Version) (v : List ℕ) (front back : List Version) → IsCut chain v front back → IsBetween chain v v []
 between_none chain v front back cut = record {
@@ -55,81 +60,72 @@ cut_before chain v w versions b = record { split = b.split ∙ append_assoc b.fr
 pub cut_behind : (chain : List Version) (v w : List ℕ) (versions : List Version) (b : IsBetween chain v w versions) → IsCut chain w (b.front ++ versions) b.back
 cut_behind chain v w versions b = record { split = b.split; at = b.to }
 
--- ---- the cursor
+-- ---- a path
 
-pub pulled_grows : (state : State) (old new : List Version) (h : List ℕ) (versions : List Version) (ops left : List SyncOp) → IsPulled state old h versions ops left → Grows old new → IsPulled state new h versions ops left
-pulled_grows state old new h versions ops left p g = record { between = between_grows old new state.base h versions p.between g; reads = p.reads; position = p.position }
+pub is_in_grown : (state : State) (old new : List Version) (legs : List Leg) → IsIn state old legs → Grows old new → IsIn state new legs
+is_in_grown state old new legs is g = between_grows old new state.base (place state legs).at (versions_of legs) is g
 
--- it stands in the chain when that has grown
-pub stands_grown : (state : State) (old new : List Version) (cursor : Cursor) → StandsIn state old cursor → Grows old new → StandsIn state new cursor
-stands_grown state old new cursor s g = record {
-  versions = s.versions;
-  pulled = pulled_grows state old new cursor.at s.versions cursor.remote.items cursor.left.items s.pulled g;
-  tasks = s.tasks;
-  count = s.count;
-  bytes = s.bytes;
-}
+pub lies_grown : (state : State) (old new : List Version) (legs : List Leg) → LiesIn state old legs → Grows old new → LiesIn state new legs
+lies_grown state old new legs (inl none) g = inl none
+lies_grown state old new legs (inr is) g = inr (is_in_grown state old new legs is g)
 
-pub start_left : (state : State) (cursor : Cursor) → IsAtStart state cursor → HasLeft state cursor
-start_left state cursor s = record {
-  position = subst (λ ops. IsPosition (start_of state) (plain state.pending) ops cursor.left.items) (sym s.remote) (sym s.left);
-  tasks = subst (λ ops. SameFor cursor.left.items cursor.tasks (apply_all (start_of state) ops)) (sym s.remote) s.tasks;
-}
+-- if the chain knows its end, it lies in the chain
+pub lies_at_cut : (state : State) (chain : List Version) (legs : List Leg) (front back : List Version) → IsCut chain (place state legs).at front back → LiesIn state chain legs → IsIn state chain legs
+lies_at_cut state chain legs front back cut (inl none) =
+    subst (IsIn state chain) (sym none) (between_none chain state.base front back (subst (λ ls. IsCut chain (place state ls).at front back) none cut))
+lies_at_cut state chain legs front back cut (inr is) = is
 
--- where the chain knows its base, the start stands in the chain
-pub start_stands : (state : State) (chain : List Version) (cursor : Cursor) (front back : List Version) → IsAtStart state cursor → IsCut chain cursor.at front back → StandsIn state chain cursor
-start_stands state chain cursor front back s cut = record {
-  versions = [];
-  pulled = record {
-    between = subst (λ b. IsBetween chain b cursor.at []) s.at (between_none chain cursor.at front back cut);
-    reads = s.remote;
-    position = (start_left state cursor s).position;
-  };
-  tasks = (start_left state cursor s).tasks;
-  count = s.versions;
-  bytes = s.bytes;
-}
-
-pub stands_at_cut : (state : State) (chain : List Version) (cursor : Cursor) (front back : List Version) → IsCut chain cursor.at front back → Stands state chain cursor → StandsIn state chain cursor
-stands_at_cut state chain cursor front back cut (inl start) = start_stands state chain cursor front back start cut
-stands_at_cut state chain cursor front back cut (inr s) = s
+-- it goes on to the version after its end
+pub lies_on : (state : State) (chain : List Version) (legs : List Leg) (leg : Leg) → IsChain chain → IsIn state chain legs → IsBetween chain (place state legs).at (version_on leg).id (version_on leg ∷ []) → IsIn state chain (legs ++ leg ∷ [])
+lies_on state chain legs leg whole is next =
+    subst (λ h. IsBetween chain state.base h (versions_of (legs ++ leg ∷ []))) (sym (at_on state legs leg))
+    (subst (λ vs. IsBetween chain state.base (version_on leg).id vs) (sym (versions_on legs leg))
+    (between_joins chain state.base (place state legs).at (version_on leg).id (versions_of legs) (version_on leg ∷ []) whole is next))
 
 pub segments_len-append : (us vs : List Version) → segments_len (us ++ vs) ≡ segments_len us + segments_len vs
 segments_len-append [] vs = omega arith
 segments_len-append (u ∷ us) vs = let e = segments_len-append us vs in omega (arith, e)
 
--- with nothing left, no task matters
-same_left : (ls ops : List SyncOp) (old new there : TasksValue) → (¬ (ls ≡ []) → new ≡ apply_all old ops) → SameFor ls old there → SameFor (grid (fit_part old ops) ls).1 new (apply_all there ops)
-same_left [] ops old new there made s = subst (λ ls. SameFor ls new (apply_all there ops)) (none_left (fit_part old ops) [] refl) tt
-same_left (l ∷ ls) ops old new there made s =
-    subst (λ w. SameFor (grid (fit_part old ops) (l ∷ ls)).1 w (apply_all there ops)) (sym (made (λ e. cc))) (grid_same (fit_part old ops) (l ∷ ls) (apply_all old ops) (apply_all there ops) (apply_all_same ops (l ∷ ls) old there s))
+-- no more is pulled than its versions have
+pub pulled_within : (legs : List Leg) → pulled_len legs ≤ segments_len (versions_of legs)
+pulled_within [] = omega arith
+pulled_within (Pull v ops ∷ legs) = let e = pulled_within legs in omega (arith, e)
+pulled_within (Push v ops ∷ legs) = let e = pulled_within legs in omega (arith, e)
+
+-- ---- the cursor
 
 -- a version is taken
-pub left_on : (state : State) (old new : Cursor) (id segment : List ℕ) → HasLeft state old → TakesVersion old new id segment → HasLeft state new
-left_on state old new id segment s t =
-    let base : TasksValue = start_of state in
-    let mine : List SyncOp = plain state.pending in
-    let joined : List SyncOp = old.remote.items ++ t.ops in
-    let there : TasksValue = apply_all base old.remote.items in
-    let position : IsPosition base mine joined new.left.items = position_pulls base mine old.remote.items old.left.items t.ops s.position ∙ sym (grid_alike t.ops old.left.items old.tasks there s.tasks) ∙ sym t.left in
-    let made : apply_all there t.ops ≡ apply_all base new.remote.items = sym (apply_all-append base old.remote.items t.ops) ∙ ap (apply_all base) (sym t.remote) in
+pub taken_on : (state : State) (legs : List Leg) (p q : Cursor) (id segment : List ℕ) → IsOnPath state legs p → (t : TakesVersion state.tasks p q id segment) → IsOnPath state (legs ++ Pull (version id p.walker.at segment) t.ops ∷ []) q
+taken_on state legs p q id segment s t =
+    let v : Version = version id p.walker.at segment in
+    let leg : Leg = Pull v t.ops in
+    let joins = paths_join (starts_at state) legs (leg ∷ []) in
     record {
-      position = subst (λ xs. IsPosition base mine xs new.left.items) (sym t.remote) position;
-      tasks = subst (SameFor new.left.items new.tasks) made (subst (λ ls. SameFor ls new.tasks (apply_all there t.ops)) (sym t.left) (same_left old.left.items t.ops old.tasks new.tasks there t.tasks s.tasks));
+      path = joins.1 s.path ((s.stands.at, t.reads), tt);
+      stands = subst (λ r. StandsAt state.tasks r q.walker) (sym joins.0) (t.walks (place state legs) v refl s.stands);
+      remote = t.remote ∙ ap (λ xs. xs ++ t.ops) s.remote ∙ sym (ops_last legs leg);
+      versions = (let a = t.versions in let b = s.versions in let c = pulled_pull legs v t.ops in omega (arith, a, b, c));
+      bytes = (let a = t.bytes in let b = s.bytes in let c = len_pull legs v t.ops in omega (arith, a, b, c));
+      pending = t.pending ∙ s.pending;
+      unsent = (let a = t.unsent in let b = s.unsent in let c = sent_pull legs v t.ops in omega (arith, a, b, c));
     }
 
--- it goes on to the child of the version where it stood
-pub stands_on : (state : State) (chain : List Version) (v : Version) (old new : Cursor) → IsChain chain → IsBetween chain old.at v.id (v ∷ []) → StandsIn state chain old → TakesVersion old new v.id v.segment → StandsIn state chain new
-stands_on state chain v old new whole next s t =
-    let left : HasLeft state new = left_on state old new v.id v.segment (record { position = s.pulled.position; tasks = s.tasks }) t in
+-- a version may be pushed: the first of what is left is its text
+pub may_push : (state : State) (legs : List Leg) (p : Cursor) (id segment : List ℕ) (ops : List SyncOp) → IsOnPath state legs p → ¬ (joined (place state legs).left ≡ []) → ops ≡ first is_batch (place state legs).left
+    → segment ≡ segment_text ops → IsSegment segment ops → length segment ≤ max_len → IsPush (place state legs) (version id p.walker.at segment) ops
+may_push state legs p id segment ops s some sent text reads within = record { parent = s.stands.at; reads = reads; some = some; sent = sent; text = text; short = within }
+
+-- it is added
+pub added_on_path : (state : State) (legs : List Leg) (p q : Cursor) (v : Version) (ops : List SyncOp) → IsOnPath state legs p → IsPush (place state legs) v ops → AddsVersion p q v.id ops → IsOnPath state (legs ++ Push v ops ∷ []) q
+added_on_path state legs p q v ops s push t =
+    let leg : Leg = Push v ops in
+    let joins = paths_join (starts_at state) legs (leg ∷ []) in
     record {
-      versions = s.versions ++ v ∷ [];
-      pulled = record {
-        between = subst (λ h. IsBetween chain state.base h (s.versions ++ v ∷ [])) (sym t.at) (between_joins chain state.base old.at v.id s.versions (v ∷ []) whole s.pulled.between next);
-        reads = subst (λ xs. Reads (s.versions ++ v ∷ []) xs) (sym t.remote) (reads-append s.versions (v ∷ []) old.remote.items t.ops s.pulled.reads (reads_last v t.ops t.reads));
-        position = left.position;
-      };
-      tasks = left.tasks;
-      count = (let n = length-append s.versions (v ∷ []) in omega (arith, n, s.count, t.versions));
-      bytes = (let n = segments_len-append s.versions (v ∷ []) in omega (arith, n, s.bytes, t.bytes));
+      path = joins.1 s.path (push, tt);
+      stands = subst (λ r. StandsAt state.tasks r q.walker) (sym joins.0) (t.walks state.tasks (place state legs) v refl s.stands);
+      remote = t.remote ∙ ap (λ xs. xs ++ ops) s.remote ∙ sym (ops_last legs leg);
+      versions = (let a = t.versions in let b = s.versions in let c = pulled_push legs v ops in omega (arith, a, b, c));
+      bytes = (let a = t.bytes in let b = s.bytes in let c = len_push legs v ops in omega (arith, a, b, c));
+      pending = t.pending ∙ s.pending;
+      unsent = (let a = t.unsent in let b = s.unsent in let c = sent_push legs v ops in omega (arith, a, b, c));
     }

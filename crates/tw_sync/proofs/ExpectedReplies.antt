@@ -1,5 +1,5 @@
 -- Replies that a sync goes on from, one after another.
-use Rattle.std.proofs.Common.{◌≡◌, ℕ, ◌+◌, ◌≤◌, length, List, [], ◌∷◌, ◌++◌, Result, Ok, refl, sym, ap, subst, ◌∙◌, arith}
+use Rattle.std.proofs.Common.{◌≡◌, ℕ, ◌+◌, ◌≤◌, inl, inr, Bool, length, List, [], ◌∷◌, ◌++◌, Result, Ok, refl, sym, ap, subst, ◌∙◌, arith}
 use Rattle.std.specs.List.{AllByRecursion}
 use Rattle.std.proofs.lemmas.List.{append-nil}
 use Rattle.tw_http.specs.Link.{LinkModel}
@@ -7,8 +7,9 @@ use Rattle.tw_http.specs.declared.message.Response.{Response}
 use Rattle.tw_http.specs.declared.message.Response.TheVariants as replies
 use Rattle.tw_http.specs.declared.message.HttpError.{HttpError}
 use Rattle.tw_replica.specs.State.{State}
+use Rattle.tw_path.specs.Path.{Leg}
 use Rattle.tw_sync.specs.Heard.{Heard, versions_of, conflicts_of, brought_bytes, pulled_bytes, conflicts}
-use Rattle.tw_sync.specs.Refused.{max_pull, EndedBy, LeadsOn, EachBringsNext, IsConflict, IsUpToDate, GoesOnFrom, GoesOnFromAllButLast, HeardRefused}
+use Rattle.tw_sync.specs.Refused.{max_pull, EndedBy, LeadsOn, EachBringsNext, IsConflict, IsLastReply, GoesOnFrom, GoesOnFromAllButLast, HeardRefused}
 use Rattle.tw_sync.specs.Answers.{HeardRefusedAsk, AskRefused}
 use Rattle.tw_sync.specs.Progress.{HeardSoFar, ends_late, Asks, IsAsking}
 use Rattle.tw_sync.specs.declared.cursor.Cursor.{Cursor}
@@ -28,8 +29,8 @@ child_leads r id parent segment is = λ gone. cc
 pub up_to_date_leads : (r : Result Response HttpError) → r ≡ Ok replies.UpToDate → ¬ (r ≡ Ok replies.Gone)
 up_to_date_leads r is = λ gone. cc
 
-pub added_leads : (r : Result Response HttpError) (id : List ℕ) → r ≡ Ok (replies.Added id) → ¬ (r ≡ Ok replies.Gone)
-added_leads r id is = λ gone. cc
+pub added_leads : (r : Result Response HttpError) (id : List ℕ) (wanted : Bool) → r ≡ Ok (replies.Added id wanted) → ¬ (r ≡ Ok replies.Gone)
+added_leads r id wanted is = λ gone. cc
 
 pub conflict_leads : (r : Result Response HttpError) (last : List ℕ) → r ≡ Ok (replies.Conflict last) → ¬ (r ≡ Ok replies.Gone)
 conflict_leads r last is = λ gone. cc
@@ -51,9 +52,10 @@ ends_late-append [] h = refl
 ends_late-append (x ∷ []) h = refl
 ends_late-append (x ∷ y ∷ ys) h = ends_late-append (y ∷ ys) h
 
--- a 404 is no 409
-pub not_late : (client base : List ℕ) (hs : List Heard) → EndedBy hs (IsUpToDate client base) → ends_late hs ≡ 0
-not_late client base hs (h, ends, is) = ap ends_late ends.split ∙ ends_late-append ends.earlier h ∙ ap conflicts_of is.1
+-- neither a 404 nor a 200 is a 409
+pub not_late : (client base : List ℕ) (hs : List Heard) → EndedBy hs (IsLastReply client base) → ends_late hs ≡ 0
+not_late client base hs (h, ends, inl is) = ap ends_late ends.split ∙ ends_late-append ends.earlier h ∙ ap conflicts_of is.1
+not_late client base hs (h, ends, inr is) = ap ends_late ends.split ∙ ends_late-append ends.earlier h ∙ ap conflicts_of is.1
 
 -- ---- one reply more
 
@@ -78,8 +80,8 @@ goes_to_last hs h g = (h, record { earlier = hs; split = refl }, g)
 
 -- ---- what was heard so far
 
-module _ {L : Type 0} (m : LinkModel L) (client host : List ℕ) (state : State) (first now : L) (p : Cursor) (Q : List Heard → Type 0) where
-  pub goes_on_so_far : (t : HeardSoFar m client host state first now p Q) → p.conflicts ≤ 15 → GoesOnFrom t.hs
+module _ {L : Type 0} (m : LinkModel L) (client host : List ℕ) (first now : L) (legs : List Leg) (p : Cursor) (Q : List Heard → Type 0) where
+  pub goes_on_so_far : (t : HeardSoFar m client host first now legs p Q) → p.conflicts ≤ 15 → GoesOnFrom t.hs
   goes_on_so_far t tries = record {
     each = t.each;
     followed = t.followed;
@@ -87,11 +89,12 @@ module _ {L : Type 0} (m : LinkModel L) (client host : List ℕ) (state : State)
     few = (let c = t.conflicts_are in omega (arith, c, tries));
   }
 
-  pub heard_any : HeardSoFar m client host state first now p Q → HeardSoFar m client host state first now p (λ hs. Unit {0})
+  pub heard_any : HeardSoFar m client host first now legs p Q → HeardSoFar m client host first now legs p (λ hs. Unit {0})
   heard_any t = record {
     hs = t.hs;
     hears = t.hears;
-    at_is = t.at_is;
+    told = t.told;
+    ops = t.ops;
     reads = t.reads;
     brought_is = t.brought_is;
     bytes_are = t.bytes_are;
@@ -101,14 +104,14 @@ module _ {L : Type 0} (m : LinkModel L) (client host : List ℕ) (state : State)
     so = tt;
   }
 
-  pub asks : Asks m client host state first now p Q → IsAsking m client host state first now p
-  asks s = record {
-    fewer = s.fewer;
-    tries = s.tries;
-    left = s.left;
-    asked = record { kept = s.asked.kept; count = s.asked.count; heard = λ tells. heard_any (s.asked.heard tells) };
-    come = s.come;
-  }
+pub asks : {L : Type 0} (m : LinkModel L) (client host : List ℕ) (state : State) (first now : L) (p : Cursor) (Q : List Heard → Type 0) → Asks m client host state first now p Q → IsAsking m client host state first now p
+asks m client host state first now p Q s = record {
+  legs = s.legs;
+  on_path = s.on_path;
+  tries = s.tries;
+  asked = record { kept = s.asked.kept; count = s.asked.count; heard = λ tells. heard_any m client host first now s.legs p Q (s.asked.heard tells) };
+  come = s.come;
+}
 
 all_before : {A : Type 0} (P : A → Type 0) (xs ys : List A) → AllByRecursion P (xs ++ ys) → AllByRecursion P xs
 all_before P [] ys all = tt

@@ -4,7 +4,7 @@ use Rattle.std.specs.List.{AllByRecursion}
 use Rattle.std.proofs.lemmas.List.{append-nil}
 use Rattle.tw_protocol.specs.Chain.{Version}
 use Rattle.tw_http.specs.Link.{LinkModel, Exchange}
-use Rattle.tw_sync.specs.Heard.{Heard, AreHeard, Hears, HearsUnread, HearsUntil, pulled_bytes, brought, brought_by, versions_in, conflicts}
+use Rattle.tw_sync.specs.Heard.{Heard, AreHeard, Hears, HearsUnread, HearsUntil, pulled_bytes, brought, brought_by, told_as, versions_in, told_in, conflicts}
 use Rattle.tw_sync.specs.Answers.{IsLinkKept, GrowsOn}
 use Rattle.tw_sync.specs.declared.error.SyncError.{SyncError}
 use Rattle.tw_sync.specs.declared.error.SyncError.TheVariants as errors
@@ -27,6 +27,18 @@ pulled_bytes-append (h ∷ hs) ks = let rest = pulled_bytes-append hs ks in omeg
 pub versions_in-append : (hs ks : List Heard) → versions_in (hs ++ ks) ≡ versions_in hs ++ versions_in ks
 versions_in-append [] ks = refl
 versions_in-append (h ∷ hs) ks = ap (λ vs. brought_by h.reply ++ vs) (versions_in-append hs ks) ∙ sym (append_assoc (brought_by h.reply) (versions_in hs) (versions_in ks))
+
+pub told_in-append : (hs ks : List Heard) → told_in (hs ++ ks) ≡ told_in hs ++ told_in ks
+told_in-append [] ks = refl
+told_in-append (h ∷ hs) ks = ap (λ vs. told_as h.asked h.reply ++ vs) (told_in-append hs ks) ∙ sym (append_assoc (told_as h.asked h.reply) (told_in hs) (told_in ks))
+
+-- a reply that tells of no version
+pub told_in-past : (hs : List Heard) (h : Heard) → told_as h.asked h.reply ≡ [] → told_in (hs ++ h ∷ []) ≡ told_in hs
+told_in-past hs h none = told_in-append hs (h ∷ []) ∙ ap (λ (vs : List Version). told_in hs ++ (vs ++ [])) none ∙ append-nil (told_in hs)
+
+-- and one that tells of this version
+pub told_in-last : (hs : List Heard) (h : Heard) (v : Version) → told_as h.asked h.reply ≡ v ∷ [] → told_in (hs ++ h ∷ []) ≡ told_in hs ++ v ∷ []
+told_in-last hs h v is = told_in-append hs (h ∷ []) ∙ ap (λ (vs : List Version). told_in hs ++ (vs ++ [])) is
 
 -- a reply that brings no version
 pub versions_in-past : (hs : List Heard) (h : Heard) → brought_by h.reply ≡ [] → versions_in (hs ++ h ∷ []) ≡ versions_in hs

@@ -1,11 +1,12 @@
 -- What is answered over an honest link.
-use Rattle.std.proofs.Common.{◌≡◌, ℕ, inl, inr, false, List, [], ◌∷◌, ◌++◌, Result, Ok, Err, IsTrue, refl, sym, ap, subst, ◌∙◌, ◌⊎◌}
+use Rattle.std.proofs.Common.{◌≡◌, ℕ, inl, inr, Bool, false, List, [], ◌∷◌, ◌++◌, Result, Ok, Err, IsTrue, refl, sym, ap, subst, ◌∙◌, ◌⊎◌}
 use Rattle.std.proofs.lemmas.List.{append-nil}
 use Rattle.uuid.specs.Parts.{zero_bytes}
 use Rattle.tw_protocol.specs.Chain.{Version, IsBetween, Grows, same_id, latest}
 use Rattle.tw_protocol.specs.Answer as protocol
 use Rattle.tw_protocol.specs.Answer.{version, answer, child_behind}
 use Rattle.tw_protocol.specs.Answer.Ask.{Add}
+use Rattle.tw_protocol.specs.Snapshots.{Account, is_wanted}
 use Rattle.tw_http.specs.declared.message.Asked.TheVariants as asked
 use Rattle.tw_http.specs.declared.message.Request.{Request}
 use Rattle.tw_http.specs.declared.message.Request.TheVariants as asks
@@ -14,7 +15,7 @@ use Rattle.tw_http.specs.declared.message.Response.TheVariants as replies
 use Rattle.tw_http.specs.declared.message.HttpError.{HttpError}
 use Rattle.tw_http.specs.Link.{LinkModel, IsHonest, IsChainOf, IsServedChain, Serves, MayServe}
 use Rattle.tw_http.specs.Responses.{IsResponseAnswer}
-use Rattle.tw_http.specs.Serving.{response_of}
+use Rattle.tw_http.specs.Serving.{says, account_after}
 use Rattle.tw_sync.specs.Heard.{heard}
 use Rattle.tw_sync.specs.Refused.{IsBadReply}
 use Rattle.tw_sync.specs.Answers.{IsLinkKept, GrowsOn, ChildSays, IsChildAnswer, child_response, IsAddedOne, IsAddAnswer, add_response, IsBadlyAnswered, NoReply, AddRefused}
@@ -28,7 +29,7 @@ use Rattle.tw_sync.specs.declared.error.AskError.{AskError}
 use Rattle.tw_sync.specs.declared.error.AskError.TheVariants as asking
 use Rattle.tw_sync.proofs.BadReplies.{apart}
 use Rattle.tw_sync.proofs.AnswerFacts.{ChildFact, child_fact, AddFact, add_fact}
-use Rattle.tw_sync.proofs.Served.{served_at, reply_is, grows_past}
+use Rattle.tw_sync.proofs.Served.{served_at, reply_is, serves_after, grows_past, add_mine, child_mine}
 
 version_is : (id parent segment : List ℕ) (v : Version) → id ≡ v.id → parent ≡ v.parent → segment ≡ v.segment → v ≡ version id parent segment
 version_is id parent segment v a b c = λ i. record { id = sym a i; parent = sym b i; segment = sym c i }
@@ -41,21 +42,21 @@ same_child e = (cc, cc, cc)
 ok_same : {r s : Response} → ◌≡◌ {A = Result Response HttpError} (Ok r) (Ok s) → r ≡ s
 ok_same e = cc
 
-child_says : (at : List Version) (parent : List ℕ) (t : protocol.Finding) (a : ChildAnswer) → ChildFact at parent t → child_response parent a ≡ response_of t → ChildSays at parent a
-child_says at parent (protocol.Finding.Added id) a fact e = absurd fact
-child_says at parent (protocol.Finding.Conflict id) a fact e = absurd fact
-child_says at parent protocol.Finding.Taken a fact e = absurd fact
-child_says at parent (protocol.Finding.Found v) (child.Found id segment) fact e =
+child_says : (at : List Version) (parent : List ℕ) (w : Bool) (t : protocol.Finding) (a : ChildAnswer) → ChildFact at parent t → child_response parent a ≡ says t w → ChildSays at parent a
+child_says at parent w (protocol.Finding.Added id) a fact e = absurd fact
+child_says at parent w (protocol.Finding.Conflict id) a fact e = absurd fact
+child_says at parent w protocol.Finding.Taken a fact e = absurd fact
+child_says at parent w (protocol.Finding.Found v) (child.Found id segment) fact e =
     let same : (id ≡ v.id) × (parent ≡ v.parent) × (segment ≡ v.segment) = same_child e in
     subst (λ i. IsBetween at parent i (version id parent segment ∷ [])) (sym same.0) (subst (λ w. IsBetween at parent v.id (w ∷ [])) (version_is id parent segment v same.0 same.1 same.2) fact.2)
-child_says at parent (protocol.Finding.Found v) child.UpToDate fact e = let none : ⊥ = cc in absurd none
-child_says at parent (protocol.Finding.Found v) child.Gone fact e = let none : ⊥ = cc in absurd none
-child_says at parent protocol.Finding.UpToDate (child.Found id segment) fact e = let none : ⊥ = cc in absurd none
-child_says at parent protocol.Finding.UpToDate child.UpToDate fact e = fact
-child_says at parent protocol.Finding.UpToDate child.Gone fact e = let none : ⊥ = cc in absurd none
-child_says at parent protocol.Finding.Gone (child.Found id segment) fact e = let none : ⊥ = cc in absurd none
-child_says at parent protocol.Finding.Gone child.UpToDate fact e = let none : ⊥ = cc in absurd none
-child_says at parent protocol.Finding.Gone child.Gone fact e = fact
+child_says at parent w (protocol.Finding.Found v) child.UpToDate fact e = let none : ⊥ = cc in absurd none
+child_says at parent w (protocol.Finding.Found v) child.Gone fact e = let none : ⊥ = cc in absurd none
+child_says at parent w protocol.Finding.UpToDate (child.Found id segment) fact e = let none : ⊥ = cc in absurd none
+child_says at parent w protocol.Finding.UpToDate child.UpToDate fact e = fact
+child_says at parent w protocol.Finding.UpToDate child.Gone fact e = let none : ⊥ = cc in absurd none
+child_says at parent w protocol.Finding.Gone (child.Found id segment) fact e = let none : ⊥ = cc in absurd none
+child_says at parent w protocol.Finding.Gone child.UpToDate fact e = let none : ⊥ = cc in absurd none
+child_says at parent w protocol.Finding.Gone child.Gone fact e = fact
 
 -- ---- bad replies
 
@@ -69,113 +70,121 @@ same_asked : {client parent client2 parent2 : List ℕ} → ◌≡◌ {A = Reque
 same_asked e = cc
 
 -- what get-child-version is told is a response of these three
-child_parent : (at : List Version) (parent : List ℕ) (t : protocol.Finding) (id named segment : List ℕ) → ChildFact at parent t → response_of t ≡ replies.Child id named segment → (named ≡ parent) × ¬ (id ≡ zero_bytes)
-child_parent at parent (protocol.Finding.Found v) id named segment fact e =
+child_parent : (at : List Version) (parent : List ℕ) (w : Bool) (t : protocol.Finding) (id named segment : List ℕ) → ChildFact at parent t → says t w ≡ replies.Child id named segment → (named ≡ parent) × ¬ (id ≡ zero_bytes)
+child_parent at parent w (protocol.Finding.Found v) id named segment fact e =
     let same : (v.id ≡ id) × (v.parent ≡ named) × (v.segment ≡ segment) = same_child e in
     (sym same.1 ∙ fact.0, λ nil. fact.1 (same.0 ∙ nil))
-child_parent at parent (protocol.Finding.Added x) id named segment fact e = absurd fact
-child_parent at parent (protocol.Finding.Conflict x) id named segment fact e = absurd fact
-child_parent at parent protocol.Finding.UpToDate id named segment fact e = let none : ⊥ = cc in absurd none
-child_parent at parent protocol.Finding.Gone id named segment fact e = let none : ⊥ = cc in absurd none
-child_parent at parent protocol.Finding.Taken id named segment fact e = absurd fact
+child_parent at parent w (protocol.Finding.Added x) id named segment fact e = absurd fact
+child_parent at parent w (protocol.Finding.Conflict x) id named segment fact e = absurd fact
+child_parent at parent w protocol.Finding.UpToDate id named segment fact e = let none : ⊥ = cc in absurd none
+child_parent at parent w protocol.Finding.Gone id named segment fact e = let none : ⊥ = cc in absurd none
+child_parent at parent w protocol.Finding.Taken id named segment fact e = absurd fact
 
 -- none of the other responses is told
 abbrev Untold : Response → Type 0
 Untold replies.Bad = Unit {0}
 Untold replies.TooLong = Unit {0}
 Untold replies.Taken = Unit {0}
-Untold (replies.Added id) = Unit {0}
+Untold (replies.Added id wanted) = Unit {0}
 Untold (replies.Conflict last) = ⊥
 Untold (replies.Child id parent segment) = ⊥
 Untold replies.UpToDate = ⊥
 Untold replies.Gone = ⊥
+Untold replies.Stored = Unit {0}
+Untold (replies.Snapshot version bytes) = Unit {0}
 
-child_untold : (at : List Version) (parent : List ℕ) (t : protocol.Finding) (s : Response) → ChildFact at parent t → response_of t ≡ s → Untold s → ⊥
-child_untold at parent (protocol.Finding.Found v) s fact e u = subst Untold (sym e) u
-child_untold at parent (protocol.Finding.Added x) s fact e u = fact
-child_untold at parent (protocol.Finding.Conflict x) s fact e u = fact
-child_untold at parent protocol.Finding.UpToDate s fact e u = subst Untold (sym e) u
-child_untold at parent protocol.Finding.Gone s fact e u = subst Untold (sym e) u
-child_untold at parent protocol.Finding.Taken s fact e u = fact
+child_untold : (at : List Version) (parent : List ℕ) (w : Bool) (t : protocol.Finding) (s : Response) → ChildFact at parent t → says t w ≡ s → Untold s → ⊥
+child_untold at parent w (protocol.Finding.Found v) s fact e u = subst Untold (sym e) u
+child_untold at parent w (protocol.Finding.Added x) s fact e u = fact
+child_untold at parent w (protocol.Finding.Conflict x) s fact e u = fact
+child_untold at parent w protocol.Finding.UpToDate s fact e u = subst Untold (sym e) u
+child_untold at parent w protocol.Finding.Gone s fact e u = subst Untold (sym e) u
+child_untold at parent w protocol.Finding.Taken s fact e u = fact
 
-child_never : (client parent : List ℕ) (at : List Version) (t : protocol.Finding) (kind : ReplyKind) (r : Result Response HttpError) → ChildFact at parent t → r ≡ Ok (response_of t) → IsBadReply kind (heard (asks.Child client parent) r) → ⊥
-child_never client parent at t Cut r fact e bad = not_ok bad e
-child_never client parent at t Head r fact e bad = not_ok bad e
-child_never client parent at t Header r fact e bad = not_ok bad e
-child_never client parent at t Length r fact e bad = not_ok bad e
-child_never client parent at t TooLong r fact e bad = not_ok bad e
-child_never client parent at t Parent r fact e (c, named_asked, id, named, segment, asked_is, reply, other) =
-    other ((child_parent at parent t id named segment fact (to_same reply e)).0 ∙ same_asked asked_is)
-child_never client parent at t Nil r fact e (inl reply) = child_untold at parent t (replies.Added zero_bytes) fact (to_same reply e) tt
-child_never client parent at t Nil r fact e (inr (c, named, segment, asked_is, reply)) = (child_parent at parent t zero_bytes named segment fact (to_same reply e)).1 refl
-child_never client parent at t (Status code) r fact e (inl bad) = not_ok bad e
-child_never client parent at t (Status code) r fact e (inr (inl bad)) = child_untold at parent t replies.Bad fact (to_same bad.1 e) tt
-child_never client parent at t (Status code) r fact e (inr (inr (inl bad))) = child_untold at parent t replies.TooLong fact (to_same bad.1 e) tt
-child_never client parent at t (Status code) r fact e (inr (inr (inr bad))) = child_untold at parent t replies.Taken fact (to_same bad.1 e) tt
+child_never : (client parent : List ℕ) (at : List Version) (w : Bool) (t : protocol.Finding) (kind : ReplyKind) (r : Result Response HttpError) → ChildFact at parent t → r ≡ Ok (says t w) → IsBadReply kind (heard (asks.Child client parent) r) → ⊥
+child_never client parent at w t Cut r fact e bad = not_ok bad e
+child_never client parent at w t Head r fact e bad = not_ok bad e
+child_never client parent at w t Header r fact e bad = not_ok bad e
+child_never client parent at w t Length r fact e bad = not_ok bad e
+child_never client parent at w t TooLong r fact e bad = not_ok bad e
+child_never client parent at w t Parent r fact e (c, named_asked, id, named, segment, asked_is, reply, other) =
+    other ((child_parent at parent w t id named segment fact (to_same reply e)).0 ∙ same_asked asked_is)
+child_never client parent at w t Nil r fact e (inl (wanted, reply)) = child_untold at parent w t (replies.Added zero_bytes wanted) fact (to_same reply e) tt
+child_never client parent at w t Nil r fact e (inr (c, named, segment, asked_is, reply)) = (child_parent at parent w t zero_bytes named segment fact (to_same reply e)).1 refl
+child_never client parent at w t (Status code) r fact e (inl bad) = not_ok bad e
+child_never client parent at w t (Status code) r fact e (inr (inl bad)) = child_untold at parent w t replies.Bad fact (to_same bad.1 e) tt
+child_never client parent at w t (Status code) r fact e (inr (inr (inl bad))) = child_untold at parent w t replies.TooLong fact (to_same bad.1 e) tt
+child_never client parent at w t (Status code) r fact e (inr (inr (inr bad))) = child_untold at parent w t replies.Taken fact (to_same bad.1 e) tt
 
-same_added : {x y : List ℕ} → ◌≡◌ {A = Response} (replies.Added x) (replies.Added y) → x ≡ y
+same_added : {x y : List ℕ} {v w : Bool} → ◌≡◌ {A = Response} (replies.Added x v) (replies.Added y w) → x ≡ y
 same_added e = cc
 
 same_conflict : {x y : List ℕ} → ◌≡◌ {A = Response} (replies.Conflict x) (replies.Conflict y) → x ≡ y
 same_conflict e = cc
 
 -- what add-version is told is one of these three
-add_nil : (at : List Version) (parent segment id : List ℕ) (added : List Version) (t : protocol.Finding) (new : List ℕ) → AddFact at parent segment id added t → response_of t ≡ replies.Added new → new ≡ id
-add_nil at parent segment id added (protocol.Finding.Added x) new fact e = same_added (sym e) ∙ fact.0
-add_nil at parent segment id added (protocol.Finding.Found v) new fact e = absurd fact
-add_nil at parent segment id added (protocol.Finding.Conflict x) new fact e = let none : ⊥ = cc in absurd none
-add_nil at parent segment id added protocol.Finding.UpToDate new fact e = absurd fact
-add_nil at parent segment id added protocol.Finding.Gone new fact e = absurd fact
-add_nil at parent segment id added protocol.Finding.Taken new fact e = let none : ⊥ = cc in absurd none
+add_nil : (at : List Version) (parent segment id : List ℕ) (added : List Version) (w : Bool) (t : protocol.Finding) (new : List ℕ) (wanted : Bool) → AddFact at parent segment id added t → says t w ≡ replies.Added new wanted → new ≡ id
+add_nil at parent segment id added w (protocol.Finding.Added x) new wanted fact e = same_added (sym e) ∙ fact.0
+add_nil at parent segment id added w (protocol.Finding.Found v) new wanted fact e = absurd fact
+add_nil at parent segment id added w (protocol.Finding.Conflict x) new wanted fact e = let none : ⊥ = cc in absurd none
+add_nil at parent segment id added w protocol.Finding.UpToDate new wanted fact e = absurd fact
+add_nil at parent segment id added w protocol.Finding.Gone new wanted fact e = absurd fact
+add_nil at parent segment id added w protocol.Finding.Taken new wanted fact e = let none : ⊥ = cc in absurd none
 
 -- none of the other responses is told
 abbrev Unsaid : Response → Type 0
 Unsaid replies.Bad = Unit {0}
 Unsaid replies.TooLong = Unit {0}
 Unsaid replies.Taken = ⊥
-Unsaid (replies.Added id) = ⊥
+Unsaid (replies.Added id wanted) = ⊥
 Unsaid (replies.Conflict last) = ⊥
 Unsaid (replies.Child id parent segment) = Unit {0}
 Unsaid replies.UpToDate = Unit {0}
 Unsaid replies.Gone = Unit {0}
+Unsaid replies.Stored = Unit {0}
+Unsaid (replies.Snapshot version bytes) = Unit {0}
 
-add_unsaid : (at : List Version) (parent segment id : List ℕ) (added : List Version) (t : protocol.Finding) (s : Response) → AddFact at parent segment id added t → response_of t ≡ s → Unsaid s → ⊥
-add_unsaid at parent segment id added (protocol.Finding.Found v) s fact e u = fact
-add_unsaid at parent segment id added (protocol.Finding.Added x) s fact e u = subst Unsaid (sym e) u
-add_unsaid at parent segment id added (protocol.Finding.Conflict x) s fact e u = subst Unsaid (sym e) u
-add_unsaid at parent segment id added protocol.Finding.UpToDate s fact e u = fact
-add_unsaid at parent segment id added protocol.Finding.Gone s fact e u = fact
-add_unsaid at parent segment id added protocol.Finding.Taken s fact e u = subst Unsaid (sym e) u
+add_unsaid : (at : List Version) (parent segment id : List ℕ) (added : List Version) (w : Bool) (t : protocol.Finding) (s : Response) → AddFact at parent segment id added t → says t w ≡ s → Unsaid s → ⊥
+add_unsaid at parent segment id added w (protocol.Finding.Found v) s fact e u = fact
+add_unsaid at parent segment id added w (protocol.Finding.Added x) s fact e u = subst Unsaid (sym e) u
+add_unsaid at parent segment id added w (protocol.Finding.Conflict x) s fact e u = subst Unsaid (sym e) u
+add_unsaid at parent segment id added w protocol.Finding.UpToDate s fact e u = fact
+add_unsaid at parent segment id added w protocol.Finding.Gone s fact e u = fact
+add_unsaid at parent segment id added w protocol.Finding.Taken s fact e u = subst Unsaid (sym e) u
 
-add_taken : (at : List Version) (parent segment id : List ℕ) (added : List Version) (t : protocol.Finding) → AddFact at parent segment id added t → response_of t ≡ replies.Taken → added ≡ []
-add_taken at parent segment id added (protocol.Finding.Found v) fact e = absurd fact
-add_taken at parent segment id added (protocol.Finding.Added x) fact e = let none : ⊥ = cc in absurd none
-add_taken at parent segment id added (protocol.Finding.Conflict x) fact e = fact.0
-add_taken at parent segment id added protocol.Finding.UpToDate fact e = absurd fact
-add_taken at parent segment id added protocol.Finding.Gone fact e = absurd fact
-add_taken at parent segment id added protocol.Finding.Taken fact e = fact
+add_taken : (at : List Version) (parent segment id : List ℕ) (added : List Version) (w : Bool) (t : protocol.Finding) → AddFact at parent segment id added t → says t w ≡ replies.Taken → added ≡ []
+add_taken at parent segment id added w (protocol.Finding.Found v) fact e = absurd fact
+add_taken at parent segment id added w (protocol.Finding.Added x) fact e = let none : ⊥ = cc in absurd none
+add_taken at parent segment id added w (protocol.Finding.Conflict x) fact e = fact.0
+add_taken at parent segment id added w protocol.Finding.UpToDate fact e = absurd fact
+add_taken at parent segment id added w protocol.Finding.Gone fact e = absurd fact
+add_taken at parent segment id added w protocol.Finding.Taken fact e = fact
 
 -- over an honest link the one bad reply is that the drawn id is taken
-add_only : (client parent segment id : List ℕ) (at added : List Version) (t : protocol.Finding) (kind : ReplyKind) (r : Result Response HttpError) → AddFact at parent segment id added t → same_id id zero_bytes ≡ false → r ≡ Ok (response_of t)
+add_only : (client parent segment id : List ℕ) (at added : List Version) (w : Bool) (t : protocol.Finding) (kind : ReplyKind) (r : Result Response HttpError) → AddFact at parent segment id added t → same_id id zero_bytes ≡ false → r ≡ Ok (says t w)
     → IsBadReply kind (heard (asks.Add client parent segment) r) → (kind ≡ Status 500) × (added ≡ [])
-add_only client parent segment id at added t Cut r fact real e bad = absurd (not_ok bad e)
-add_only client parent segment id at added t Head r fact real e bad = absurd (not_ok bad e)
-add_only client parent segment id at added t Header r fact real e bad = absurd (not_ok bad e)
-add_only client parent segment id at added t Length r fact real e bad = absurd (not_ok bad e)
-add_only client parent segment id at added t TooLong r fact real e bad = absurd (not_ok bad e)
-add_only client parent segment id at added t Parent r fact real e (c, named_asked, child_id, named, child_segment, asked_is, reply, other) =
-    absurd (add_unsaid at parent segment id added t (replies.Child child_id named child_segment) fact (to_same reply e) tt)
-add_only client parent segment id at added t Nil r fact real e (inl reply) = absurd (apart id zero_bytes real (sym (add_nil at parent segment id added t zero_bytes fact (to_same reply e))))
-add_only client parent segment id at added t Nil r fact real e (inr (c, named, child_segment, asked_is, reply)) =
-    absurd (add_unsaid at parent segment id added t (replies.Child zero_bytes named child_segment) fact (to_same reply e) tt)
-add_only client parent segment id at added t (Status code) r fact real e (inl bad) = absurd (not_ok bad e)
-add_only client parent segment id at added t (Status code) r fact real e (inr (inl bad)) = absurd (add_unsaid at parent segment id added t replies.Bad fact (to_same bad.1 e) tt)
-add_only client parent segment id at added t (Status code) r fact real e (inr (inr (inl bad))) = absurd (add_unsaid at parent segment id added t replies.TooLong fact (to_same bad.1 e) tt)
-add_only client parent segment id at added t (Status code) r fact real e (inr (inr (inr bad))) = (ap (λ c. Status c) bad.0, add_taken at parent segment id added t fact (to_same bad.1 e))
+add_only client parent segment id at added w t Cut r fact real e bad = absurd (not_ok bad e)
+add_only client parent segment id at added w t Head r fact real e bad = absurd (not_ok bad e)
+add_only client parent segment id at added w t Header r fact real e bad = absurd (not_ok bad e)
+add_only client parent segment id at added w t Length r fact real e bad = absurd (not_ok bad e)
+add_only client parent segment id at added w t TooLong r fact real e bad = absurd (not_ok bad e)
+add_only client parent segment id at added w t Parent r fact real e (c, named_asked, child_id, named, child_segment, asked_is, reply, other) =
+    absurd (add_unsaid at parent segment id added w t (replies.Child child_id named child_segment) fact (to_same reply e) tt)
+add_only client parent segment id at added w t Nil r fact real e (inl (wanted, reply)) = absurd (apart id zero_bytes real (sym (add_nil at parent segment id added w t zero_bytes wanted fact (to_same reply e))))
+add_only client parent segment id at added w t Nil r fact real e (inr (c, named, child_segment, asked_is, reply)) =
+    absurd (add_unsaid at parent segment id added w t (replies.Child zero_bytes named child_segment) fact (to_same reply e) tt)
+add_only client parent segment id at added w t (Status code) r fact real e (inl bad) = absurd (not_ok bad e)
+add_only client parent segment id at added w t (Status code) r fact real e (inr (inl bad)) = absurd (add_unsaid at parent segment id added w t replies.Bad fact (to_same bad.1 e) tt)
+add_only client parent segment id at added w t (Status code) r fact real e (inr (inr (inl bad))) = absurd (add_unsaid at parent segment id added w t replies.TooLong fact (to_same bad.1 e) tt)
+add_only client parent segment id at added w t (Status code) r fact real e (inr (inr (inr bad))) = (ap (λ c. Status c) bad.0, add_taken at parent segment id added w t fact (to_same bad.1 e))
 
 module _ {L : Type 0} (m : LinkModel L) (old new : L) where
   abbrev ServesLink : Request → List ℕ → Type 0
   ServesLink request reply = Serves (m.chain old) (m.chain new) (m.own old) (m.own new) request reply
+
+  -- whether a snapshot is wanted after a request
+  abbrev wanted_by : Account → Request → (id : List ℕ) → Bool
+  wanted_by at request id = is_wanted (account_after at request id)
 
   abbrev MayServeLink : Request → Type 0
   MayServeLink request = MayServe (m.chain old) (m.chain new) (m.own old) (m.own new) request
@@ -192,7 +201,7 @@ module _ {L : Type 0} (m : LinkModel L) (old new : L) where
 
   -- get-child-version adds nothing
   pub child_own : (client parent reply : List ℕ) → ServesLink (asks.Child client parent) reply → m.own new ≡ m.own old
-  child_own client parent reply s = s.mine ∙ append-nil (m.own old)
+  child_own client parent reply s = child_mine (m.chain old) (m.chain new) (m.own old) (m.own new) client parent reply s
 
   pub child_may_own : (client parent : List ℕ) → MayServeLink (asks.Child client parent) → m.own new ≡ m.own old
   child_may_own client parent (inl others) = others.mine
@@ -200,18 +209,18 @@ module _ {L : Type 0} (m : LinkModel L) (old new : L) where
 
   pub child_answered : (client parent reply : List ℕ) (a : ChildAnswer) → ServesLink (asks.Child client parent) reply → IsServedChain (m.chain new) → IsResponseAnswer asked.Child reply (Ok (child_response parent a)) → IsChildAnswer m old new parent a
   child_answered client parent reply a s served read =
-      let at : IsServedChain s.at = served_at (m.chain old) (m.chain new) (m.own old) (m.own new) (asks.Child client parent) reply s served in
+      let at : IsServedChain s.at.chain = served_at (m.chain old) (m.chain new) (m.own old) (m.own new) (asks.Child client parent) reply s served in
       record {
-        at = s.at;
-        given = record { before = s.before; after = grows_past s.at [] (m.chain new) s.after };
-        says = child_says s.at parent (child_behind parent zero_bytes s.at) a (child_fact s.at parent at.whole)
+        at = s.at.chain;
+        given = record { before = s.before; after = serves_after (m.chain old) (m.chain new) (m.own old) (m.own new) (asks.Child client parent) reply s };
+        says = child_says s.at.chain parent (wanted_by s.at (asks.Child client parent) s.id) (child_behind parent zero_bytes s.at.chain) a (child_fact s.at.chain parent at.whole)
             (ok_same (reply_is (m.chain old) (m.chain new) (m.own old) (m.own new) (asks.Child client parent) reply s served (Ok (child_response parent a)) read));
       }
 
   pub child_no_reply : (client parent reply : List ℕ) (e : AskError) → ServesLink (asks.Child client parent) reply → IsServedChain (m.chain new) → IsBadlyAnswered (asks.Child client parent) reply e → NoReply e
   child_no_reply client parent reply (asking.Reply kind) s served (r, read, bad) =
-      let at : IsServedChain s.at = served_at (m.chain old) (m.chain new) (m.own old) (m.own new) (asks.Child client parent) reply s served in
-      absurd (child_never client parent s.at (child_behind parent zero_bytes s.at) kind r (child_fact s.at parent at.whole)
+      let at : IsServedChain s.at.chain = served_at (m.chain old) (m.chain new) (m.own old) (m.own new) (asks.Child client parent) reply s served in
+      absurd (child_never client parent s.at.chain (wanted_by s.at (asks.Child client parent) s.id) (child_behind parent zero_bytes s.at.chain) kind r (child_fact s.at.chain parent at.whole)
       (reply_is (m.chain old) (m.chain new) (m.own old) (m.own new) (asks.Child client parent) reply s served r read) bad)
   child_no_reply client parent reply asking.Memory s served b = inr refl
   child_no_reply client parent reply asking.Link s served b = absurd b
@@ -239,39 +248,40 @@ module _ {L : Type 0} (m : LinkModel L) (old new : L) where
 
   pub add_own : (client parent segment reply : List ℕ) → ServesLink (asks.Add client parent segment) reply → MayOwn parent segment
   add_own client parent segment reply s =
-      let a = answer s.at (Add parent segment) s.id in
-      own_by s.at parent segment s.id a.0 a.1 (add_fact s.at parent segment s.id) s.before s.after s.mine
+      let a = answer s.at.chain (Add parent segment) s.id in
+      own_by s.at.chain parent segment s.id a.0 a.1 (add_fact s.at.chain parent segment s.id) s.before s.after (add_mine (m.chain old) (m.chain new) (m.own old) (m.own new) client parent segment reply s)
 
   pub add_may_own : (client parent segment : List ℕ) → MayServeLink (asks.Add client parent segment) → MayOwn parent segment
   add_may_own client parent segment (inl others) = inl others.mine
   add_may_own client parent segment (inr (reply, s)) = add_own client parent segment reply s
 
-  says_by : (at : List Version) (parent segment id : List ℕ) (added : List Version) (t : protocol.Finding) (a : AddAnswer) → AddFact at parent segment id added t → Grows (m.chain old) at → Grows (at ++ added) (m.chain new) → m.own new ≡ m.own old ++ added
-      → add_response a ≡ response_of t → IsAddAnswer m old new parent segment a
-  says_by at parent segment id added (protocol.Finding.Added x) (add.Added new_id) fact before after mine e =
+  says_by : (at : List Version) (parent segment id : List ℕ) (added : List Version) (w : Bool) (t : protocol.Finding) (a : AddAnswer) → AddFact at parent segment id added t → Grows (m.chain old) at → Grows (at ++ added) (m.chain new) → m.own new ≡ m.own old ++ added
+      → add_response a ≡ says t w → IsAddAnswer m old new parent segment a
+  says_by at parent segment id added w (protocol.Finding.Added x) (add.Added new_id wanted) fact before after mine e =
       subst (λ i. IsAddedOne m old new (version i parent segment)) (sym (same_added e ∙ fact.0)) (added_one at parent segment id added before fact.2 after mine fact.1)
-  says_by at parent segment id added (protocol.Finding.Added x) (add.Conflict last) fact before after mine e = let none : ⊥ = cc in absurd none
-  says_by at parent segment id added (protocol.Finding.Conflict x) (add.Added new_id) fact before after mine e = let none : ⊥ = cc in absurd none
-  says_by at parent segment id added (protocol.Finding.Conflict x) (add.Conflict last) fact before after mine e =
+  says_by at parent segment id added w (protocol.Finding.Added x) (add.Conflict last) fact before after mine e = let none : ⊥ = cc in absurd none
+  says_by at parent segment id added w (protocol.Finding.Conflict x) (add.Added new_id wanted) fact before after mine e = let none : ⊥ = cc in absurd none
+  says_by at parent segment id added w (protocol.Finding.Conflict x) (add.Conflict last) fact before after mine e =
       let same : last ≡ x = same_conflict e in
       record { at = at; given = record { before = before; after = grows_past at added (m.chain new) after }; is_last = fact.1 ∙ sym same; other = λ parent_is. fact.2 (sym same ∙ parent_is); mine = none_added added mine fact.0 }
-  says_by at parent segment id added protocol.Finding.Taken (add.Added new_id) fact before after mine e = let none : ⊥ = cc in absurd none
-  says_by at parent segment id added protocol.Finding.Taken (add.Conflict last) fact before after mine e = let none : ⊥ = cc in absurd none
-  says_by at parent segment id added (protocol.Finding.Found v) a fact before after mine e = absurd fact
-  says_by at parent segment id added protocol.Finding.UpToDate a fact before after mine e = absurd fact
-  says_by at parent segment id added protocol.Finding.Gone a fact before after mine e = absurd fact
+  says_by at parent segment id added w protocol.Finding.Taken (add.Added new_id wanted) fact before after mine e = let none : ⊥ = cc in absurd none
+  says_by at parent segment id added w protocol.Finding.Taken (add.Conflict last) fact before after mine e = let none : ⊥ = cc in absurd none
+  says_by at parent segment id added w (protocol.Finding.Found v) a fact before after mine e = absurd fact
+  says_by at parent segment id added w protocol.Finding.UpToDate a fact before after mine e = absurd fact
+  says_by at parent segment id added w protocol.Finding.Gone a fact before after mine e = absurd fact
 
   pub add_answered : (client parent segment reply : List ℕ) (a : AddAnswer) → ServesLink (asks.Add client parent segment) reply → IsServedChain (m.chain new) → IsResponseAnswer asked.Add reply (Ok (add_response a)) → IsAddAnswer m old new parent segment a
   add_answered client parent segment reply a s served read =
-      let x = answer s.at (Add parent segment) s.id in
-      says_by s.at parent segment s.id x.0 x.1 a (add_fact s.at parent segment s.id) s.before s.after s.mine
+      let x = answer s.at.chain (Add parent segment) s.id in
+      says_by s.at.chain parent segment s.id x.0 (wanted_by s.at (asks.Add client parent segment) s.id) x.1 a (add_fact s.at.chain parent segment s.id) s.before s.after
+      (add_mine (m.chain old) (m.chain new) (m.own old) (m.own new) client parent segment reply s)
       (ok_same (reply_is (m.chain old) (m.chain new) (m.own old) (m.own new) (asks.Add client parent segment) reply s served (Ok (add_response a)) read))
 
   pub add_refused : (client parent segment reply : List ℕ) (e : AskError) → ServesLink (asks.Add client parent segment) reply → IsServedChain (m.chain new) → IsBadlyAnswered (asks.Add client parent segment) reply e → AddRefused m old new parent segment e
   add_refused client parent segment reply (asking.Reply kind) s served (r, read, bad) =
-      let x = answer s.at (Add parent segment) s.id in
-      let only = add_only client parent segment s.id s.at x.0 x.1 kind r (add_fact s.at parent segment s.id) s.real
+      let x = answer s.at.chain (Add parent segment) s.id in
+      let only = add_only client parent segment s.id s.at.chain x.0 (wanted_by s.at (asks.Add client parent segment) s.id) x.1 kind r (add_fact s.at.chain parent segment s.id) s.real
       (reply_is (m.chain old) (m.chain new) (m.own old) (m.own new) (asks.Add client parent segment) reply s served r read) bad in
-      inr (ap (λ k. asking.Reply k) only.0, none_added x.0 s.mine only.1)
+      inr (ap (λ k. asking.Reply k) only.0, none_added x.0 (add_mine (m.chain old) (m.chain new) (m.own old) (m.own new) client parent segment reply s) only.1)
   add_refused client parent segment reply asking.Memory s served b = inl (inr refl, add_own client parent segment reply s)
   add_refused client parent segment reply asking.Link s served b = absurd b

@@ -1,18 +1,18 @@
 -- Operations that came after those that were pending when a sync was refused.
-use Rattle.std.proofs.Common.{◌≡◌, ℕ, ◌+◌, Bool, true, false, cond, is_some, List, [], ◌∷◌, ◌++◌, Option, Some, None, refl, sym, ap, subst, ◌∙◌}
+use Rattle.std.proofs.Common.{◌≡◌, ℕ, Bool, true, false, cond, is_some, List, [], ◌∷◌, ◌++◌, Option, Some, None, refl, sym, ap, subst, ◌∙◌}
 use Rattle.std.proofs.lemmas.List.{append_assoc, append-nil}
 use Rattle.tw_model.specs.Ops.{TasksValue}
 use Rattle.tw_model.specs.LocalOps.{plain, apply_all_local, take_back_all}
 use Rattle.tw_model.specs.declared.Op.{Op}
 use Rattle.tw_model.proofs.LocalOps.{all_taken_back}
-use Rattle.tw_protocol.specs.Chain.{IsBetween}
-use Rattle.tw_transform.specs.Positions.{IsPosition}
 use Rattle.tw_replica.specs.State.{State, split_group, in_front, misfit, unless, moved_to, is_idle}
 use Rattle.tw_replica.specs.Sound.{IsUndone}
 use Rattle.tw_replica.proofs.Soundness.{undo_leads_back}
-use Rattle.tw_sync.specs.LaterOps.{Follows, CommitFollows, UndoStaysBehind, AddedForFollowing}
+use Rattle.tw_sync.specs.LaterOps.{Follows, CommitFollows, UndoStaysBehind, SentForFollowing}
 use Rattle.tw_sync.proofs.PendingOps.{plain-append, back-append, fits_from, some_state}
-use Rattle.tw_sync.proofs.CursorInChain.{between_grows}
+use Rattle.tw_path.proofs.Sending.{sent_stays}
+use Rattle.tw_outcome.specs.End.{starts_at}
+use Rattle.tw_outcome.proofs.Ends.{all_in_groups}
 
 -- ---- a commit
 
@@ -67,20 +67,14 @@ undo_stays_behind old new after more sound f some e = by (split_group more) refl
         let same : Some (after.pending, back.group) ≡ Some (old.pending ++ parts.0, parts.1) = sym back.split ∙ split in
         (parts.0, record { base = back.base ∙ f.base; start = back.start ∙ f.start; pending = first (after.pending, back.group) (old.pending ++ parts.0, parts.1) same })
 
--- ---- what was added
+-- ---- what was sent
 
-pub added_for_following : AddedForFollowing
-added_for_following old new before after chain more added grows f = (
-  record {
-    pending = ap plain f.pending ∙ plain-append old.pending more;
-    v = added.v;
-    versions = added.versions;
-    pulled = added.ops;
-    sent = added.left;
-    behind = subst (λ b. IsBetween chain b added.v.id (added.versions ++ added.v ∷ [])) (sym f.base) (between_grows after.chain chain old.base added.v.id (added.versions ++ added.v ∷ []) added.sent grows);
-    reads = added.pulled.reads;
-    position = subst (λ t. IsPosition t (plain old.pending) added.ops added.left) (sym f.start) added.pulled.position;
-    reads_back = added.reads_back;
-  },
-  refl,
-)
+pub sent_for_following : SentForFollowing
+sent_for_following old new chain now more mine later w sound sound_now was grows f =
+    sent_stays (starts_at old) (starts_at new) chain now mine later (later ++ plain more) w was f.base f.start
+    (sym (all_in_groups new.pending sound_now.begins)
+    ∙ ap plain f.pending
+    ∙ plain-append old.pending more
+    ∙ ap (λ xs. xs ++ plain more) (all_in_groups old.pending sound.begins ∙ was.all)
+    ∙ append_assoc mine later (plain more))
+    grows

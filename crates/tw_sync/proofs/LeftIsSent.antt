@@ -1,23 +1,32 @@
 -- What is left at a cursor is sent.
-use Rattle.std.proofs.Common.{◌≡◌, ℕ, ◌+◌, ◌*◌, ◌≤◌, inl, inr, length, List, [], ◌∷◌, ◌++◌, Ok, refl, sym, ap, subst, ◌∙◌, arith}
+use Rattle.std.proofs.Common.{◌≡◌, ℕ, ◌+◌, ◌*◌, ◌≤◌, inl, inr, Bool, length, List, [], ◌∷◌, ◌++◌, Ok, refl, sym, ap, subst, ◌∙◌, arith, length-append}
+use Rattle.std.specs.List.{AllByRecursion}
+use Rattle.std.proofs.lemmas.List.{append_assoc}
 use Rattle.uuid.specs.Parts.{zero_bytes}
+use Rattle.tw_model.specs.declared.SyncOp.{SyncOp}
 use Rattle.tw_protocol.specs.Chain.{Version, IsBetween, Grows, HoldsAll}
 use Rattle.tw_protocol.specs.Answer.{version}
 use Rattle.tw_protocol.proofs.Chains.{last_from-append}
-use Rattle.tw_protocol.proofs.Between.{between_joins}
 use Rattle.tw_http.specs.Link.{LinkModel, IsHonest}
 use Rattle.tw_http.specs.declared.message.Response.TheVariants as replies
-use Rattle.tw_segment.specs.Segment.{max_len, segment_text, IsSegment}
 use Rattle.tw_replica.specs.State.{State}
-use Rattle.tw_sync.specs.End.{IsPulled, AddedOne}
-use Rattle.tw_sync.specs.Fold.{Reads}
-use Rattle.tw_sync.specs.Heard.{Heard, Hears, HearsUntil, conflicts, most_exchanges}
+use Rattle.tw_groups.specs.Groups.{Groups, joined}
+use Rattle.tw_groups.specs.Cut.{first}
+use Rattle.tw_groups.proofs.Cutting.{cut_is_first}
+use Rattle.tw_path.specs.Path.{Leg, IsPush, is_batch, added_of}
+use Rattle.tw_path.specs.Path.Leg.{Push}
+use Rattle.tw_path.proofs.Lengths.{batch_is_limit}
+use Rattle.tw_path.proofs.Paths.{paths_join}
+use Rattle.tw_outcome.specs.End.{starts_at, Went}
+use Rattle.tw_sync.specs.Heard.{Heard, Hears, HearsUntil, most_exchanges}
 use Rattle.tw_sync.specs.Answers.{GrowsOn, IsAddedOne, add_heard, HeardRefusedAsk, NoReply, AddRefused}
-use Rattle.tw_sync.specs.Refused.{EndedBy, IsUpToDate, HeardRefused, MayAdd}
-use Rattle.tw_sync.specs.Sync.{server_chain, IsLastReply}
+use Rattle.tw_sync.specs.Refused.{EndedBy, IsLastReply, HeardRefused, MayAdd}
+use Rattle.tw_sync.specs.Sync.{server_chain}
 use Rattle.tw_sync.specs.Measured.{IsMeasured}
 use Rattle.tw_sync.specs.Honest.{HonestRefused, RestsOnPulled}
-use Rattle.tw_sync.specs.Progress.{HeardSoFar, IsAtEnd, HasPulled, HeardAll, IsMet, IsCause, HeardToStop, StopsTruly, IsStopped}
+use Rattle.tw_sync.specs.Way.{WentOn}
+use Rattle.tw_sync.specs.Cursor.{place, IsOnPath, IsIn, AddsVersion}
+use Rattle.tw_sync.specs.Progress.{HeardSoFar, IsAtEnd, HasPulled, IsCause, HeardToStop, StopsTruly, IsStopped}
 use Rattle.tw_sync.specs.Sending.{IsUnsent}
 use Rattle.tw_sync.specs.declared.ask.AddAnswer.TheVariants.{Added}
 use Rattle.tw_sync.specs.declared.cursor.Cursor.{Cursor}
@@ -27,165 +36,140 @@ use Rattle.tw_sync.specs.declared.error.SendError.{SendError}
 use Rattle.tw_sync.specs.declared.error.SendError.TheVariants as sending
 use Rattle.tw_sync.specs.declared.error.SyncError.{SyncError}
 use Rattle.tw_sync.specs.declared.error.SyncError.TheVariants as errors
-use Rattle.tw_sync.proofs.CursorInChain.{cut_grows, pulled_grows}
-use Rattle.tw_sync.proofs.Hearing.{kept_on, growing_on, hears_on, hears_until, hears_until_on, brought-append, versions_in-past}
+use Rattle.tw_sync.proofs.Legs.{at_on, versions_on, added_push}
+use Rattle.tw_sync.proofs.CursorInChain.{grown_longer, holds_grown, pushes_grown, is_in_grown, lies_on, added_on_path}
+use Rattle.tw_sync.proofs.Hearing.{kept_on, growing_on, hears_on, hears_until, hears_until_on, all-append, brought-append, told_in-last}
 use Rattle.tw_sync.proofs.ExpectedReplies.{added_leads, not_late, goes_on_past, goes_on_so_far, refused_on}
 use Rattle.tw_sync.proofs.Results.{ended_by}
 use Rattle.tw_sync.proofs.Served.{grows_on}
-use Rattle.tw_sync.proofs.OneExchangeMore.{IsAsked, RefusedAsk}
-use Rattle.tw_sync.proofs.PullRefused.{cause_on, no_reply_says, stops_here, rests_on_none, unmeasured}
+use Rattle.tw_sync.proofs.OneExchangeMore.{IsAsked, RefusedAsk, asked_on}
+use Rattle.tw_sync.proofs.PullRefused.{cause_on, no_reply_says, went_on, rests_on_none, unmeasured, tells_all, tells_ask}
 
--- ---- nothing is left
+-- ---- the end of the chain
 
-at_end_holds : {L : Type 0} (m : LinkModel L) (client : List ℕ) (state : State) (first now : L) (p : Cursor) → IsAtEnd m client state first now p → HoldsAll (m.chain first) (m.chain now) p.at
-at_end_holds m client state first now p e = record { front = e.front; back = e.given.after.more; cut = record { split = e.given.after.joined; at = e.last }; holds = e.given.before }
-
-holds_grown : (old now later : List Version) (v : List ℕ) → HoldsAll old now v → Grows now later → HoldsAll old later v
-holds_grown old now later v h g = record { front = h.front; back = h.back ++ g.more; cut = cut_grows now later v h.front h.back h.cut g; holds = h.holds }
+pub at_end_holds : {L : Type 0} (m : LinkModel L) (client : List ℕ) (state : State) (begin now : L) (legs : List Leg) (p : Cursor) → IsAtEnd m client state begin now legs p → HoldsAll (m.chain begin) (m.chain now) (place state legs).at
+at_end_holds m client state begin now legs p e = record { front = e.front; back = e.given.after.more; cut = record { split = e.given.after.joined; at = e.last }; holds = e.given.before }
 
 -- the exchanges of a sync that ends are few
-few_at_end : (first now versions conflicts more : ℕ) → now ≤ first + (versions + 2 * conflicts + more) → more ≤ 2 → conflicts ≤ versions → conflicts ≤ 15 → now ≤ first + most_exchanges versions
-few_at_end first now versions conflicts more le two late tries = omega (arith, le, two, late, tries)
+pub few_at_end : (begin now versions added conflicts : ℕ) → now ≤ begin + (versions + added + 2 * conflicts + 1) → conflicts ≤ versions → conflicts ≤ 15 → now ≤ begin + most_exchanges versions + added + 0
+few_at_end begin now versions added conflicts le late tries = omega (arith, le, late, tries)
 
-pub nothing_left : {L : Type 0} (m : LinkModel L) (client host : List ℕ) (state : State) (first now : L) (p : Cursor) → HasPulled m client host state first now p → p.left.items ≡ [] → IsMet m client host state first now p 0
-nothing_left m client host state first now p s none = record {
-  fewer = omega arith;
-  kept = s.asked.kept;
-  heard = λ tells. (let t = s.asked.heard tells in record {
-    hs = t.hs;
-    hears = t.hears;
-    ended = (t.so.0, t.so.1, inl t.so.2);
-    written = record { pulled = p.remote.items; reads = t.reads; end = inl (refl, record { at = t.at_is; ended = t.so }) };
-    brought_is = t.brought_is;
-    goes_on = goes_on_so_far m client host state first now p _ t s.tries;
-  });
-  come = λ honest. (
-      let e = s.come honest in
-      record {
-        on = e.on;
-        few = few_at_end (m.exchanges first) (m.exchanges now) p.versions p.conflicts 1 s.asked.count (omega arith) e.late s.tries;
-        end = inl (record { none = none; stands = e.stands; last = at_end_holds m client state first now p e; mine = e.mine; sent_is = refl });
-      });
+-- the path that has come to the end lies in the chain, also when it has grown
+pub went_to_end : {L : Type 0} (m : LinkModel L) (client : List ℕ) (state : State) (begin a b : L) (legs : List Leg) (p : Cursor) → IsOnPath state legs p → IsAtEnd m client state begin a legs p → Grows (m.chain a) (m.chain b) → m.own b ≡ m.own a → Went state (server_chain m begin) (server_chain m b) legs
+went_to_end m client state begin a b legs p s e g same = record {
+  path = s.path;
+  between = inr (is_in_grown state (m.chain a) (m.chain b) legs e.lies g);
+  mine = same ∙ e.mine;
+  behind = pushes_grown (m.chain begin) (m.chain a) (m.chain b) (added_of legs) e.behind g;
 }
+
+-- something is sent of what is left
+pub some_first : (gs : Groups) → ¬ (joined gs ≡ []) → 1 ≤ length (first is_batch gs)
+some_first gs some = by (first is_batch gs) (cut_is_first is_batch gs batch_is_limit some).some
+  where
+    by : (ops : List SyncOp) → ¬ (ops ≡ []) → 1 ≤ length ops
+    by [] none = absurd (none refl)
+    by (op ∷ ops) none = omega arith
 
 -- ---- a version is added
 
--- the version that was added stands behind what was pulled
-module _ {L : Type 0} (m : LinkModel L) (client : List ℕ) (state : State) (first a b : L) (p : Cursor) (id segment : List ℕ) (e : IsAtEnd m client state first a p) (on : GrowsOn m a b client) (one : IsAddedOne m a b (version id p.at segment)) where
+-- the version that was added comes after what was pulled
+module _ {L : Type 0} (m : LinkModel L) (client : List ℕ) (state : State) (begin a b : L) (legs : List Leg) (p : Cursor) (id segment : List ℕ) (ops : List SyncOp) (at : p.walker.at ≡ (place state legs).at) (e : IsAtEnd m client state begin a legs p) (on : GrowsOn m a b client) (one : IsAddedOne m a b (version id p.walker.at segment)) where
   abbrev pub v : Version
-  v = version id p.at segment
+  v = version id p.walker.at segment
 
-  pub sent_pulled : IsPulled state (m.chain b) p.at e.stands.versions p.remote.items p.left.items
-  sent_pulled = pulled_grows state (m.chain a) (m.chain b) p.at e.stands.versions p.remote.items p.left.items e.stands.pulled on.grows
+  abbrev pub more : List Leg
+  more = legs ++ Push v ops ∷ []
 
-  sent_next : IsBetween (m.chain b) p.at id (v ∷ [])
-  sent_next = record { front = one.at; back = one.after.more; split = one.after.joined; from = one.last; to = last_from-append zero_bytes one.at (v ∷ []) }
+  added_is : added_of more ≡ added_of legs ++ v ∷ []
+  added_is = added_push legs v ops
 
-  pub sent_behind : IsBetween (m.chain b) state.base id (e.stands.versions ++ v ∷ [])
-  sent_behind = between_joins (m.chain b) state.base p.at id e.stands.versions (v ∷ []) on.whole sent_pulled.between sent_next
+  next : IsBetween (m.chain b) (place state legs).at id (v ∷ [])
+  next = subst (λ x. IsBetween (m.chain b) x id (v ∷ [])) at (record { front = one.at; back = one.after.more; split = one.after.joined; from = one.last; to = last_from-append zero_bytes one.at (v ∷ []) })
 
-  pub sent_pulled_last : HoldsAll (m.chain first) (m.chain b) p.at
-  sent_pulled_last = holds_grown (m.chain first) (m.chain a) (m.chain b) p.at (at_end_holds m client state first a p e) on.grows
+  pub sent_lies : IsIn state (m.chain b) more
+  sent_lies = lies_on state (m.chain b) legs (Push v ops) on.whole (is_in_grown state (m.chain a) (m.chain b) legs e.lies on.grows) next
 
-  pub sent_last : HoldsAll (m.chain first) (m.chain b) id
-  sent_last = record {
-    front = one.at ++ v ∷ [];
-    back = one.after.more;
-    cut = record { split = one.after.joined; at = last_from-append zero_bytes one.at (v ∷ []) };
-    holds = grows_on (m.chain first) (m.chain a) (one.at ++ v ∷ []) e.on.grows (grows_on (m.chain a) one.at (one.at ++ v ∷ []) one.before (record { more = v ∷ []; joined = refl }));
-  }
+  here : HoldsAll (m.chain begin) (m.chain b) p.walker.at
+  here = subst (HoldsAll (m.chain begin) (m.chain b)) (sym at) (holds_grown (m.chain begin) (m.chain a) (m.chain b) (place state legs).at (at_end_holds m client state begin a legs p e) on.grows)
 
-  pub sent_mine : m.own b ≡ m.own first ++ v ∷ []
-  sent_mine = one.mine ∙ ap (λ vs. vs ++ v ∷ []) e.mine
+  pub sent_behind : AllByRecursion (λ (w : Version). HoldsAll (m.chain begin) (m.chain b) w.parent) (added_of more)
+  sent_behind = subst (AllByRecursion (λ (w : Version). HoldsAll (m.chain begin) (m.chain b) w.parent)) (sym added_is)
+      (all-append (λ (w : Version). HoldsAll (m.chain begin) (m.chain b) w.parent) (added_of legs) (v ∷ []) (pushes_grown (m.chain begin) (m.chain a) (m.chain b) (added_of legs) e.behind on.grows) (here, tt))
 
-  pub added_one : ¬ (p.left.items ≡ []) → segment ≡ segment_text p.left.items → IsSegment segment p.left.items → length segment ≤ max_len → AddedOne state (server_chain m first) (server_chain m b)
-  added_one some text back within = record {
-    v = v;
-    versions = e.stands.versions;
-    ops = p.remote.items;
-    left = p.left.items;
-    some = some;
-    pulled = sent_pulled;
-    segment = text;
-    reads_back = back;
-    within = within;
-    sent = sent_behind;
-    pulled_last = sent_pulled_last;
+  pub sent_mine : m.own b ≡ m.own begin ++ added_of more
+  sent_mine = one.mine ∙ ap (λ vs. vs ++ v ∷ []) e.mine ∙ append_assoc (m.own begin) (added_of legs) (v ∷ []) ∙ ap (λ vs. m.own begin ++ vs) (sym added_is)
+
+  -- it has gone on to it
+  pub sent_went : IsOnPath state legs p → IsPush (place state legs) v ops → Went state (server_chain m begin) (server_chain m b) more
+  sent_went s push = record { path = (paths_join (starts_at state) legs (Push v ops ∷ [])).1 s.path (push, tt); between = inr sent_lies; mine = sent_mine; behind = sent_behind }
+
+  -- it is at the end of the chain again
+  pub sent_end : (q : Cursor) → q.versions ≡ p.versions → q.conflicts ≡ p.conflicts → IsAtEnd m client state begin b more q
+  sent_end q versions conflicts = record {
+    on = growing_on m begin a b client e.on on;
     mine = sent_mine;
+    lies = sent_lies;
+    behind = sent_behind;
+    front = one.at ++ v ∷ [];
+    given = record {
+      before = grows_on (m.chain begin) (m.chain a) (one.at ++ v ∷ []) e.on.grows (grows_on (m.chain a) one.at (one.at ++ v ∷ []) one.before (record { more = v ∷ []; joined = refl }));
+      after = one.after;
+    };
+    last = last_from-append zero_bytes one.at (v ∷ []) ∙ sym (at_on state legs (Push v ops));
+    others = (
+        let o = e.others in
+        let f = grown_longer e.front (m.chain a) e.given.after in
+        let g = grown_longer (m.chain a) one.at one.before in
+        let n = length-append one.at (v ∷ []) in
+        let k = ap length added_is in
+        let j = length-append (added_of legs) (v ∷ []) in
+        omega (arith, o, f, g, n, k, j, conflicts));
+    late = (let l = e.late in omega (arith, l, versions, conflicts));
   }
 
--- where it was added the sync has ended
-pub added : {L : Type 0} (m : LinkModel L) (client host : List ℕ) (state : State) (first a b : L) (p q : Cursor) (id segment : List ℕ) (sent : ℕ) → HasPulled m client host state first a p → IsAsked m client host a b (add_heard client p.at segment (Added id))
-    → (IsHonest m a client → GrowsOn m a b client) → (IsHonest m a client → IsAddedOne m a b (version id p.at segment)) → ¬ (p.left.items ≡ []) → segment ≡ segment_text p.left.items → IsSegment segment p.left.items → length segment ≤ max_len
-    → q.at ≡ id → q.remote.items ≡ p.remote.items ++ p.left.items → q.versions ≡ p.versions → sent ≡ length p.left.items → IsMet m client host state first b q sent
-added m client host state first a b p q id segment sent s asked grows one some text back within at remote versions count = record {
-  fewer = (let n = s.fewer in omega (arith, n, count));
-  kept = kept_on m first a b s.asked.kept asked.kept;
-  heard = λ tells. all (s.asked.heard tells) (asked.heard (s.asked.kept.tells_list ∙ tells));
-  come = λ honest. (
-      let e = s.come honest in
-      let on = grows e.on.honest in
-      let o = one e.on.honest in
-      record {
-        on = growing_on m first a b client e.on on;
-        few = (let n = s.asked.count in let k = asked.count in subst (λ w. m.exchanges b ≤ m.exchanges first + most_exchanges w) (sym versions) (few_at_end (m.exchanges first) (m.exchanges b) p.versions p.conflicts 2 (omega (arith, n, k)) (omega arith) e.late s.tries));
-        end = inr (record {
-          versions = e.stands.versions;
-          ops = p.remote.items;
-          left = p.left.items;
-          some = some;
-          v = version id p.at segment;
-          pulled = sent_pulled m client state first a b p id segment e on o;
-          pulled_last = sent_pulled_last m client state first a b p id segment e on o;
-          segment = text;
-          reads_back = back;
-          within = within;
-          behind = sent_behind m client state first a b p id segment e on o;
-          last = sent_last m client state first a b p id segment e on o;
-          mine = sent_mine m client state first a b p id segment e on o;
-          at = at;
-          remote = remote;
-          count = versions ∙ e.stands.count;
-          sent_is = count;
-        });
-      });
-}
-  where
-    h : Heard
-    h = add_heard client p.at segment (Added id)
-
-    all : HeardSoFar m client host state first a p (λ hs. EndedBy hs (IsUpToDate client p.at)) → Hears m client host a b (h ∷ []) → HeardAll m client host state first b q
-    all t more = record {
-      hs = t.hs ++ h ∷ [];
-      hears = hears_on m client host first a b t.hs (h ∷ []) t.hears more;
-      ended = ended_by t.hs h (IsLastReply client q.at) (inr (ap (λ (i : List ℕ). Ok (replies.Added i)) (sym at)));
-      written = record {
-        pulled = p.remote.items;
-        reads = subst (λ vs. Reads vs p.remote.items) (sym (versions_in-past t.hs h refl)) t.reads;
-        end = inr (p.left.items, remote, record { position = s.left.position; ended = ended_by t.hs h (λ last. last.reply ≡ Ok (replies.Added q.at)) (ap (λ (i : List ℕ). Ok (replies.Added i)) (sym at)) });
-      };
-      brought_is = (let f = brought-append t.hs (h ∷ []) in let n = t.brought_is in omega (arith, f, n, versions));
-      goes_on = goes_on_past t.hs h (goes_on_so_far m client host state first a p _ t s.tries) (asked.welcome, added_leads h.reply id refl) (not_late client p.at t.hs t.so) refl refl;
+-- the sync goes on there
+pub added : {L : Type 0} (m : LinkModel L) (client host : List ℕ) (state : State) (begin a b : L) (p q : Cursor) (id segment : List ℕ) (wanted : Bool) (ops : List SyncOp) → (s : HasPulled m client host state begin a p) → IsAsked m client host a b (add_heard client p.walker.at segment (Added id wanted))
+    → (IsHonest m a client → GrowsOn m a b client) → (IsHonest m a client → IsAddedOne m a b (version id p.walker.at segment)) → IsPush (place state s.legs) (version id p.walker.at segment) ops → AddsVersion p q id ops → HasPulled m client host state begin b q
+added m client host state begin a b p q id segment wanted ops s asked grows one push t =
+    let v : Version = version id p.walker.at segment in
+    let h : Heard = add_heard client p.walker.at segment (Added id wanted) in
+    let more : List Leg = s.legs ++ Push v ops ∷ [] in
+    record {
+      legs = more;
+      on_path = added_on_path state s.legs p q v ops s.on_path push t;
+      tries = (let n = s.tries in let o = t.conflicts in omega (arith, n, o));
+      asked = asked_on m client host begin a b s.legs more p q 1 1 (λ hs. EndedBy hs (IsLastReply client (place state s.legs).at)) (λ hs. EndedBy hs (IsLastReply client (place state more).at)) h s.asked asked (added_leads h.reply id wanted refl)
+          (record { told = versions_on s.legs (Push v ops); ops = []; reads = refl; versions = (let o = t.versions in omega (arith, o)); bytes = (let o = t.bytes in omega (arith, o)); conflicts = (let o = t.conflicts in omega (arith, o)) })
+          (let n = t.versions in let o = t.conflicts in let c = ap length (added_push s.legs v ops) in let j = length-append (added_of s.legs) (v ∷ []) in omega (arith, n, o, c, j))
+          (λ hs ended late. absurd (let calm = not_late client (place state s.legs).at hs ended in omega (arith, calm, late)))
+          (λ hs u. ended_by hs h (IsLastReply client (place state more).at) (inr (wanted, ap (λ (i : List ℕ). Ok (replies.Added i wanted)) (sym (at_on state s.legs (Push v ops))))));
+      come = λ honest. (
+          let e = s.come honest in
+          sent_end m client state begin a b s.legs p id segment ops s.on_path.stands.at e (grows e.on.honest) (one e.on.honest) q t.versions t.conflicts);
     }
 
 -- ---- a refusal
 
 -- what is left is not sent
-pub unsent : {L : Type 0} (m : LinkModel L) (client host : List ℕ) (state : State) (first now : L) (p : Cursor) (e : SendError) → HasPulled m client host state first now p → IsUnsent p.left.items e → IsStopped m client host state first now (of_send e)
-unsent m client host state first now p e s not = by e not
+pub unsent : {L : Type 0} (m : LinkModel L) (client host : List ℕ) (state : State) (begin now : L) (p : Cursor) (e : SendError) → (s : HasPulled m client host state begin now p) → ¬ (joined (place state s.legs).left ≡ []) → IsUnsent (first is_batch (place state s.legs).left) e → IsStopped m client host state begin now (of_send e)
+unsent m client host state begin now p e s some not = by e not
   where
     heard_here : Type 0
-    heard_here = HeardSoFar m client host state first now p (λ hs. EndedBy hs (IsUpToDate client p.at))
+    heard_here = HeardSoFar m client host begin now s.legs p (λ hs. EndedBy hs (IsLastReply client (place state s.legs).at))
 
-    stop : (x : SyncError) → IsCause m first now x → ((t : heard_here) → HeardRefused client t.hs x × IsMeasured state client t.hs x) → (IsHonest m first client → HonestRefused state (server_chain m first) (server_chain m now) x) → RestsOnPulled m client host state first now x → IsStopped m client host state first now x
+    stop : (x : SyncError) → IsCause m begin now x → ((t : heard_here) → HeardRefused client t.hs x × IsMeasured state client t.hs x) → (IsHonest m begin client → HonestRefused state (server_chain m begin) (server_chain m now) x) → RestsOnPulled m client host state begin now x → IsStopped m client host state begin now x
     stop x cause why says pulled = record {
+      legs = s.legs;
+      path = s.on_path.path;
       kept = s.asked.kept;
       cause = cause;
       heard = λ tells. (let t = s.asked.heard tells in record {
         hs = t.hs;
-        hears = hears_until m client host first now t.hs x t.hears;
+        hears = hears_until m client host begin now t.hs x t.hears;
         refused = (why t).0;
         measured = (why t).1;
+        tells = tells_all s.legs x t.hs t.told;
         few = λ honest. (
             let n = s.asked.count in
             let o = s.tries in
@@ -193,42 +177,53 @@ unsent m client host state first now p e s not = by e not
             let late = (s.come honest).late in
             omega (arith, n, o, b, late));
       });
-      come = λ honest. (let c = s.come honest in record { whole = c.on.whole; grows = c.on.grows; refused = says honest; pulled = pulled; added = inl c.mine; added_only = inr c.mine });
+      come = λ honest. (
+          let c = s.come honest in
+          record {
+            whole = c.on.whole;
+            grows = c.on.grows;
+            refused = says honest;
+            pulled = pulled;
+            went = went_on state (server_chain m begin) (server_chain m now) s.legs x (record { path = s.on_path.path; between = inr c.lies; mine = c.mine; behind = c.behind });
+          });
     }
 
-    by : (x : SendError) → IsUnsent p.left.items x → IsStopped m client host state first now (of_send x)
+    by : (x : SendError) → IsUnsent (first is_batch (place state s.legs).left) x → IsStopped m client host state begin now (of_send x)
     by (sending.TooLong bytes) n =
         stop (errors.SegmentTooLong bytes) n.1
         (λ t. (
-          record { cause = (p.at, t.so); until = goes_on_so_far m client host state first now p _ t s.tries },
-          record { base = p.at; all = record { at = t.at_is; ended = t.so }; pulled = p.remote.items; reads = t.reads; left = p.left.items; position = s.left.position; len = n.0 },
+          record { cause = ((place state s.legs).at, t.so); until = goes_on_so_far m client host begin now s.legs p _ t s.tries },
+          record { legs = s.legs; heard = record { path = s.on_path.path; told = t.told; ended = t.so }; some = some; len = n.0 },
         ))
         (λ honest. (
         let e = s.come honest in
-        record { h = p.at; last = at_end_holds m client state first now p e; versions = e.stands.versions; ops = p.remote.items; left = p.left.items; pulled = e.stands.pulled; len = n.0 }))
+        record { legs = s.legs; path = s.on_path.path; between = e.lies; last = at_end_holds m client state begin now s.legs p e; some = some; len = n.0 }))
         tt
-    by sending.Memory n = stop errors.Memory tt (λ t. (record { cause = tt; until = goes_on_so_far m client host state first now p _ t s.tries }, tt)) (λ honest. tt) tt
+    by sending.Memory n = stop errors.Memory tt (λ t. (record { cause = tt; until = goes_on_so_far m client host begin now s.legs p _ t s.tries }, tt)) (λ honest. tt) tt
 
 may_add : (e : AskError) → NoReply e → MayAdd (of_ask e)
 may_add e (inl is) = subst (λ x. MayAdd (of_ask x)) (sym is) tt
 may_add e (inr is) = subst (λ x. MayAdd (of_ask x)) (sym is) tt
 
 -- the question was refused
-pub unadded : {L : Type 0} (m : LinkModel L) (client host : List ℕ) (state : State) (first a b : L) (p : Cursor) (segment : List ℕ) (e : AskError) → HasPulled m client host state first a p → RefusedAsk m client host a b e → (IsHonest m a client → GrowsOn m a b client)
-    → (IsHonest m a client → AddRefused m a b p.at segment e) → ¬ (p.left.items ≡ []) → segment ≡ segment_text p.left.items → IsSegment segment p.left.items → length segment ≤ max_len → IsStopped m client host state first b (of_ask e)
-unadded m client host state first a b p segment e s un grows refused some text back within = record {
-  kept = kept_on m first a b s.asked.kept un.kept;
-  cause = cause_on m first a b e s.asked.kept un.refused;
+pub unadded : {L : Type 0} (m : LinkModel L) (client host : List ℕ) (state : State) (begin a b : L) (p : Cursor) (segment : List ℕ) (ops : List SyncOp) (e : AskError) → (s : HasPulled m client host state begin a p) → RefusedAsk m client host a b e → (IsHonest m a client → GrowsOn m a b client)
+    → (IsHonest m a client → AddRefused m a b p.walker.at segment e) → ((id : List ℕ) → IsPush (place state s.legs) (version id p.walker.at segment) ops) → IsStopped m client host state begin b (of_ask e)
+unadded m client host state begin a b p segment ops e s un grows refused push = record {
+  legs = s.legs;
+  path = s.on_path.path;
+  kept = kept_on m begin a b s.asked.kept un.kept;
+  cause = cause_on m begin a b e s.asked.kept un.refused;
   heard = λ tells. to_stop (s.asked.heard tells) (un.heard (s.asked.kept.tells_list ∙ tells));
   come = λ honest. (let c = s.come honest in by c (grows c.on.honest) (refused c.on.honest));
 }
   where
-    to_stop : HeardSoFar m client host state first a p (λ hs. EndedBy hs (IsUpToDate client p.at)) → (hs : List Heard) × HearsUntil m client host a b hs (of_ask e) × HeardRefusedAsk hs e → HeardToStop m client host state first b (of_ask e)
+    to_stop : HeardSoFar m client host begin a s.legs p (λ hs. EndedBy hs (IsLastReply client (place state s.legs).at)) → (hs : List Heard) × HearsUntil m client host a b hs (of_ask e) × HeardRefusedAsk hs e → HeardToStop m client host state begin b s.legs (of_ask e)
     to_stop t u = record {
       hs = t.hs ++ u.0;
-      hears = hears_until_on m client host first a b t.hs u.0 (of_ask e) t.hears u.1;
-      refused = refused_on m client a b t.hs u.0 e un.refused u.2 (goes_on_so_far m client host state first a p _ t s.tries);
+      hears = hears_until_on m client host begin a b t.hs u.0 (of_ask e) t.hears u.1;
+      refused = refused_on m client a b t.hs u.0 e un.refused u.2 (goes_on_so_far m client host begin a s.legs p _ t s.tries);
       measured = unmeasured state client (t.hs ++ u.0) e;
+      tells = tells_ask s.legs e t.hs u.0 u.2 t.told;
       few = λ honest. (
           let n = s.asked.count in
           let k = un.count in
@@ -239,23 +234,33 @@ unadded m client host state first a b p segment e s un grows refused some text b
           omega (arith, n, k, o, f, g, late));
     }
 
-    by : IsAtEnd m client state first a p → GrowsOn m a b client → AddRefused m a b p.at segment e → StopsTruly m client host state first b (of_ask e)
-    by c on (inl (none, inl same)) = stops_here m client host state first a b (of_ask e) c.on c.mine on same (no_reply_says state (server_chain m first) (server_chain m b) e none) (rests_on_none m client host state first b e)
-    by c on (inl (none, inr (id, one))) = record {
+    says : GrowsOn m a b client → IsAtEnd m client state begin a s.legs p → HonestRefused state (server_chain m begin) (server_chain m b) (of_ask e) → WentOn state (server_chain m begin) (server_chain m b) s.legs (of_ask e) → StopsTruly m client host state begin b s.legs (of_ask e)
+    says on c is_so went = record {
       whole = on.whole;
-      grows = grows_on (m.chain first) (m.chain a) (m.chain b) c.on.grows on.grows;
-      refused = no_reply_says state (server_chain m first) (server_chain m b) e none;
-      pulled = rests_on_none m client host state first b e;
-      added = inr (added_one m client state first a b p id segment c on one some text back within);
-      added_only = inl (may_add e none);
+      grows = grows_on (m.chain begin) (m.chain a) (m.chain b) c.on.grows on.grows;
+      refused = is_so;
+      pulled = rests_on_none m client host state begin b e;
+      went = went;
     }
-    by c on (inr (is, same)) = stops_here m client host state first a b (of_ask e) c.on c.mine on same (subst (λ x. HonestRefused state (server_chain m first) (server_chain m b) (of_ask x)) (sym is) refl) (rests_on_none m client host state first b e)
+
+    stays : GrowsOn m a b client → IsAtEnd m client state begin a s.legs p → m.own b ≡ m.own a → WentOn state (server_chain m begin) (server_chain m b) s.legs (of_ask e)
+    stays on c same = went_on state (server_chain m begin) (server_chain m b) s.legs (of_ask e) (went_to_end m client state begin a b s.legs p s.on_path c on.grows same)
+
+    by : IsAtEnd m client state begin a s.legs p → GrowsOn m a b client → AddRefused m a b p.walker.at segment e → StopsTruly m client host state begin b s.legs (of_ask e)
+    by c on (inl (none, inl same)) = says on c (no_reply_says state (server_chain m begin) (server_chain m b) e none) (stays on c same)
+    by c on (inl (none, inr (id, one))) =
+        let v : Version = version id p.walker.at segment in
+        says on c (no_reply_says state (server_chain m begin) (server_chain m b) e none)
+        (record { untold = Push v ops ∷ []; few = inr (v, ops, refl); told_only = inr (may_add e none); went = sent_went m client state begin a b s.legs p id segment ops s.on_path.stands.at c on one s.on_path (push id) })
+    by c on (inr (is, same)) = says on c (subst (λ x. HonestRefused state (server_chain m begin) (server_chain m b) (of_ask x)) (sym is) refl) (stays on c same)
 
 -- the version was added, and there was no memory for what follows
-pub added_unkept : {L : Type 0} (m : LinkModel L) (client host : List ℕ) (state : State) (first a b : L) (p : Cursor) (id segment : List ℕ) → HasPulled m client host state first a p → IsAsked m client host a b (add_heard client p.at segment (Added id))
-    → (IsHonest m a client → GrowsOn m a b client) → (IsHonest m a client → IsAddedOne m a b (version id p.at segment)) → ¬ (p.left.items ≡ []) → segment ≡ segment_text p.left.items → IsSegment segment p.left.items → length segment ≤ max_len → IsStopped m client host state first b errors.Memory
-added_unkept m client host state first a b p id segment s asked grows one some text back within = record {
-  kept = kept_on m first a b s.asked.kept asked.kept;
+pub added_unkept : {L : Type 0} (m : LinkModel L) (client host : List ℕ) (state : State) (begin a b : L) (p : Cursor) (id segment : List ℕ) (wanted : Bool) (ops : List SyncOp) → (s : HasPulled m client host state begin a p) → IsAsked m client host a b (add_heard client p.walker.at segment (Added id wanted))
+    → (IsHonest m a client → GrowsOn m a b client) → (IsHonest m a client → IsAddedOne m a b (version id p.walker.at segment)) → IsPush (place state s.legs) (version id p.walker.at segment) ops → IsStopped m client host state begin b errors.Memory
+added_unkept m client host state begin a b p id segment wanted ops s asked grows one push = record {
+  legs = more;
+  path = (paths_join (starts_at state) s.legs (Push v ops ∷ [])).1 s.on_path.path (push, tt);
+  kept = kept_on m begin a b s.asked.kept asked.kept;
   cause = tt;
   heard = λ tells. to_stop (s.asked.heard tells) (asked.heard (s.asked.kept.tells_list ∙ tells));
   come = λ honest. (
@@ -263,23 +268,29 @@ added_unkept m client host state first a b p id segment s asked grows one some t
       let on = grows c.on.honest in
       record {
         whole = on.whole;
-        grows = grows_on (m.chain first) (m.chain a) (m.chain b) c.on.grows on.grows;
+        grows = grows_on (m.chain begin) (m.chain a) (m.chain b) c.on.grows on.grows;
         refused = tt;
         pulled = tt;
-        added = inr (added_one m client state first a b p id segment c on (one c.on.honest) some text back within);
-        added_only = inl tt;
+        went = went_on state (server_chain m begin) (server_chain m b) more errors.Memory (sent_went m client state begin a b s.legs p id segment ops s.on_path.stands.at c on (one c.on.honest) s.on_path push);
       });
 }
   where
-    h : Heard
-    h = add_heard client p.at segment (Added id)
+    v : Version
+    v = version id p.walker.at segment
 
-    to_stop : HeardSoFar m client host state first a p (λ hs. EndedBy hs (IsUpToDate client p.at)) → Hears m client host a b (h ∷ []) → HeardToStop m client host state first b errors.Memory
-    to_stop t more = record {
+    more : List Leg
+    more = s.legs ++ Push v ops ∷ []
+
+    h : Heard
+    h = add_heard client p.walker.at segment (Added id wanted)
+
+    to_stop : HeardSoFar m client host begin a s.legs p (λ hs. EndedBy hs (IsLastReply client (place state s.legs).at)) → Hears m client host a b (h ∷ []) → HeardToStop m client host state begin b more errors.Memory
+    to_stop t heard = record {
       hs = t.hs ++ h ∷ [];
-      hears = inl (hears_on m client host first a b t.hs (h ∷ []) t.hears more);
-      refused = record { cause = tt; until = goes_on_past t.hs h (goes_on_so_far m client host state first a p _ t s.tries) (asked.welcome, added_leads h.reply id refl) (not_late client p.at t.hs t.so) refl refl };
+      hears = inl (hears_on m client host begin a b t.hs (h ∷ []) t.hears heard);
+      refused = record { cause = tt; until = goes_on_past t.hs h (goes_on_so_far m client host begin a s.legs p _ t s.tries) (asked.welcome, added_leads h.reply id wanted refl) (not_late client (place state s.legs).at t.hs t.so) refl refl };
       measured = tt;
+      tells = tells_all more errors.Memory (t.hs ++ h ∷ []) (told_in-last t.hs h v refl ∙ ap (λ vs. vs ++ v ∷ []) t.told ∙ sym (versions_on s.legs (Push v ops)));
       few = λ honest. (
           let n = s.asked.count in
           let k = asked.count in
@@ -287,9 +298,14 @@ added_unkept m client host state first a b p id segment s asked grows one some t
           let f = brought-append t.hs (h ∷ []) in
           let g = t.brought_is in
           let late = (s.come honest).late in
-          omega (arith, n, k, o, f, g, late));
+          let c = ap length (added_push s.legs v ops) in
+          let j = length-append (added_of s.legs) (v ∷ []) in
+          omega (arith, n, k, o, f, g, late, c, j));
     }
 
+-- ---- nothing is left
+
+-- where no operation is left, or as many were sent as were pending
 pub none_is : {A : Type 0} (xs : List A) → length xs ≡ 0 → xs ≡ []
 none_is [] e = refl
 none_is (x ∷ xs) e = absurd (omega (arith, e))

@@ -1,9 +1,8 @@
-pub mod Reading
 pub mod Folds
 pub mod PositionLemmas
 pub mod PendingOps
-pub mod Fitting
-pub mod Alike
+pub mod Holding
+pub mod Legs
 pub mod CursorInChain
 pub mod Results
 pub mod HonestProgress
@@ -14,7 +13,6 @@ pub mod LeftIsSent
 pub mod Conflicts
 pub mod CursorAtStart
 pub mod ReplicaMoved
-pub mod Resumed
 pub mod LocalSteps
 pub mod Ends
 pub mod Replies

@@ -1,5 +1,5 @@
 -- A commit and an undo keep agreement with a chain.
-use Rattle.std.proofs.Common.{◌≡◌, ℕ, ◌+◌, Bool, true, false, cond, List, [], ◌∷◌, ◌++◌, Option, Some, None, refl, sym, ap, subst, ◌∙◌}
+use Rattle.std.proofs.Common.{◌≡◌, ℕ, Bool, true, false, cond, List, [], ◌∷◌, ◌++◌, Option, Some, None, refl, sym, ap, subst, ◌∙◌}
 use Rattle.tw_model.specs.Ops.{TasksValue}
 use Rattle.tw_model.specs.LocalOps.{apply_local, apply_all_local, FitAllLocal, take_back_all}
 use Rattle.tw_model.specs.declared.Op.{Op}
@@ -13,7 +13,8 @@ use Rattle.tw_replica.specs.Sound.{start_of, IsSound, IsUndone}
 use Rattle.tw_numbers.proofs.PlacedAfter.{assigned_in, packed_if_in}
 use Rattle.tw_replica.proofs.Groups.{group_begins, begins-append}
 use Rattle.tw_replica.proofs.Soundness.{undo_sound, undo_leads_back}
-use Rattle.tw_sync.specs.Fold.{IsFold, Agrees}
+use Rattle.tw_path.specs.Fold.{IsFold}
+use Rattle.tw_outcome.specs.Agreement.{Agrees}
 use Rattle.tw_sync.specs.LocalSteps.{CommitAgrees, UndoAgrees}
 use Rattle.tw_sync.proofs.PendingOps.{back-append, fits_from, some_state}
 

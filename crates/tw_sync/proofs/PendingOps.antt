@@ -1,6 +1,6 @@
 -- Lists of local operations, one behind another: what replicas exchange of them, what taking them back leaves, and whether they fit.
-use Rattle.std.proofs.Common.{◌≡◌, ℕ, ◌+◌, ◌-◌, ◌<◌, ◌≤◌, length, take, drop, get_or, Bool, true, false, cond, List, [], ◌∷◌, ◌++◌, Option, Some, None, refl, sym, ap, ◌∙◌, arith}
-use Rattle.std.proofs.lemmas.List.{append_assoc, take_more, drop_more}
+use Rattle.std.proofs.Common.{◌≡◌, ℕ, ◌+◌, ◌<◌, length, drop, get_or, Bool, true, false, cond, List, [], ◌∷◌, ◌++◌, Option, Some, None, refl, sym, ap, ◌∙◌, arith, length-append}
+use Rattle.std.proofs.lemmas.List.{drop_more}
 use Rattle.tw_model.specs.Ops.{TasksValue}
 use Rattle.tw_model.specs.LocalOps.{synced, plain, put_some, fits_local, apply_local, FitAllLocal, take_back, take_back_all}
 use Rattle.tw_model.specs.declared.Op.{Op}
@@ -19,17 +19,14 @@ pub back-append : (tasks : TasksValue) (xs ys : List Op) → take_back_all tasks
 back-append tasks [] ys = refl
 back-append tasks (x ∷ xs) ys = ap (λ t. take_back t x) (back-append tasks xs ys)
 
-pub plain_turn : (list more : List SyncOp) (ops : List Op) (at : ℕ) (op : Op) → at < length ops → op ≡ get_or ops at op → more ≡ list ++ plain (op ∷ []) → more ++ plain (drop (at + 1) ops) ≡ list ++ plain (drop at ops)
-plain_turn list more ops at op h e f =
-    ap (λ xs. xs ++ plain (drop (at + 1) ops)) f
-    ∙ append_assoc list (plain (op ∷ [])) (plain (drop (at + 1) ops))
-    ∙ ap (λ xs. list ++ xs) (sym (plain-append (op ∷ []) (drop (at + 1) ops)))
-    ∙ ap (λ xs. list ++ plain xs) (sym (drop_more ops at op h ∙ ap (λ y. y ∷ drop (at + 1) ops) (sym e)))
-
-pub take_back_turn : (tasks new : TasksValue) (ops : List Op) (at : ℕ) (op : Op) → 0 < at → at ≤ length ops → op ≡ get_or ops (at - 1) op → new ≡ take_back tasks op → take_back_all new (take (at - 1) ops) ≡ take_back_all tasks (take at ops)
-take_back_turn tasks new ops at op some le e is =
-    let longer : take at ops ≡ take (at - 1) ops ++ op ∷ [] = ap (λ i. take i ops) {x = at} {y = at - 1 + 1} (omega arith) ∙ take_more ops (at - 1) op (omega arith) ∙ ap (λ (x : Op). take (at - 1) ops ++ x ∷ []) (sym e) in
-    ap (λ t. take_back_all t (take (at - 1) ops)) is ∙ sym (back-append tasks (take (at - 1) ops) (op ∷ [])) ∙ ap (take_back_all tasks) (sym longer)
+-- one operation more is counted
+pub count_turn : (count one all : ℕ) (ops : List Op) (at : ℕ) (op : Op) → at < length ops → op ≡ get_or ops at op → one ≡ length (plain (op ∷ [])) → count + length (plain (drop at ops)) ≡ all
+    → (count + one) + length (plain (drop (at + 1) ops)) ≡ all
+count_turn count one all ops at op inside is counts before =
+    let here : plain (drop at ops) ≡ plain (op ∷ []) ++ plain (drop (at + 1) ops) = ap plain (drop_more ops at op inside ∙ ap (λ y. y ∷ drop (at + 1) ops) (sym is)) ∙ plain-append (op ∷ []) (drop (at + 1) ops) in
+    let a = ap length here in
+    let b = length-append (plain (op ∷ [])) (plain (drop (at + 1) ops)) in
+    omega (arith, a, b, counts, before)
 
 pub fits_from : (n : ℕ) (tasks : TasksValue) (ops : List Op) → misfit n tasks ops ≡ None → FitAllLocal tasks ops
 fits_from n tasks [] e = tt

@@ -15,10 +15,10 @@ use Rattle.tw_transform.specs.Positions.{IsPosition}
 use Rattle.tw_transform.specs.Refusals.{Refusal, sent_from_base}
 use Rattle.tw_transform.proofs.Positions.{fit_part-append, position_pulls, position_fits, position_pushes}
 use Rattle.tw_transform.proofs.Cancel.{own_versions, own_versions_each_time}
-use Rattle.tw_sync.specs.Fold.{Reads, IsFold}
+use Rattle.tw_path.specs.Fold.{Reads, IsFold}
 use Rattle.tw_sync.specs.Positions.{IsPositionIn, ChainStarts, ChainPulls, ChainFits, ChainPushes, OwnVersionsCancelAt, OwnVersionCancelsIn, sent_each, fitted, FitEach, OwnVersionsCancelEachTime}
-use Rattle.tw_sync.proofs.Reading.{reads-append, reads_last}
-use Rattle.tw_sync.proofs.Folds.{fold_is_one, fold_on}
+use Rattle.tw_path.proofs.Reading.{reads-append, reads_last}
+use Rattle.tw_path.proofs.Folds.{fold_is_one, fold_on}
 
 pub chain_starts : ChainStarts
 chain_starts chain b mine base f = record {

@@ -1,22 +1,29 @@
 -- A sync is refused while it pulls.
-use Rattle.std.proofs.Common.{◌≡◌, ◌⊎◌, ℕ, ◌+◌, ◌*◌, ◌≤◌, inl, inr, length, List, [], ◌∷◌, ◌++◌, Ok, Contains, refl, sym, ap, subst, ◌∙◌, arith}
+use Rattle.std.proofs.Common.{◌≡◌, ◌⊎◌, ℕ, ◌+◌, ◌*◌, ◌≤◌, inl, inr, length, List, [], ◌∷◌, ◌++◌, Result, Ok, Err, Contains, refl, sym, ap, subst, ◌∙◌, arith}
+use Rattle.std.proofs.lemmas.List.{append-nil}
 use Rattle.std.proofs.lemmas.List.Elements.{Contains-append_right}
 use Rattle.tw_world.specs.Disk.{Rose}
 use Rattle.tw_protocol.specs.Chain.{Version, IsChain, IsBetween}
 use Rattle.tw_protocol.specs.Answer.{version}
 use Rattle.tw_protocol.proofs.Between.{between_joins}
 use Rattle.tw_http.specs.Link.{LinkModel, IsHonest}
+use Rattle.tw_http.specs.declared.message.Request.{Request}
+use Rattle.tw_http.specs.declared.message.Request.TheVariants as asks
+use Rattle.tw_http.specs.declared.message.Response.{Response}
+use Rattle.tw_http.specs.declared.message.HttpError.{HttpError}
 use Rattle.tw_http.specs.declared.message.Response.TheVariants as replies
 use Rattle.tw_replica.specs.State.{State}
-use Rattle.tw_sync.specs.End.{ServerChain}
-use Rattle.tw_sync.specs.Heard.{Heard, Hears, HearsUntil, brought, pulled_bytes, versions_in, most_exchanges}
+use Rattle.tw_path.specs.Path.{Leg, IsPath, versions_of, added_of}
+use Rattle.tw_outcome.specs.End.{ServerChain, starts_at, Went}
+use Rattle.tw_sync.specs.Heard.{Heard, Hears, HearsUntil, brought, pulled_bytes, versions_in, told_in, told_as, added_as, most_exchanges}
 use Rattle.tw_sync.specs.Answers.{IsLinkKept, GrowsOn, child_heard, HeardRefusedAsk, AskRefused, NoReply}
 use Rattle.tw_sync.specs.Refused.{max_pull, IsWelcome, IsBadSegment, GoesOnFrom, HeardRefused}
 use Rattle.tw_sync.specs.Sync.{server_chain}
 use Rattle.tw_sync.specs.Measured.{IsMeasured}
 use Rattle.tw_sync.specs.Honest.{HonestRefused, IsLongPull, IsUnreadIn, WasPulled, RestsOnPulled}
-use Rattle.tw_sync.specs.Cursor.{IsNotTaken, IsUnreadable, StandsIn}
-use Rattle.tw_sync.specs.Progress.{HeardSoFar, Asks, IsCause, HeardToStop, StopsTruly, IsStopped}
+use Rattle.tw_sync.specs.Way.{RefusesLast, TellsOf, WentOn}
+use Rattle.tw_sync.specs.Cursor.{place, IsOnPath, IsNotTaken, IsUnreadable, IsIn}
+use Rattle.tw_sync.specs.Progress.{HeardSoFar, HasCome, Asks, IsCause, HeardToStop, StopsTruly, IsStopped}
 use Rattle.tw_sync.specs.declared.ask.ChildAnswer.TheVariants.{Found, Gone}
 use Rattle.tw_sync.specs.declared.cursor.Cursor.{Cursor}
 use Rattle.tw_sync.specs.Causes.{of_ask, of_take}
@@ -26,32 +33,90 @@ use Rattle.tw_sync.specs.declared.error.TakeError.{TakeError}
 use Rattle.tw_sync.specs.declared.error.TakeError.TheVariants as taking
 use Rattle.tw_sync.specs.declared.error.SyncError.{SyncError}
 use Rattle.tw_sync.specs.declared.error.SyncError.TheVariants as errors
-use Rattle.tw_sync.proofs.CursorInChain.{segments_len-append}
-use Rattle.tw_sync.proofs.Hearing.{kept_on, hears_on, hears_until, hears_until_on, brought-append, pulled_bytes-append, versions_in-append}
+use Rattle.tw_sync.proofs.CursorInChain.{pushes_grown, lies_grown}
+use Rattle.tw_sync.proofs.Hearing.{kept_on, hears_on, hears_until, hears_until_on, brought-append, pulled_bytes-append, versions_in-append, told_in-past, told_in-last}
 use Rattle.tw_sync.proofs.ExpectedReplies.{child_leads, goes_on, goes_to_last, goes_on_so_far, refused_on}
 use Rattle.tw_sync.proofs.Results.{ended_by}
 use Rattle.tw_sync.proofs.Served.{grows_on}
 use Rattle.tw_sync.proofs.HonestProgress.{found_behind, never_gone}
 use Rattle.tw_sync.proofs.OneExchangeMore.{IsAsked, SaysTruly, RefusedAsk}
 
+-- ---- what was told
+
+-- all that was told of is passed
+pub tells_all : (legs : List Leg) (e : SyncError) (hs : List Heard) → told_in hs ≡ versions_of legs → TellsOf legs e hs
+tells_all legs e hs told = record { last = []; told = told ∙ sym (append-nil (versions_of legs)); unpassed = inl refl }
+
+-- a reply tells of no version or of one
+pub one_at_most : (h : Heard) → (told_as h.asked h.reply ≡ []) ⊎ ((v : Version) × (told_as h.asked h.reply ≡ v ∷ []))
+one_at_most h = by h.asked h.reply
+  where
+    added : (asked : Request) (id : List ℕ) → (added_as asked id ≡ []) ⊎ ((v : Version) × (added_as asked id ≡ v ∷ []))
+    added (asks.Add client parent segment) id = inr (version id parent segment, refl)
+    added (asks.Child client parent) id = inl refl
+    added (asks.AddSnapshot client version bytes) id = inl refl
+    added (asks.Snapshot client) id = inl refl
+
+    by : (asked : Request) (reply : Result Response HttpError) → (told_as asked reply ≡ []) ⊎ ((v : Version) × (told_as asked reply ≡ v ∷ []))
+    by asked (Ok (replies.Child id parent segment)) = inr (version id parent segment, refl)
+    by asked (Ok (replies.Added id wanted)) = added asked id
+    by asked (Ok (replies.Conflict latest)) = inl refl
+    by asked (Ok replies.UpToDate) = inl refl
+    by asked (Ok replies.Gone) = inl refl
+    by asked (Ok replies.Bad) = inl refl
+    by asked (Ok replies.TooLong) = inl refl
+    by asked (Ok replies.Taken) = inl refl
+    by asked (Ok replies.Stored) = inl refl
+    by asked (Ok (replies.Snapshot version bytes)) = inl refl
+    by asked (Err e) = inl refl
+
+-- one reply more, of a cause that refuses the last version
+pub tells_more : (legs : List Leg) (e : SyncError) (hs : List Heard) (h : Heard) → RefusesLast e → told_in hs ≡ versions_of legs → TellsOf legs e (hs ++ h ∷ [])
+tells_more legs e hs h may told = by (one_at_most h)
+  where
+    by : (told_as h.asked h.reply ≡ []) ⊎ ((v : Version) × (told_as h.asked h.reply ≡ v ∷ [])) → TellsOf legs e (hs ++ h ∷ [])
+    by (inl none) = tells_all legs e (hs ++ h ∷ []) (told_in-past hs h none ∙ told)
+    by (inr (v, is)) = record { last = v ∷ []; told = told_in-last hs h v is ∙ ap (λ vs. vs ++ v ∷ []) told; unpassed = inr (may, (v, refl)) }
+
+-- what a refused question heard
+pub tells_ask : (legs : List Leg) (e : AskError) (hs ks : List Heard) → HeardRefusedAsk ks e → told_in hs ≡ versions_of legs → TellsOf legs (of_ask e) (hs ++ ks)
+tells_ask legs (asking.Reply kind) hs ks (h, is, bad) told = subst (λ xs. TellsOf legs (errors.Reply kind) (hs ++ xs)) (sym is) (tells_more legs (errors.Reply kind) hs h tt told)
+tells_ask legs asking.Link hs ks none told = subst (λ xs. TellsOf legs errors.Link (hs ++ xs)) (sym none) (tells_all legs errors.Link (hs ++ []) (ap told_in (append-nil hs) ∙ told))
+tells_ask legs asking.Memory hs ks none told = subst (λ xs. TellsOf legs errors.Memory (hs ++ xs)) (sym none) (tells_all legs errors.Memory (hs ++ []) (ap told_in (append-nil hs) ∙ told))
+
+-- ---- the exchanges
+
 -- the exchanges of a refused sync are few, where one failed
-few_while_pulling : (first now versions conflicts brought : ℕ) → now ≤ first + (versions + 2 * conflicts + 1) → versions ≤ brought → conflicts ≤ versions + 1 → conflicts ≤ 15 → now ≤ first + most_exchanges brought + 1
-few_while_pulling first now versions conflicts brought le few late tries = omega (arith, le, few, late, tries)
+pub few_while_pulling : (first now versions added conflicts brought : ℕ) → now ≤ first + (versions + added + 2 * conflicts + 1) → versions ≤ brought → conflicts ≤ versions + 1 → conflicts ≤ 15 → now ≤ first + most_exchanges brought + added + 1
+few_while_pulling first now versions added conflicts brought le few late tries = omega (arith, le, few, late, tries)
 
 -- one conflict at most was followed by no version yet
 pub late_by_one : (conflicts versions : ℕ) {P : Type 0} → (conflicts ≤ versions) ⊎ ((conflicts ≤ versions + 1) × P) → conflicts ≤ versions + 1
 late_by_one conflicts versions (inl le) = omega (arith, le)
 late_by_one conflicts versions (inr (le, p)) = le
 
+-- it has gone what it was told of, and has added nothing else
+pub went_on : (state : State) (before after : ServerChain) (legs : List Leg) (e : SyncError) → Went state before after legs → WentOn state before after legs e
+went_on state before after legs e went = record { untold = []; few = inl refl; told_only = inl refl; went = subst (Went state before after) (sym (append-nil legs)) went }
+
+-- so it goes while the chain grows
+pub went_so_far : {L : Type 0} (m : LinkModel L) (client : List ℕ) (state : State) (first a b : L) (legs : List Leg) (p : Cursor) → IsPath (starts_at state) legs → HasCome m client state first a legs p → GrowsOn m a b client → m.own b ≡ m.own a → Went state (server_chain m first) (server_chain m b) legs
+went_so_far m client state first a b legs p path h on same = record {
+  path = path;
+  between = lies_grown state (m.chain a) (m.chain b) legs h.lies on.grows;
+  mine = same ∙ h.mine;
+  behind = pushes_grown (m.chain first) (m.chain a) (m.chain b) (added_of legs) h.behind on.grows;
+}
+
 -- a refusal that adds nothing
-pub stops_here : {L : Type 0} (m : LinkModel L) (client host : List ℕ) (state : State) (first a b : L) (e : SyncError) → GrowsOn m first a client → m.own a ≡ m.own first → GrowsOn m a b client → m.own b ≡ m.own a → HonestRefused state (server_chain m first) (server_chain m b) e → RestsOnPulled m client host state first b e → StopsTruly m client host state first b e
-stops_here m client host state first a b e before mine on same refused pulled = record {
+pub stops_here : {L : Type 0} (m : LinkModel L) (client host : List ℕ) (state : State) (first a b : L) (legs : List Leg) (p : Cursor) (e : SyncError) → IsPath (starts_at state) legs → HasCome m client state first a legs p → GrowsOn m a b client → m.own b ≡ m.own a
+    → HonestRefused state (server_chain m first) (server_chain m b) e → RestsOnPulled m client host state first b e → StopsTruly m client host state first b legs e
+stops_here m client host state first a b legs p e path h on same refused pulled = record {
   whole = on.whole;
-  grows = grows_on (m.chain first) (m.chain a) (m.chain b) before.grows on.grows;
+  grows = grows_on (m.chain first) (m.chain a) (m.chain b) h.on.grows on.grows;
   refused = refused;
   pulled = pulled;
-  added = inl (same ∙ mine);
-  added_only = inr (same ∙ mine);
+  went = went_on state (server_chain m first) (server_chain m b) legs e (went_so_far m client state first a b legs p path h on same);
 }
 
 rose_later : (a b c : ℕ) → a ≤ b → Rose b c → Rose a c
@@ -80,76 +145,92 @@ unmeasured state client hs (asking.Reply kind) = tt
 pub pulling_unasked : {L : Type 0} (m : LinkModel L) (client host : List ℕ) (state : State) (first a b : L) (p : Cursor) (Q : List Heard → Type 0) (e : AskError) → Asks m client host state first a p Q → RefusedAsk m client host a b e
     → (IsHonest m a client → GrowsOn m a b client) → (IsHonest m a client → m.own b ≡ m.own a) → (IsHonest m a client → NoReply e) → IsStopped m client host state first b (of_ask e)
 pulling_unasked m client host state first a b p Q e s un on mine reply = record {
+  legs = s.legs;
+  path = s.on_path.path;
   kept = kept_on m first a b s.asked.kept un.kept;
   cause = cause_on m first a b e s.asked.kept un.refused;
   heard = λ tells. to_stop (s.asked.heard tells) (un.heard (s.asked.kept.tells_list ∙ tells));
-  come = λ honest. (let h = s.come honest in let now = h.on.honest in stops_here m client host state first a b (of_ask e) h.on h.mine (on now) (mine now) (no_reply_says state (server_chain m first) (server_chain m b) e (reply now)) (rests_on_none m client host state first b e));
+  come = λ honest. (
+      let h = s.come honest in
+      let now = h.on.honest in
+      stops_here m client host state first a b s.legs p (of_ask e) s.on_path.path h (on now) (mine now) (no_reply_says state (server_chain m first) (server_chain m b) e (reply now)) (rests_on_none m client host state first b e));
 }
   where
-    to_stop : HeardSoFar m client host state first a p Q → (hs : List Heard) × HearsUntil m client host a b hs (of_ask e) × HeardRefusedAsk hs e → HeardToStop m client host state first b (of_ask e)
+    to_stop : HeardSoFar m client host first a s.legs p Q → (hs : List Heard) × HearsUntil m client host a b hs (of_ask e) × HeardRefusedAsk hs e → HeardToStop m client host state first b s.legs (of_ask e)
     to_stop t u = record {
       hs = t.hs ++ u.0;
       hears = hears_until_on m client host first a b t.hs u.0 (of_ask e) t.hears u.1;
-      refused = refused_on m client a b t.hs u.0 e un.refused u.2 (goes_on_so_far m client host state first a p Q t s.tries);
+      refused = refused_on m client a b t.hs u.0 e un.refused u.2 (goes_on_so_far m client host first a s.legs p Q t s.tries);
       measured = unmeasured state client (t.hs ++ u.0) e;
+      tells = tells_ask s.legs e t.hs u.0 u.2 t.told;
       few = λ honest. (
           let n = s.asked.count in
           let o = un.count in
           let f = brought-append t.hs u.0 in
           let g = t.brought_is in
-          few_while_pulling (m.exchanges first) (m.exchanges b) p.versions p.conflicts (brought (t.hs ++ u.0)) (omega (arith, n, o)) (omega (arith, f, g)) (late_by_one p.conflicts p.versions (s.come honest).late) s.tries);
+          few_while_pulling (m.exchanges first) (m.exchanges b) p.versions (length (added_of s.legs)) p.conflicts (brought (t.hs ++ u.0)) (omega (arith, n, o)) (omega (arith, f, g)) (late_by_one p.conflicts p.versions (s.come honest).late) s.tries);
     }
 
 -- one reply was read, and is refused
-pub stopped_at : {L : Type 0} (m : LinkModel L) (client host : List ℕ) (state : State) (first a b : L) (p : Cursor) (Q : List Heard → Type 0) (h : Heard) (e : SyncError) → Asks m client host state first a p Q → IsAsked m client host a b h → IsCause m first b e
-    → ((hs : List Heard) → pulled_bytes hs ≡ p.bytes → GoesOnFrom hs → HeardRefused client (hs ++ h ∷ []) e) → ((hs : List Heard) → IsMeasured state client hs e) → (IsHonest m first client → StopsTruly m client host state first b e) → IsStopped m client host state first b e
-stopped_at m client host state first a b p Q h e s asked cause refused measured come = record {
+pub stopped_at : {L : Type 0} (m : LinkModel L) (client host : List ℕ) (state : State) (first a b : L) (p : Cursor) (Q : List Heard → Type 0) (h : Heard) (e : SyncError) → (s : Asks m client host state first a p Q) → IsAsked m client host a b h → IsCause m first b e
+    → ((hs : List Heard) → pulled_bytes hs ≡ p.bytes → GoesOnFrom hs → HeardRefused client (hs ++ h ∷ []) e) → ((hs : List Heard) → IsMeasured state client hs e) → ((hs : List Heard) → told_in hs ≡ versions_of s.legs → TellsOf s.legs e (hs ++ h ∷ []))
+    → (IsHonest m first client → StopsTruly m client host state first b s.legs e) → IsStopped m client host state first b e
+stopped_at m client host state first a b p Q h e s asked cause refused measured told come = record {
+  legs = s.legs;
+  path = s.on_path.path;
   kept = kept_on m first a b s.asked.kept asked.kept;
   cause = cause;
   heard = λ tells. to_stop (s.asked.heard tells) (asked.heard (s.asked.kept.tells_list ∙ tells));
   come = come;
 }
   where
-    to_stop : HeardSoFar m client host state first a p Q → Hears m client host a b (h ∷ []) → HeardToStop m client host state first b e
+    to_stop : HeardSoFar m client host first a s.legs p Q → Hears m client host a b (h ∷ []) → HeardToStop m client host state first b s.legs e
     to_stop t more = record {
       hs = t.hs ++ h ∷ [];
       hears = hears_until m client host first b (t.hs ++ h ∷ []) e (hears_on m client host first a b t.hs (h ∷ []) t.hears more);
-      refused = refused t.hs t.bytes_are (goes_on_so_far m client host state first a p Q t s.tries);
+      refused = refused t.hs t.bytes_are (goes_on_so_far m client host first a s.legs p Q t s.tries);
       measured = measured (t.hs ++ h ∷ []);
+      tells = told t.hs t.told;
       few = λ honest. (
           let n = s.asked.count in
           let o = asked.count in
           let f = brought-append t.hs (h ∷ []) in
           let g = t.brought_is in
-          few_while_pulling (m.exchanges first) (m.exchanges b) p.versions p.conflicts (brought (t.hs ++ h ∷ [])) (omega (arith, n, o)) (omega (arith, f, g)) (late_by_one p.conflicts p.versions (s.come honest).late) s.tries);
+          few_while_pulling (m.exchanges first) (m.exchanges b) p.versions (length (added_of s.legs)) p.conflicts (brought (t.hs ++ h ∷ [])) (omega (arith, n, o)) (omega (arith, f, g)) (late_by_one p.conflicts p.versions (s.come honest).late) s.tries);
     }
 
 -- the server does not know the cursor
-pub pulling_gone : {L : Type 0} (m : LinkModel L) (client host : List ℕ) (state : State) (first a b : L) (p : Cursor) (Q : List Heard → Type 0) → Asks m client host state first a p Q → IsAsked m client host a b (child_heard client p.at Gone)
-    → (IsHonest m a client → SaysTruly m client a b p.at Gone) → IsStopped m client host state first b (errors.Gone p.at)
+pub pulling_gone : {L : Type 0} (m : LinkModel L) (client host : List ℕ) (state : State) (first a b : L) (p : Cursor) (Q : List Heard → Type 0) → Asks m client host state first a p Q → IsAsked m client host a b (child_heard client p.walker.at Gone)
+    → (IsHonest m a client → SaysTruly m client a b p.walker.at Gone) → IsStopped m client host state first b (errors.Gone p.walker.at)
 pulling_gone m client host state first a b p Q s asked tells =
-    stopped_at m client host state first a b p Q (child_heard client p.at Gone) (errors.Gone p.at) s asked tt
-    (λ hs n g. record { cause = ended_by hs (child_heard client p.at Gone) _ (refl, refl); until = goes_to_last hs (child_heard client p.at Gone) g })
+    let h = child_heard client p.walker.at Gone in
+    stopped_at m client host state first a b p Q h (errors.Gone p.walker.at) s asked tt
+    (λ hs n g. record { cause = ended_by hs h _ (refl, refl); until = goes_to_last hs h g })
     (λ hs. tt)
-    (λ honest. (let h = s.come honest in let r = tells h.on.honest in stops_here m client host state first a b (errors.Gone p.at) h.on h.mine r.on r.mine (never_gone m client state first a b p h r.says) tt))
+    (λ hs told. tells_all s.legs (errors.Gone p.walker.at) (hs ++ h ∷ []) (told_in-past hs h refl ∙ told))
+    (λ honest. (
+    let c = s.come honest in
+    let r = tells c.on.honest in
+    stops_here m client host state first a b s.legs p (errors.Gone p.walker.at) s.on_path.path c r.on r.mine (never_gone m client state first a b s.legs p s.on_path.stands.at c r.says) tt))
 
-abbrev long_pull : (state : State) (chain : List Version) (p : Cursor) (id segment : List ℕ) (bytes : ℕ) → IsChain chain → StandsIn state chain p → IsBetween chain p.at id (version id p.at segment ∷ []) → bytes ≡ p.bytes + length segment → IsLongPull state chain bytes
-long_pull state chain p id segment bytes whole there next e =
-    let v : Version = version id p.at segment in
+abbrev long_pull : (state : State) (chain : List Version) (legs : List Leg) (p : Cursor) (id segment : List ℕ) (bytes : ℕ) → IsOnPath state legs p → IsChain chain → IsIn state chain legs → IsBetween chain (place state legs).at id (version id p.walker.at segment ∷ []) → bytes ≡ p.bytes + length segment → IsLongPull state chain bytes
+long_pull state chain legs p id segment bytes on_path whole there next e =
+    let v : Version = version id p.walker.at segment in
     record {
-      versions = there.versions;
+      legs = legs;
       v = v;
-      between = between_joins chain state.base p.at id there.versions (v ∷ []) whole there.pulled.between next;
-      len = (let f = segments_len-append there.versions (v ∷ []) in let o = there.bytes in omega (arith, e, f, o));
+      path = on_path.path;
+      between = between_joins chain state.base (place state legs).at id (versions_of legs) (v ∷ []) whole there next;
+      len = e ∙ ap (λ n. n + length segment) on_path.bytes;
     }
 
-abbrev unread_in : (state : State) (chain : List Version) (p : Cursor) (id segment version_is : List ℕ) → IsChain chain → StandsIn state chain p → IsBetween chain p.at id (version id p.at segment ∷ []) → version_is ≡ id → IsUnreadable segment → IsUnreadIn state chain version_is
-unread_in state chain p id segment version_is whole there next same un =
-    let v : Version = version id p.at segment in
+abbrev unread_in : (state : State) (chain : List Version) (legs : List Leg) (p : Cursor) (id segment version_is : List ℕ) → IsChain chain → IsIn state chain legs → IsBetween chain (place state legs).at id (version id p.walker.at segment ∷ []) → version_is ≡ id → IsUnreadable segment → IsUnreadIn state chain version_is
+unread_in state chain legs p id segment version_is whole there next same un =
+    let v : Version = version id p.walker.at segment in
     record {
-      versions = there.versions;
+      versions = versions_of legs;
       v = v;
-      between = between_joins chain state.base p.at id there.versions (v ∷ []) whole there.pulled.between next;
+      between = between_joins chain state.base (place state legs).at id (versions_of legs) (v ∷ []) whole there next;
       id_is = sym same;
       error = un.error;
       unread = un.unread;
@@ -157,15 +238,15 @@ unread_in state chain p id segment version_is whole there next same un =
     }
 
 -- the version behind the cursor is not taken
-pub pulling_untaken : {L : Type 0} (m : LinkModel L) (client host : List ℕ) (state : State) (first a b : L) (p : Cursor) (Q : List Heard → Type 0) (id segment : List ℕ) (e : TakeError) → Asks m client host state first a p Q → IsAsked m client host a b (child_heard client p.at (Found id segment))
-    → (IsHonest m a client → SaysTruly m client a b p.at (Found id segment)) → IsNotTaken p id segment e → IsStopped m client host state first b (of_take e)
+pub pulling_untaken : {L : Type 0} (m : LinkModel L) (client host : List ℕ) (state : State) (first a b : L) (p : Cursor) (Q : List Heard → Type 0) (id segment : List ℕ) (e : TakeError) → Asks m client host state first a p Q → IsAsked m client host a b (child_heard client p.walker.at (Found id segment))
+    → (IsHonest m a client → SaysTruly m client a b p.walker.at (Found id segment)) → IsNotTaken p id segment e → IsStopped m client host state first b (of_take e)
 pulling_untaken m client host state first a b p Q id segment e s asked tells not = by e not
   where
     h : Heard
-    h = child_heard client p.at (Found id segment)
+    h = child_heard client p.walker.at (Found id segment)
 
     v : Version
-    v = version id p.at segment
+    v = version id p.walker.at segment
 
     was : WasPulled m client host first b v
     was tells =
@@ -175,16 +256,16 @@ pulling_untaken m client host state first a b p Q id segment e s asked tells not
           subst (λ vs. Contains vs v) (sym (versions_in-append t.hs (h ∷ []))) (Contains-append_right (versions_in t.hs) (v ∷ []) v (0, omega arith, refl)),
         )
 
-    at_honest : (x : SyncError) → (IsChain (m.chain b) → StandsIn state (m.chain b) p → IsBetween (m.chain b) p.at id (v ∷ []) → HonestRefused state (server_chain m first) (server_chain m b) x × RestsOnPulled m client host state first b x) → IsHonest m first client → StopsTruly m client host state first b x
+    at_honest : (x : SyncError) → (IsChain (m.chain b) → IsIn state (m.chain b) s.legs → IsBetween (m.chain b) (place state s.legs).at id (v ∷ []) → HonestRefused state (server_chain m first) (server_chain m b) x × RestsOnPulled m client host state first b x) → IsHonest m first client → StopsTruly m client host state first b s.legs x
     at_honest x says honest =
         let c = s.come honest in
         let r = tells c.on.honest in
-        let f = found_behind m client state first a b p id segment c r.on r.says in
+        let f = found_behind m client state first a b s.legs p s.on_path.stands.at c r.on id segment r.says in
         let why = says r.on.whole f.0 f.1 in
-        stops_here m client host state first a b x c.on c.mine r.on r.mine why.0 why.1
+        stops_here m client host state first a b s.legs p x s.on_path.path c r.on r.mine why.0 why.1
 
     goes : (hs : List Heard) → pulled_bytes hs ≡ p.bytes → GoesOnFrom hs → p.bytes + length segment ≤ max_pull → GoesOnFrom (hs ++ h ∷ [])
-    goes hs have g within = goes_on hs h g (asked.welcome, child_leads h.reply id p.at segment refl) (λ late. refl) (omega (arith, have, within)) (let f = g.few in omega (arith, f))
+    goes hs have g within = goes_on hs h g (asked.welcome, child_leads h.reply id p.walker.at segment refl) (λ late. refl) (omega (arith, have, within)) (let f = g.few in omega (arith, f))
 
     by : (x : TakeError) → IsNotTaken p id segment x → IsStopped m client host state first b (of_take x)
     by (taking.TooLong bytes) n =
@@ -194,13 +275,20 @@ pulling_untaken m client host state first a b p Q id segment e s asked tells not
           until = goes_to_last hs h g;
         })
         (λ hs. tt)
-        (at_honest (errors.PullTooLong bytes) (λ whole there next. (let l : IsLongPull state (m.chain b) bytes = long_pull state (m.chain b) p id segment bytes whole there next n.0 in (l, (l, was)))))
+        (λ hs told. tells_more s.legs (errors.PullTooLong bytes) hs h tt told)
+        (at_honest (errors.PullTooLong bytes) (λ whole there next. (let l : IsLongPull state (m.chain b) bytes = long_pull state (m.chain b) s.legs p id segment bytes s.on_path whole there next n.0 in (l, (l, was)))))
     by (taking.Segment bad) n =
         stopped_at m client host state first a b p Q h (errors.Segment bad) s asked tt
         (λ hs have g. record {
-          cause = ended_by hs h (IsBadSegment bad) (record { parent = p.at; segment = segment; reply_is = ap (λ (i : List ℕ). Ok (replies.Child i p.at segment)) (sym n.0); error = n.1.error; unread = n.1.unread; other = n.1.other });
+          cause = ended_by hs h (IsBadSegment bad) (record { parent = p.walker.at; segment = segment; reply_is = ap (λ (i : List ℕ). Ok (replies.Child i p.walker.at segment)) (sym n.0); error = n.1.error; unread = n.1.unread; other = n.1.other });
           until = goes hs have g n.2;
         })
         (λ hs. tt)
-        (at_honest (errors.Segment bad) (λ whole there next. (let u : IsUnreadIn state (m.chain b) bad = unread_in state (m.chain b) p id segment bad whole there next n.0 n.1 in (u, (u, was)))))
-    by taking.Memory n = stopped_at m client host state first a b p Q h errors.Memory s asked tt (λ hs have g. record { cause = tt; until = goes hs have g n }) (λ hs. tt) (at_honest errors.Memory (λ whole there next. (tt, tt)))
+        (λ hs told. tells_more s.legs (errors.Segment bad) hs h tt told)
+        (at_honest (errors.Segment bad) (λ whole there next. (let u : IsUnreadIn state (m.chain b) bad = unread_in state (m.chain b) s.legs p id segment bad whole there next n.0 n.1 in (u, (u, was)))))
+    by taking.Memory n =
+        stopped_at m client host state first a b p Q h errors.Memory s asked tt
+        (λ hs have g. record { cause = tt; until = goes hs have g n })
+        (λ hs. tt)
+        (λ hs told. tells_more s.legs errors.Memory hs h tt told)
+        (at_honest errors.Memory (λ whole there next. (tt, tt)))

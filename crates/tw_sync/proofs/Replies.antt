@@ -10,7 +10,7 @@ use Rattle.tw_http.specs.Messages.{max_head, max_body}
 use Rattle.tw_http.specs.Heads.{◌>>=◌, or_err, head_len}
 use Rattle.tw_http.specs.Fields.{Fields, values_of, is_empty, only, uuid_field, parsed_only}
 use Rattle.tw_http.specs.Bodies.{length_given, body_len, body_of}
-use Rattle.tw_http.specs.Responses.{refused, added_in, conflict_in, child_in, kind_in, response_made, response_after, answers, IsResponseHeadAnswer, IsResponseAnswerAt, IsResponseAnswer}
+use Rattle.tw_http.specs.Responses.{refused, added_in, conflict_in, child_in, snapshot_in, kind_in, response_made, response_after, answers, IsResponseHeadAnswer, IsResponseAnswerAt, IsResponseAnswer}
 
 -- what is read has P, and a refusal is no bad path
 abbrev pub Reads : {A : Type 0} → (A → Type 0) → Result A HttpError → Type 0
@@ -55,8 +55,14 @@ abbrev Makes : {K : Type 0} → (K → List ℕ → Response) → Asked → K �
 Makes made what kind = (body : List ℕ) → IsTrue (answers what (made kind body))
 
 refused_reads : (what : Asked) (status : ℕ) → Reads (Makes response_made what) (refused status)
-refused_reads asked.Add status = reads_if (Makes response_made asked.Add) (status == 400) _ _ (λ b. refl) (reads_if (Makes response_made asked.Add) (status == 413) _ _ (λ b. refl) (reads_if (Makes response_made asked.Add) (status == 500) _ _ (λ b. refl) tt))
-refused_reads asked.Child status = reads_if (Makes response_made asked.Child) (status == 400) _ _ (λ b. refl) (reads_if (Makes response_made asked.Child) (status == 413) _ _ (λ b. refl) (reads_if (Makes response_made asked.Child) (status == 500) _ _ (λ b. refl) tt))
+refused_reads asked.Add status =
+    reads_if (Makes response_made asked.Add) (status == 400) _ _ (λ b. refl) (reads_if (Makes response_made asked.Add) (status == 413) _ _ (λ b. refl) (reads_if (Makes response_made asked.Add) (status == 500) _ _ (λ b. refl) tt))
+refused_reads asked.Child status =
+    reads_if (Makes response_made asked.Child) (status == 400) _ _ (λ b. refl) (reads_if (Makes response_made asked.Child) (status == 413) _ _ (λ b. refl) (reads_if (Makes response_made asked.Child) (status == 500) _ _ (λ b. refl) tt))
+refused_reads asked.AddSnapshot status =
+    reads_if (Makes response_made asked.AddSnapshot) (status == 400) _ _ (λ b. refl) (reads_if (Makes response_made asked.AddSnapshot) (status == 413) _ _ (λ b. refl) (reads_if (Makes response_made asked.AddSnapshot) (status == 500) _ _ (λ b. refl) tt))
+refused_reads asked.Snapshot status =
+    reads_if (Makes response_made asked.Snapshot) (status == 400) _ _ (λ b. refl) (reads_if (Makes response_made asked.Snapshot) (status == 413) _ _ (λ b. refl) (reads_if (Makes response_made asked.Snapshot) (status == 500) _ _ (λ b. refl) tt))
 
 added_reads : (fs : Fields) → Reads (Makes response_made asked.Add) (added_in fs)
 added_reads fs = reads_on Any (Makes response_made asked.Add) (uuid_field (codes "X-Version-Id") fs) _ (field_reads (parsed_only (only (values_of (codes "X-Version-Id") fs)))) (λ id u body. refl)
@@ -69,11 +75,17 @@ child_reads fs =
     reads_on Any (Makes response_made asked.Child) (uuid_field (codes "X-Version-Id") fs) _ (field_reads (parsed_only (only (values_of (codes "X-Version-Id") fs)))) (λ id u.
     reads_on Any (Makes response_made asked.Child) (uuid_field (codes "X-Parent-Version-Id") fs) _ (field_reads (parsed_only (only (values_of (codes "X-Parent-Version-Id") fs)))) (λ parent v body. refl))
 
+snapshot_reads : (fs : Fields) → Reads (Makes response_made asked.Snapshot) (snapshot_in fs)
+snapshot_reads fs = reads_on Any (Makes response_made asked.Snapshot) (uuid_field (codes "X-Version-Id") fs) _ (field_reads (parsed_only (only (values_of (codes "X-Version-Id") fs)))) (λ id u body. refl)
+
 kind_reads : (what : Asked) (status : ℕ) (fs : Fields) → Reads (Makes response_made what) (kind_in what status fs)
 kind_reads asked.Add status fs =
     reads_if (Makes response_made asked.Add) (status == 200) _ _ (added_reads fs) (reads_if (Makes response_made asked.Add) (status == 409) _ _ (conflict_reads fs) (refused_reads asked.Add status))
 kind_reads asked.Child status fs =
     reads_if (Makes response_made asked.Child) (status == 200) _ _ (child_reads fs) (reads_if (Makes response_made asked.Child) (status == 404) _ _ (λ b. refl) (reads_if (Makes response_made asked.Child) (status == 410) _ _ (λ b. refl) (refused_reads asked.Child status)))
+kind_reads asked.AddSnapshot status fs = reads_if (Makes response_made asked.AddSnapshot) (status == 200) _ _ (λ b. refl) (refused_reads asked.AddSnapshot status)
+kind_reads asked.Snapshot status fs =
+    reads_if (Makes response_made asked.Snapshot) (status == 200) _ _ (snapshot_reads fs) (reads_if (Makes response_made asked.Snapshot) (status == 404) _ _ (λ b. refl) (refused_reads asked.Snapshot status))
 
 len_reads : (fs : Fields) → Reads Any (body_len true fs)
 len_reads fs = reads_if Any (is_empty (values_of (codes "Transfer-Encoding") fs)) _ _ (length_reads (length_given true (values_of (codes "Content-Length") fs))) tt

@@ -1,16 +1,20 @@
 -- What a server's reply is read as, and what it says of the chain.
-use Rattle.std.proofs.Common.{◌≡◌, ℕ, ◌≤◌, inl, inr, Bool, true, false, ◌||◌, List, [], ◌∷◌, ◌++◌, length, Result, Ok, All, refl, sym, ap, subst, ◌∙◌, append_assoc, arith}
-use Rattle.std.proofs.lemmas.List.{append-nil, get_or_append_left, length-append}
+use Rattle.std.proofs.Common.{◌≡◌, ℕ, ◌≤◌, inl, inr, Bool, true, false, ◌||◌, List, [], ◌∷◌, ◌++◌, length, Option, Some, None, IfSome, Result, Ok, All, refl, sym, ap, subst, ◌∙◌, append_assoc, arith}
+use Rattle.std.proofs.lemmas.List.{append-nil, get_or_append_left, length-append, drop_at}
 use Rattle.uuid.specs.Parts.{zero_bytes}
 use Rattle.tw_protocol.specs.Chain.{Version, IsUuid, IsChain, IsRow, Differ, Grows, has_id, same_id}
 use Rattle.tw_protocol.specs.Answer.{answer}
+use Rattle.tw_protocol.specs.Answer.Ask.{Add}
+use Rattle.tw_protocol.specs.Snapshots.{Snapshot, IsAccount}
+use Rattle.tw_protocol.proofs.Responses.{response_grows}
 use Rattle.tw_http.specs.declared.message.Request.{Request}
+use Rattle.tw_http.specs.declared.message.Request.TheVariants as asks
 use Rattle.tw_http.specs.declared.message.Response.{Response}
 use Rattle.tw_http.specs.declared.message.HttpError.{HttpError}
 use Rattle.tw_http.specs.Link.{Serves, MayServe, IsServedChain}
 use Rattle.tw_http.specs.Messages.{max_body, response_text}
 use Rattle.tw_http.specs.Responses.{IsResponseAnswer}
-use Rattle.tw_http.specs.Serving.{kind_of, ask_of, response_of, SegmentsFit}
+use Rattle.tw_http.specs.Serving.{kind_of, demand_of, account_after, response_to, SegmentsFit, AccountFits}
 use Rattle.tw_http.proofs.OneAnswer.{one_response}
 use Rattle.tw_http.proofs.Serving.{served_is_read}
 
@@ -63,8 +67,12 @@ grows_on a b c f g = record { more = f.more ++ g.more; joined = g.joined ∙ ap 
 pub grows_past : (a more chain : List Version) → Grows (a ++ more) chain → Grows a chain
 grows_past a more chain g = grows_on a (a ++ more) chain (record { more = more; joined = refl }) g
 
+-- the chain at which a request was answered has grown into the new one
+pub serves_after : (old new own own_now : List Version) (request : Request) (reply : List ℕ) (s : Serves old new own own_now request reply) → Grows s.at.chain new
+serves_after old new own own_now request reply s = grows_on s.at.chain (account_after s.at request s.id).chain new (response_grows s.at (demand_of request) s.id) s.after
+
 pub serves_grows : (old new own own_now : List Version) (request : Request) (reply : List ℕ) → Serves old new own own_now request reply → Grows old new
-serves_grows old new own own_now request reply s = grows_on old s.at new s.before (grows_past s.at (answer s.at (ask_of request) s.id).0 new s.after)
+serves_grows old new own own_now request reply s = grows_on old s.at.chain new s.before (serves_after old new own own_now request reply s)
 
 pub may_serve_grows : (old new own own_now : List Version) (request : Request) → MayServe old new own own_now request → Grows old new
 may_serve_grows old new own own_now request (inl others) = others.grows
@@ -72,15 +80,33 @@ may_serve_grows old new own own_now request (inr (reply, s)) = serves_grows old 
 
 -- ---- what a reply is read as
 
-pub served_at : (old new own own_now : List Version) (request : Request) (reply : List ℕ) (s : Serves old new own own_now request reply) → IsServedChain new → IsServedChain s.at
-served_at old new own own_now request reply s served = served_front s.at new (grows_past s.at (answer s.at (ask_of request) s.id).0 new s.after) served
+pub served_at : (old new own own_now : List Version) (request : Request) (reply : List ℕ) (s : Serves old new own own_now request reply) → IsServedChain new → IsServedChain s.at.chain
+served_at old new own own_now request reply s served = served_front s.at.chain new (serves_after old new own own_now request reply s) served
+
+stored_there : (o : Option Snapshot) (chain : List Version) → IfSome o (λ s. (has_id s.version chain ≡ true) × (length s.bytes ≤ max_body)) → IfSome o (λ s. has_id s.version chain ≡ true)
+stored_there None chain h = tt
+stored_there (Some s) chain h = h.0
+
+stored_fits : (o : Option Snapshot) (chain : List Version) → IfSome o (λ s. (has_id s.version chain ≡ true) × (length s.bytes ≤ max_body)) → IfSome o (λ s. length s.bytes ≤ max_body)
+stored_fits None chain h = tt
+stored_fits (Some s) chain h = h.1
 
 -- a server's reply is read as what it says
 pub reply_is : (old new own own_now : List Version) (request : Request) (reply : List ℕ) (s : Serves old new own own_now request reply) → IsServedChain new → (r : Result Response HttpError) → IsResponseAnswer (kind_of request) reply r
-    → r ≡ Ok (response_of (answer s.at (ask_of request) s.id).1)
+    → r ≡ Ok (response_to s.at request s.id)
 reply_is old new own own_now request reply s served r read =
-    let says : Response = response_of (answer s.at (ask_of request) s.id).1 in
-    let at : IsServedChain s.at = served_at old new own own_now request reply s served in
+    let says : Response = response_to s.at request s.id in
+    let at : IsServedChain s.at.chain = served_at old new own own_now request reply s served in
+    let account : IsAccount s.at = record { chain = at.whole; stored = stored_there s.at.stored s.at.chain s.stored } in
+    let fits : AccountFits s.at = record { segments = at.fit; stored = stored_fits s.at.stored s.at.chain s.stored } in
     let here : IsResponseAnswer (kind_of request) reply (Ok says) =
-    subst (λ b. IsResponseAnswer (kind_of request) b (Ok says)) (append-nil (response_text says) ∙ sym s.says) (served_is_read s.at request s.id [] at.whole at.fit s.uuid) in
+    subst (λ b. IsResponseAnswer (kind_of request) b (Ok says)) (append-nil (response_text says) ∙ sym s.says) (served_is_read s.at request s.id [] account fits s.uuid) in
     one_response (kind_of request) reply r (Ok says) read here
+
+-- ---- what a request adds
+
+pub add_mine : (old new own own_now : List Version) (client parent segment reply : List ℕ) (s : Serves old new own own_now (asks.Add client parent segment) reply) → own_now ≡ own ++ (answer s.at.chain (Add parent segment) s.id).0
+add_mine old new own own_now client parent segment reply s = s.mine ∙ ap (λ vs. own ++ vs) (drop_at s.at.chain (answer s.at.chain (Add parent segment) s.id).0 (length s.at.chain) refl)
+
+pub child_mine : (old new own own_now : List Version) (client parent reply : List ℕ) (s : Serves old new own own_now (asks.Child client parent) reply) → own_now ≡ own
+child_mine old new own own_now client parent reply s = s.mine ∙ ap (λ vs. own ++ vs) (drop_at s.at.chain [] (length s.at.chain) refl) ∙ append-nil own

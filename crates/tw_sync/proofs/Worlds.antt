@@ -1,23 +1,28 @@
 -- Each event of a world keeps it good.
-use Rattle.std.proofs.Common.{◌≡◌, ◌⊎◌, ◌≤◌, Bool, true, false, cond, length, All, inl, inr, ⊎_elim, sym, subst, ℕ, List, [], ◌∷◌, ◌++◌, Option, Some, None}
+use Rattle.std.proofs.Common.{◌≡◌, ◌≤◌, Bool, true, false, cond, length, All, inl, inr, ⊎_elim, refl, sym, subst, ℕ, List, [], ◌∷◌, ◌++◌, Option, Some, None}
 use Rattle.std.specs.List.{AllByRecursion}
 use Rattle.std.proofs.lemmas.List.Elements.{All-nil, All-push, All-append}
-use Rattle.tw_protocol.specs.Chain.{Version, Grows, latest, has_id}
-use Rattle.tw_protocol.specs.Answer.{Finding, answer, answered, accepts, version}
+use Rattle.uuid.specs.Parts.{zero_bytes}
+use Rattle.tw_protocol.specs.Chain.{Version, IsUuid, Grows, same_id, latest, has_id}
+use Rattle.tw_protocol.specs.Answer.{Finding, answer, accepts, version}
+use Rattle.tw_protocol.specs.Answer.Ask.{Add as Ask_add, Child as Ask_child}
 use Rattle.tw_protocol.specs.Answer.Finding.{Added, Conflict, Taken}
-use Rattle.tw_protocol.proofs.Chains.{answer_grows, answer_keeps_chain}
+use Rattle.tw_protocol.specs.Snapshots.{Account, Reply, Stored, Refused, is_welcome}
+use Rattle.tw_protocol.proofs.Chains.{answer_keeps_chain}
+use Rattle.tw_protocol.proofs.Responses.{response_grows}
 use Rattle.tw_http.specs.Link.{IsServedChain}
-use Rattle.tw_http.specs.Serving.{ask_of, SegmentsFit}
+use Rattle.tw_http.specs.Serving.{demand_of, account_after}
 use Rattle.tw_http.specs.Messages.{max_body, request_body}
 use Rattle.tw_http.specs.declared.message.Request.{Request}
-use Rattle.tw_http.specs.declared.message.Request.TheVariants.{Add, Child}
+use Rattle.tw_http.specs.declared.message.Request.TheVariants.{Add, Child, AddSnapshot, Snapshot}
 use Rattle.tw_replica.specs.State.{State, start}
-use Rattle.tw_sync.specs.Fold.{Agrees}
+use Rattle.tw_outcome.specs.Agreement.{Agrees}
 use Rattle.tw_sync.specs.World.{World, AllAgree, IsGood, IsAmong, Makes, with_next, Runs, Crashes, Event, OnMachine, Answers, Leads, IsNew, ReachedIsGood, FollowsTheChain, ReachedFollows}
 use Rattle.tw_sync.specs.World.Event.{Run, Crash, Answer}
 use Rattle.tw_sync.proofs.Folds.{agrees_is_kept, pending_acts_on_the_fold}
 use Rattle.tw_sync.proofs.LocalSteps.{commit_agrees, undo_agrees}
-use Rattle.tw_sync.proofs.Ends.{new_replica_agrees, sync_end_agrees}
+use Rattle.tw_outcome.proofs.Ends.{end_agrees}
+use Rattle.tw_sync.proofs.Ends.{new_replica_agrees}
 
 -- ---- lists
 
@@ -55,7 +60,7 @@ all_grown old new g machines all = each (AllAgree old) (AllAgree new) machines (
 made_agrees : (chain now : List Version) (state next : State) → IsServedChain now → Grows chain now → Agrees state chain → Makes chain now state (Some next) → Agrees next now
 made_agrees chain now state next served g a (inl c) = commit_agrees c.renumber c.ops state next now c.group (agrees_is_kept state chain now a g) c.step
 made_agrees chain now state next served g a (inr (inl undo)) = undo_agrees state next now (agrees_is_kept state chain now a g) undo
-made_agrees chain now state next served g a (inr (inr s)) = sync_end_agrees state next (record { chain = chain; own = s.own }) (record { chain = now; own = s.own_now }) s.report served.whole a s.ended
+made_agrees chain now state next served g a (inr (inr s)) = end_agrees s.answer state next (record { chain = chain; own = s.own }) (record { chain = now; own = s.own_now }) served.whole a s.ended
 
 with_next_agrees : (chain now : List Version) (states : List State) (state : State) (next : Option State) → IsServedChain now → Grows chain now → Agrees state chain → Makes chain now state next → AllAgree now states → AllAgree now (with_next states next)
 with_next_agrees chain now states state None served g a makes all = all
@@ -86,14 +91,31 @@ Fits v = length v.segment ≤ max_body
 no_chain : IsServedChain []
 no_chain = record { whole = record { row = tt; differ = tt; uuids = All-nil _ }; fit = All-nil _ }
 
-added_fit : (chain : List Version) (request : Request) (id : List ℕ) → length (request_body request) ≤ max_body → All Fits (answer chain (ask_of request) id).0
-added_fit chain (Child client parent) id le = All-nil Fits
-added_fit chain (Add client parent segment) id le = by (accepts chain parent) (has_id id chain)
+added_fit : (chain : List Version) (parent segment id : List ℕ) → length segment ≤ max_body → All Fits (answer chain (Ask_add parent segment) id).0
+added_fit chain parent segment id le = by (accepts chain parent) (has_id id chain)
   where
     by : (accepted known : Bool) → All Fits (cond {A = List Version × Finding} accepted (cond known ([], Taken) (version id parent segment ∷ [], Added id)) ([], Conflict (latest chain))).0
     by true true = All-nil Fits
     by true false = All-push Fits [] (version id parent segment) (All-nil Fits) le
     by false known = All-nil Fits
+
+same_if : (t : Bool) (account other : Account) → account.chain ≡ other.chain → IsServedChain other.chain → IsServedChain (cond {A = Account × Reply} t (account, Stored) (other, Refused)).0.chain
+same_if true account other same served = subst IsServedChain (sym same) served
+same_if false account other same served = served
+
+-- what an answer leaves is a served chain
+answer_served : (account : Account) (request : Request) (id : List ℕ) → IsServedChain account.chain → IsUuid id → same_id id zero_bytes ≡ false → length (request_body request) ≤ max_body → IsServedChain (account_after account request id).chain
+answer_served account (Add client parent segment) id served uuid real le = record {
+  whole = answer_keeps_chain account.chain (Ask_add parent segment) id served.whole uuid real;
+  fit = All-append Fits account.chain (answer account.chain (Ask_add parent segment) id).0 served.fit (added_fit account.chain parent segment id le);
+}
+answer_served account (Child client parent) id served uuid real le = record {
+  whole = answer_keeps_chain account.chain (Ask_child parent) id served.whole uuid real;
+  fit = All-append Fits account.chain [] served.fit (All-nil Fits);
+}
+answer_served account (AddSnapshot client v bytes) id served uuid real le =
+    same_if (is_welcome account v) (record { chain = account.chain; stored = Some (record { version = v; bytes = bytes }) }) account refl served
+answer_served account (Snapshot client) id served uuid real le = served
 
 -- ---- events
 
@@ -117,15 +139,13 @@ crash_keeps number old new good on same =
 
 answer_keeps : (request : Request) (id : List ℕ) (old new : World) → IsGood old → Answers request id old new → IsGood new
 answer_keeps request id old new good a =
-    let now : List Version = answered old.chain (ask_of request) id in
-    let agree : AllByRecursion (AllAgree now) new.machines = subst (AllByRecursion (AllAgree now)) (sym a.machines) (all_grown old.chain now (answer_grows old.chain (ask_of request) id) old.machines good.agree) in
+    let account : Account = record { chain = old.chain; stored = a.stored } in
+    let now : List Version = (account_after account request id).chain in
+    let agree : AllByRecursion (AllAgree now) new.machines = subst (AllByRecursion (AllAgree now)) (sym a.machines) (all_grown old.chain now (response_grows account (demand_of request) id) old.machines good.agree) in
     record {
-      served = subst IsServedChain (sym a.chain) (record { whole = answer_keeps_chain old.chain (ask_of request) id good.served.whole a.uuid a.real; fit = fits });
+      served = subst IsServedChain (sym a.chain) (answer_served account request id good.served a.uuid a.real a.fits);
       agree = subst (λ c. AllByRecursion (AllAgree c) new.machines) (sym a.chain) agree;
     }
-  where
-    fits : SegmentsFit (answered old.chain (ask_of request) id)
-    fits = All-append Fits old.chain (answer old.chain (ask_of request) id).0 good.served.fit (added_fit old.chain request id a.fits)
 
 event_keeps : (event : Event) (old new : World) → IsGood old → Leads event old new → IsGood new
 event_keeps (Run number) old new good on = run_keeps number old new good on

@@ -102,12 +102,12 @@ pub record IsRefusedOne {L : Type 0} (m : LinkModel L) (old new : L) (parent las
 
 -- an answer to add-version
 abbrev pub IsAddAnswer : {L : Type 0} → LinkModel L → (old new : L) → (parent segment : List ℕ) → AddAnswer → Type 0
-IsAddAnswer m old new parent segment (Added id) = IsAddedOne m old new (version id parent segment)
+IsAddAnswer m old new parent segment (Added id wanted) = IsAddedOne m old new (version id parent segment)
 IsAddAnswer m old new parent segment (Conflict last) = IsRefusedOne m old new parent last
 
 -- the response that an answer is made of
 abbrev pub add_response : AddAnswer → Response
-add_response (Added id) = replies.Added id
+add_response (Added id wanted) = replies.Added id wanted
 add_response (Conflict last) = replies.Conflict last
 
 abbrev pub add_heard : (client parent segment : List ℕ) → AddAnswer → Heard
@@ -135,11 +135,13 @@ abbrev pub HasStatus : Response → Type 0
 HasStatus replies.Bad = ⊥
 HasStatus replies.TooLong = ⊥
 HasStatus replies.Taken = ⊥
-HasStatus (replies.Added id) = Unit {0}
+HasStatus (replies.Added id wanted) = Unit {0}
 HasStatus (replies.Conflict last) = Unit {0}
 HasStatus (replies.Child id parent segment) = Unit {0}
 HasStatus replies.UpToDate = Unit {0}
 HasStatus replies.Gone = Unit {0}
+HasStatus replies.Stored = Unit {0}
+HasStatus (replies.Snapshot version bytes) = Unit {0}
 
 -- no reply came: the link failed, or memory ran out
 abbrev pub NoReply : AskError → Type 0

@@ -1,21 +1,26 @@
 -- The contract of a sync: its clauses, and one record for each of its ends.
-use Rattle.std.specs.Prelude.{◌≡◌, ◌⊎◌, ℕ, ◌+◌, ◌≤◌, IsTrue, List, Result, IfOk}
+use Rattle.std.specs.Prelude.{◌≡◌, ◌⊎◌, ℕ, ◌+◌, ◌≤◌, IsTrue, List, [], ◌++◌, length, Result, IfOk}
 use Rattle.tw_world.specs.Disk.{DiskModel}
 use Rattle.tw_model.specs.declared.SyncOp.{SyncOp}
-use Rattle.tw_protocol.specs.Chain.{Grows}
+use Rattle.tw_protocol.specs.Chain.{Version, Grows}
 use Rattle.tw_http.specs.Link.{LinkModel, IsHonest}
+use Rattle.tw_replica.specs.State.{State}
 use Rattle.tw_replica.specs.Core.{state_of}
 use Rattle.tw_replica.specs.Replica.{IsReplicaOn}
 use Rattle.tw_replica.specs.declared.replica.Replica.{Replica}
-use Rattle.tw_sync.specs.Fold.{Agrees}
-use Rattle.tw_sync.specs.End.{SyncEnd, MayHaveAdded}
+use Rattle.tw_outcome.specs.Agreement.{Agrees}
+use Rattle.tw_path.specs.Path.{Leg, sent_of, added_of}
+use Rattle.tw_path.specs.Sent.{WasSent, SendsLater}
+use Rattle.tw_outcome.specs.End.{End, Went, starts_at}
+use Rattle.tw_outcome.specs.End.Answer.{Unwritten}
+use Rattle.tw_sync.specs.End.{SyncEnd}
 use Rattle.tw_sync.specs.Heard.{Heard, HearsUntil, HearsThat, HearsUntilThat, brought, most_exchanges}
 use Rattle.tw_sync.specs.Answers.{IsLinkKept}
-use Rattle.tw_sync.specs.Refused.{HeardRefused, SyncRefused, MayAdd}
+use Rattle.tw_sync.specs.Refused.{HeardRefused, SyncRefused}
 use Rattle.tw_sync.specs.Sync.{server_chain, RecordsOfSync, LeavesEnd, HeardEnd}
 use Rattle.tw_sync.specs.Measured.{IsMeasured}
 use Rattle.tw_sync.specs.Honest.{HonestRefused, CanSync, IsWant}
-use Rattle.tw_sync.specs.Resuming.{WasAdded, SendsLater}
+use Rattle.tw_sync.specs.Way.{WentUntil}
 use Rattle.tw_sync.specs.declared.report.SyncReport.{SyncReport}
 use Rattle.tw_sync.specs.declared.error.SyncError.{SyncError}
 
@@ -26,20 +31,34 @@ abbrev pub EndsOn : {L : Type 0} → LinkModel L → (client : List ℕ) → (ol
 EndsOn m client old new first now report =
     IsHonest m first client → SyncEnd (state_of old.core) (state_of new.core) (server_chain m first) (server_chain m now) report
 
+-- a refused sync leaves the state, whatever it has added
+abbrev pub EndsUnwritten : {L : Type 0} → LinkModel L → (client : List ℕ) → (old new : Replica) (first now : L) → Type 0
+EndsUnwritten m client old new first now =
+    IsHonest m first client → End Unwritten (state_of old.core) (state_of new.core) (server_chain m first) (server_chain m now)
+
 -- a replica that agreed with the chain agrees with it
 abbrev pub KeepsAgreement : {L : Type 0} → LinkModel L → (client : List ℕ) → (old new : Replica) (first now : L) → Type 0
 KeepsAgreement m client old new first now =
     IsHonest m first client → Agrees (state_of old.core) (m.chain first) → Agrees (state_of new.core) (m.chain now)
 
--- a refused sync has added no version, or one
-abbrev pub AddsOneAtMost : {L : Type 0} → LinkModel L → (client : List ℕ) → (old : Replica) (first now : L) → Type 0
-AddsOneAtMost m client old first now = IsHonest m first client → MayHaveAdded (state_of old.core) (server_chain m first) (server_chain m now)
+-- a sync of this state pulls what a refused one sent, up to the version w, and sends what is left of the operations that came after it alone
+abbrev pub SendsTheRest : {L : Type 0} → LinkModel L → State → (first now : L) → SyncReport → Type 0
+SendsTheRest m old first now report = (mine later : List SyncOp) (w : List ℕ) (was : WasSent (starts_at old) (m.chain first) mine later w)
+    → (legs : List Leg) × Went old (server_chain m first) (server_chain m now) legs × (report.pushed ≡ sent_of legs)
+    × SendsLater (starts_at old) legs w mine later was.pulled
 
--- what a refused sync added is pulled, and not sent again
+-- one that is refused too has sent nothing, or what is left of the later operations alone
+abbrev pub SendsNoMore : {L : Type 0} → LinkModel L → State → (first now : L) → Type 0
+SendsNoMore m old first now = (mine later : List SyncOp) (w : List ℕ) (was : WasSent (starts_at old) (m.chain first) mine later w)
+    → (legs : List Leg) × Went old (server_chain m first) (server_chain m now) legs
+    × ((added_of legs ≡ []) ⊎ SendsLater (starts_at old) legs w mine later was.pulled)
+
 abbrev pub SendsLaterAlone : {L : Type 0} → LinkModel L → (client : List ℕ) → (old : Replica) (first now : L) → SyncReport → Type 0
 SendsLaterAlone m client old first now report = IsHonest m first client → Agrees (state_of old.core) (m.chain first)
-    → (mine later : List SyncOp) (was : WasAdded (state_of old.core) (m.chain first) mine later)
-    → SendsLater (state_of old.core) (server_chain m first) (server_chain m now) report mine later was
+    → SendsTheRest m (state_of old.core) first now report
+
+abbrev pub SendsNothingAgain : {L : Type 0} → LinkModel L → (client : List ℕ) → (old : Replica) (first now : L) → Type 0
+SendsNothingAgain m client old first now = IsHonest m first client → Agrees (state_of old.core) (m.chain first) → SendsNoMore m (state_of old.core) first now
 
 -- a refusal is true of the chain
 abbrev pub RefusedTruly : {L : Type 0} → LinkModel L → (client : List ℕ) → (old : Replica) (first now : L) → SyncError → Type 0
@@ -60,19 +79,24 @@ LeavesRecords d m client old new before after first now result = (bodies : List 
 
 -- ---- what was heard
 
+-- of the exchanges of a sync that pulled so many versions each added at most one, and there are few besides
+abbrev pub AsksFewFor : {L : Type 0} → LinkModel L → (first now : L) → (pulled besides : ℕ) → Type 0
+AsksFewFor m first now pulled besides = (added : List Version) × (m.own now ≡ m.own first ++ added)
+    × (m.exchanges now ≤ m.exchanges first + most_exchanges pulled + length added + besides)
+
 -- a refused sync heard its cause, and asked at most once more than one that ends
 abbrev pub HearsItsRefusal : {L : Type 0} → LinkModel L → (client host : List ℕ) → (first now : L) → SyncError → Type 0
 HearsItsRefusal m client host first now e = IsTrue (m.tells_list first)
     → (hs : List Heard) × HearsUntil m client host first now hs e × HeardRefused client hs e
-    × (IsHonest m first client → m.exchanges now ≤ m.exchanges first + most_exchanges (brought hs) + 1)
+    × (IsHonest m first client → AsksFewFor m first now (brought hs) 1)
 
 -- its number is that of what was heard
 abbrev pub HearsItsNumber : {L : Type 0} → LinkModel L → (client host : List ℕ) → (old : Replica) (first now : L) → SyncError → Type 0
 HearsItsNumber m client host old first now e = HearsUntilThat m client host first now e (λ hs. IsMeasured (state_of old.core) client hs e)
 
--- over an honest link a sync that ends has asked no more often than for what it pulled
+-- over an honest link a sync that ends has asked no more often than for what it pulled and added
 abbrev pub AsksFew : {L : Type 0} → LinkModel L → (client : List ℕ) → (first now : L) → SyncReport → Type 0
-AsksFew m client first now report = IsHonest m first client → m.exchanges now ≤ m.exchanges first + most_exchanges report.pulled
+AsksFew m client first now report = IsHonest m first client → AsksFewFor m first now report.pulled 0
 
 -- ---- the ends of a sync of an open replica
 
@@ -96,8 +120,9 @@ pub record DoneEnd {D L : Type 0} (d : DiskModel D) (m : LinkModel L) (client ho
 -- it is refused
 pub record RefusedEnd {D L : Type 0} (d : DiskModel D) (m : LinkModel L) (client host : List ℕ) (old new : Replica) (before after : D) (first now : L)
     (e : SyncError) : Type 0 where
-  pub added : AddsOneAtMost m client old first now
-  pub added_only : IsHonest m first client → MayAdd e ⊎ (m.own now ≡ m.own first)
+  pub ended : EndsUnwritten m client old new first now
+  pub way : WentUntil m client host (state_of old.core) first now e
+  pub cancels : SendsNothingAgain m client old first now
   pub refused : SyncRefused d m old new before after first now e
   pub honest : RefusedTruly m client old first now e
   pub complete : CanSync d m old before after first now client host → IsWant e

@@ -7,8 +7,9 @@ use Rattle.tw_http.specs.Messages.{request_text}
 use Rattle.tw_http.specs.Responses.{IsResponseAnswer}
 use Rattle.tw_http.specs.Serving.{client_of, kind_of}
 use Rattle.tw_http.specs.declared.message.Request.{Request}
+use Rattle.tw_http.specs.declared.message.Request.TheVariants as asks
 use Rattle.tw_http.specs.declared.message.Response.{Response}
-use Rattle.tw_http.specs.declared.message.Response.TheVariants.{Added, Conflict, Child, UpToDate, Gone, Bad, TooLong, Taken}
+use Rattle.tw_http.specs.declared.message.Response.TheVariants.{Added, Conflict, Child, UpToDate, Gone, Bad, TooLong, Taken, Stored, Snapshot}
 use Rattle.tw_http.specs.declared.message.HttpError.{HttpError}
 use Rattle.tw_sync.specs.declared.error.SyncError.{SyncError}
 use Rattle.tw_sync.specs.declared.error.SyncError.TheVariants as errors
@@ -82,26 +83,51 @@ HearsOne m client host old new h = IsTrue (m.tells_list old) → Hears m client 
 -- the bytes of the segment that a 200 to get-child brought
 abbrev pub brought_bytes : Result Response HttpError → List ℕ
 brought_bytes (Ok (Child id parent segment)) = segment
-brought_bytes (Ok (Added id)) = []
+brought_bytes (Ok (Added id wanted)) = []
 brought_bytes (Ok (Conflict latest)) = []
 brought_bytes (Ok UpToDate) = []
 brought_bytes (Ok Gone) = []
 brought_bytes (Ok Bad) = []
 brought_bytes (Ok TooLong) = []
 brought_bytes (Ok Taken) = []
+brought_bytes (Ok Stored) = []
+brought_bytes (Ok (Snapshot version bytes)) = []
 brought_bytes (Err e) = []
 
 -- the version that a 200 to get-child brought
 abbrev pub brought_by : Result Response HttpError → List Version
 brought_by (Ok (Child id parent segment)) = version id parent segment ∷ []
-brought_by (Ok (Added id)) = []
+brought_by (Ok (Added id wanted)) = []
 brought_by (Ok (Conflict latest)) = []
 brought_by (Ok UpToDate) = []
 brought_by (Ok Gone) = []
 brought_by (Ok Bad) = []
 brought_by (Ok TooLong) = []
 brought_by (Ok Taken) = []
+brought_by (Ok Stored) = []
+brought_by (Ok (Snapshot version bytes)) = []
 brought_by (Err e) = []
+
+-- the version that a request to add one added under an id
+abbrev pub added_as : Request → List ℕ → List Version
+added_as (asks.Add client parent segment) id = version id parent segment ∷ []
+added_as (asks.Child client parent) id = []
+added_as (asks.AddSnapshot client version bytes) id = []
+added_as (asks.Snapshot client) id = []
+
+-- the version that a reply told of: a 200 to get-child brought it, or a 200 to add-version says that it was added
+abbrev pub told_as : Request → Result Response HttpError → List Version
+told_as asked (Ok (Child id parent segment)) = version id parent segment ∷ []
+told_as asked (Ok (Added id wanted)) = added_as asked id
+told_as asked (Ok (Conflict latest)) = []
+told_as asked (Ok UpToDate) = []
+told_as asked (Ok Gone) = []
+told_as asked (Ok Bad) = []
+told_as asked (Ok TooLong) = []
+told_as asked (Ok Taken) = []
+told_as asked (Ok Stored) = []
+told_as asked (Ok (Snapshot version bytes)) = []
+told_as asked (Err e) = []
 
 -- how many versions a reply brought: one for a 200 to get-child
 abbrev pub versions_of : Result Response HttpError → ℕ
@@ -111,18 +137,25 @@ versions_of reply = length (brought_by reply)
 abbrev pub conflicts_of : Result Response HttpError → ℕ
 conflicts_of (Ok (Conflict latest)) = 1
 conflicts_of (Ok (Child id parent segment)) = 0
-conflicts_of (Ok (Added id)) = 0
+conflicts_of (Ok (Added id wanted)) = 0
 conflicts_of (Ok UpToDate) = 0
 conflicts_of (Ok Gone) = 0
 conflicts_of (Ok Bad) = 0
 conflicts_of (Ok TooLong) = 0
 conflicts_of (Ok Taken) = 0
+conflicts_of (Ok Stored) = 0
+conflicts_of (Ok (Snapshot version bytes)) = 0
 conflicts_of (Err e) = 0
 
 -- the versions that were brought, one after another
 abbrev pub versions_in : List Heard → List Version
 versions_in [] = []
 versions_in (h ∷ hs) = brought_by h.reply ++ versions_in hs
+
+-- the versions that were told of, one after another
+abbrev pub told_in : List Heard → List Version
+told_in [] = []
+told_in (h ∷ hs) = told_as h.asked h.reply ++ told_in hs
 
 -- how many bytes of segments were brought
 abbrev pub pulled_bytes : List Heard → ℕ

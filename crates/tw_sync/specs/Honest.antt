@@ -13,8 +13,13 @@ use Rattle.tw_segment.specs.declared.error.SegmentError.TheVariants as segments
 use Rattle.tw_replica.specs.Core.{state_of}
 use Rattle.tw_replica.specs.State.{State}
 use Rattle.tw_replica.specs.declared.replica.Replica.{Replica}
-use Rattle.tw_sync.specs.Fold.{Reads, Agrees}
-use Rattle.tw_sync.specs.End.{ServerChain, IsPulled}
+use Rattle.tw_groups.specs.Groups.{joined}
+use Rattle.tw_groups.specs.Cut.{first}
+use Rattle.tw_path.specs.Fold.{Reads}
+use Rattle.tw_path.specs.Path.{Leg, IsPath, is_batch, versions_of}
+use Rattle.tw_outcome.specs.Agreement.{Agrees}
+use Rattle.tw_outcome.specs.End.{ServerChain, starts_at}
+use Rattle.tw_sync.specs.Cursor.{place, pulled_len, IsIn}
 use Rattle.tw_sync.specs.Heard.{HearsThat, versions_in}
 use Rattle.tw_sync.specs.Refused.{max_pull}
 use Rattle.tw_sync.specs.Sync.{server_chain, record_size}
@@ -22,34 +27,36 @@ use Rattle.tw_sync.specs.declared.error.ReplyKind.TheVariants.{Status}
 use Rattle.tw_sync.specs.declared.error.SyncError.{SyncError}
 use Rattle.tw_sync.specs.declared.error.SyncError.TheVariants as errors
 
--- others added at least so many versions
+-- others added at least so many versions: so many more than this replica's exchanges
 pub record OthersAdded (before after : ServerChain) (least : ℕ) : Type 0 where
   pub more : List Version
   pub joined : after.chain ≡ before.chain ++ more
-  pub many : least ≤ length more
-  pub of_others : All (λ v. ¬ (Contains after.own v)) more
+  pub mine : List Version
+  pub own : after.own ≡ before.own ++ mine
+  pub many : least + length mine ≤ length more
+  pub of_others : All (λ v. Contains after.own v → Contains mine v) more
 
 -- how many bytes the segments of versions have
 abbrev pub segments_len : List Version → ℕ
 segments_len [] = 0
 segments_len (v ∷ vs) = length v.segment + segments_len vs
 
--- the versions that were pulled are too long together. They are different ones
+-- the versions that were pulled, with one more, are too long together. They are different ones
 pub record IsLongPull (old : State) (chain : List Version) (bytes : ℕ) : Type 0 where
-  pub versions : List Version
+  pub legs : List Leg
   pub v : Version
-  pub between : IsBetween chain old.base v.id (versions ++ v ∷ [])
-  pub len : bytes ≡ segments_len (versions ++ v ∷ [])
+  pub path : IsPath (starts_at old) legs
+  pub between : IsBetween chain old.base v.id (versions_of legs ++ v ∷ [])
+  pub len : bytes ≡ pulled_len legs + length v.segment
 
--- what is left of what is pending, once all versions are pulled that the chain held before, is too long
+-- what is sent first of what is left, once all versions are pulled that the chain held before, is too long
 pub record IsLongSegment (old : State) (before after : ServerChain) (bytes : ℕ) : Type 0 where
-  pub h : List ℕ
-  pub last : HoldsAll before.chain after.chain h
-  pub versions : List Version
-  pub ops : List SyncOp
-  pub left : List SyncOp
-  pub pulled : IsPulled old after.chain h versions ops left
-  pub len : bytes ≡ length (segment_text left)
+  pub legs : List Leg
+  pub path : IsPath (starts_at old) legs
+  pub between : IsIn old after.chain legs
+  pub last : HoldsAll before.chain after.chain (place old legs).at
+  pub some : ¬ (joined (place old legs).left ≡ [])
+  pub len : bytes ≡ length (segment_text (first is_batch (place old legs).left))
 
 -- a version after the base can't be read
 pub record IsUnreadIn (old : State) (chain : List Version) (id : List ℕ) : Type 0 where
@@ -101,10 +108,10 @@ abbrev pub EachPulled : {L : Type 0} → LinkModel L → (client host : List ℕ
 EachPulled m client host old first last P = (versions : List Version) (v : Version) → IsBetween (m.chain last) old.base v.id (versions ++ v ∷ [])
     → WasPulled m client host first last v → P versions v
 
--- what is left of what is pending, once all is pulled that the chain held before, fits a segment
+-- what is sent first of what is left, once all is pulled that the chain held before, fits a segment
 abbrev pub LeftFitsSegment : (old : State) → (before after : List Version) → Type 0
-LeftFitsSegment old before after = (h : List ℕ) (versions : List Version) (ops left : List SyncOp) → HoldsAll before after h
-    → IsPulled old after h versions ops left → length (segment_text left) ≤ max_len
+LeftFitsSegment old before after = (legs : List Leg) → IsPath (starts_at old) legs → IsIn old after legs → HoldsAll before after (place old legs).at
+    → ¬ (joined (place old legs).left ≡ []) → length (segment_text (first is_batch (place old legs).left)) ≤ max_len
 
 -- what is pulled once all is pulled that the chain held before, with what was left, fits a record
 abbrev pub AllFitsRecord : (old : State) → (before after : List Version) → Type 0

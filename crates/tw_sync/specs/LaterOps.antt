@@ -1,12 +1,13 @@
 -- Operations that commands add after a sync was refused, and what an undo leaves of them.
-use Rattle.std.specs.Prelude.{◌≡◌, Bool, true, is_some, List, ◌++◌, Some}
+use Rattle.std.specs.Prelude.{◌≡◌, ℕ, Bool, true, is_some, List, ◌++◌, Some}
 use Rattle.tw_model.specs.LocalOps.{plain}
 use Rattle.tw_model.specs.declared.Op.{Op}
+use Rattle.tw_model.specs.declared.SyncOp.{SyncOp}
 use Rattle.tw_protocol.specs.Chain.{Version, Grows}
 use Rattle.tw_replica.specs.State.{State, committed, undone, split_group}
 use Rattle.tw_replica.specs.Sound.{IsSound, start_of}
-use Rattle.tw_sync.specs.End.{ServerChain, AddedOne}
-use Rattle.tw_sync.specs.Resuming.{WasAdded}
+use Rattle.tw_path.specs.Sent.{WasSent}
+use Rattle.tw_outcome.specs.End.{starts_at}
 
 -- the base and the tasks without what is pending stay, and these operations come after what was pending
 pub record Follows (old new : State) (more : List Op) : Type 0 where
@@ -24,7 +25,7 @@ abbrev pub UndoStaysBehind : Type 0
 UndoStaysBehind = (old new after : State) (more : List Op) → IsSound new → Follows old new more → is_some (split_group more) ≡ true → undone new ≡ Some after
     → (left : List Op) × Follows old after left
 
--- the version that a refused sync added was added for each replica that follows, whatever the chain has grown by since
-abbrev pub AddedForFollowing : Type 0
-AddedForFollowing = (old new : State) (before after : ServerChain) (chain : List Version) (more : List Op) (added : AddedOne old before after)
-    → Grows after.chain chain → Follows old new more → (was : WasAdded new chain (plain old.pending) (plain more)) × (was.v ≡ added.v)
+-- what was sent up to a version is so for each replica that follows, whatever the chain has grown by since
+abbrev pub SentForFollowing : Type 0
+SentForFollowing = (old new : State) (chain now : List Version) (more : List Op) (mine later : List SyncOp) (w : List ℕ) → IsSound old → IsSound new
+    → WasSent (starts_at old) chain mine later w → Grows chain now → Follows old new more → WasSent (starts_at new) now mine (later ++ plain more) w

@@ -1,17 +1,19 @@
--- The laws of folds, of agreement, and of the end of a sync.
-use Rattle.std.specs.Prelude.{◌≡◌, ℕ, List, [], ◌++◌}
-use Rattle.tw_model.specs.Ops.{TasksValue, apply_all, fit_part}
+-- The laws of folds, of agreement, and of what a sync added.
+use Rattle.std.specs.Prelude.{◌≡◌, ℕ, List, [], ◌∷◌, ◌++◌}
+use Rattle.tw_model.specs.Ops.{TasksValue, apply_all}
 use Rattle.tw_model.specs.LocalOps.{plain}
 use Rattle.tw_model.specs.declared.SyncOp.{SyncOp}
 use Rattle.tw_protocol.specs.Chain.{Version, IsChain, Grows}
-use Rattle.tw_transform.specs.Grid.{grid}
 use Rattle.tw_replica.specs.State.{State, start}
-use Rattle.tw_replica.specs.Sound.{start_of}
-use Rattle.tw_sync.specs.Fold.{IsFold, Agrees}
-use Rattle.tw_sync.specs.Positions.{IsPositionIn}
-use Rattle.tw_sync.specs.Resuming.{WasAdded}
-use Rattle.tw_sync.specs.End.{ServerChain, SyncEnd, IsPushed, AddedOne}
-use Rattle.tw_sync.specs.declared.report.SyncReport.{SyncReport}
+use Rattle.tw_replica.specs.Sound.{IsSound}
+use Rattle.tw_groups.specs.Groups.{joined}
+use Rattle.tw_groups.specs.Cut.{rest}
+use Rattle.tw_path.specs.Fold.{IsFold}
+use Rattle.tw_path.specs.Path.{Leg, come, is_batch}
+use Rattle.tw_path.specs.Path.Leg.{Push}
+use Rattle.tw_path.specs.Sent.{WasSent, left_of_later}
+use Rattle.tw_outcome.specs.Agreement.{Agrees}
+use Rattle.tw_outcome.specs.End.{ServerChain, Went, starts_at}
 
 -- nothing is pending of no tasks, and nothing is up to nil
 abbrev pub NewReplicaAgrees : Type 0
@@ -35,22 +37,10 @@ abbrev pub AgreeingReplicasAreEqual : Type 0
 AgreeingReplicasAreEqual = (one other : State) (chain : List Version) → IsChain chain → Agrees one chain → Agrees other chain
     → one.base ≡ other.base → plain one.pending ≡ [] → plain other.pending ≡ [] → one.tasks ≡ other.tasks
 
--- the version that a refused sync added is pulled, and later operations were appended: only what is left of these is left
-abbrev pub AddedVersionCancels : Type 0
-AddedVersionCancels = (old : State) (before after : ServerChain) (later : List SyncOp) → Agrees old after.chain → (added : AddedOne old before after)
-    → IsPositionIn after.chain old.base (plain old.pending ++ later) added.v.id (grid (grid (fit_part (start_of old) added.ops) (plain old.pending)).0 later).1
-
--- what a sync that ends has added is what a refused one may have added
-abbrev pub PushedIsAdded : Type 0
-PushedIsAdded = (old new : State) (before after : ServerChain) (report : SyncReport) (pushed : IsPushed old new before after report)
-    → (added : AddedOne old before after) × (added.v ≡ pushed.v)
-
--- if a sync is cut off between its add-version and its record, its version was added, of all that is pending
-abbrev pub CutOffIsAdded : Type 0
-CutOffIsAdded = (old new : State) (before after : ServerChain) (chain : List Version) (report : SyncReport) (pushed : IsPushed old new before after report)
-    → Grows after.chain chain → (was : WasAdded old chain (plain old.pending) []) × (was.v ≡ pushed.v)
-
--- a sync of a replica that agrees with the chain ends in one that agrees with it
-abbrev pub SyncEndAgrees : Type 0
-SyncEndAgrees = (old new : State) (before after : ServerChain) (report : SyncReport) → IsChain after.chain → Agrees old before.chain
-    → SyncEnd old new before after report → Agrees new after.chain
+-- each version that a sync added was sent, of what was pending when it began: the first operations, up to the last that it holds. Once it is
+-- pulled, of the others what was left after it is left
+abbrev pub AddedWasSent : Type 0
+AddedWasSent = (old : State) (before after : ServerChain) (legs more : List Leg) (v : Version) (ops : List SyncOp) → IsSound old
+    → Went old before after (legs ++ Push v ops ∷ more)
+    → (mine : List SyncOp) × (later : List SyncOp) × (was : WasSent (starts_at old) after.chain mine later v.id)
+    × (left_of_later (starts_at old).tasks mine later was.pulled ≡ joined (rest is_batch (come (starts_at old) legs).left))

@@ -1,4 +1,3 @@
-pub mod Fold
 pub mod Positions
 pub mod End
 pub mod LocalSteps
@@ -7,13 +6,12 @@ pub mod Causes
 pub mod Heard
 pub mod Answers
 pub mod Refused
+pub mod Cursor
 pub mod Sync
 pub mod Measured
 pub mod Honest
-pub mod Alike
-pub mod Cursor
+pub mod Way
 pub mod Progress
-pub mod Resuming
 pub mod Sending
 pub mod Moved
 pub mod Contract

@@ -4,7 +4,7 @@ use Rattle.tw_model.specs.declared.Op.{Op}
 use Rattle.tw_protocol.specs.Chain.{Version}
 use Rattle.tw_replica.specs.Body.{is_group}
 use Rattle.tw_replica.specs.State.{State, committed, undone}
-use Rattle.tw_sync.specs.Fold.{Agrees}
+use Rattle.tw_outcome.specs.Agreement.{Agrees}
 
 -- a commit of a group keeps agreement
 abbrev pub CommitAgrees : Type 0

@@ -1,53 +1,37 @@
 -- The numbers of a refusal for a limit, by what was heard.
-use Rattle.std.specs.Prelude.{◌≡◌, ◌⊎◌, ℕ, List, ◌++◌, length, Ok}
-use Rattle.tw_model.specs.LocalOps.{plain}
-use Rattle.tw_model.specs.declared.SyncOp.{SyncOp}
+use Rattle.std.specs.Prelude.{◌≡◌, ℕ, List, [], length}
 use Rattle.tw_journal.specs.declared.error.AppendError.TheVariants.{TooLong, Disk, Closed}
-use Rattle.tw_protocol.specs.Chain.{last_from}
-use Rattle.tw_http.specs.declared.message.Response.TheVariants as replies
 use Rattle.tw_segment.specs.Segment.{segment_text}
-use Rattle.tw_transform.specs.Positions.{IsPosition}
 use Rattle.tw_replica.specs.State.{State}
-use Rattle.tw_replica.specs.Sound.{start_of}
-use Rattle.tw_sync.specs.Fold.{Reads}
-use Rattle.tw_sync.specs.Heard.{Heard, versions_in}
-use Rattle.tw_sync.specs.Refused.{EndedBy, IsUpToDate}
+use Rattle.tw_groups.specs.Groups.{joined}
+use Rattle.tw_groups.specs.Cut.{first}
+use Rattle.tw_path.specs.Path.{Leg, IsPath, is_batch, versions_of, ops_of}
+use Rattle.tw_outcome.specs.End.{starts_at}
+use Rattle.tw_sync.specs.Heard.{Heard, told_in}
+use Rattle.tw_sync.specs.Refused.{EndedBy, IsLastReply}
 use Rattle.tw_sync.specs.Sync.{record_size}
+use Rattle.tw_sync.specs.Cursor.{place}
 use Rattle.tw_sync.specs.declared.error.SyncError.{SyncError}
 use Rattle.tw_sync.specs.declared.error.SyncError.TheVariants as errors
 
--- all that was brought was pulled: a 404 to get-child of the last version ended it
-pub record HasHeardAll (state : State) (client : List ℕ) (hs : List Heard) (base : List ℕ) : Type 0 where
-  pub at : base ≡ last_from state.base (versions_in hs)
-  pub ended : EndedBy hs (IsUpToDate client base)
+-- the versions that were told of are those of a path of this state, at whose end nothing more was to pull
+pub record HasHeardPath (state : State) (client : List ℕ) (hs : List Heard) (legs : List Leg) : Type 0 where
+  pub path : IsPath (starts_at state) legs
+  pub told : told_in hs ≡ versions_of legs
+  pub ended : EndedBy hs (IsLastReply client (place state legs).at)
 
--- what was left of what is pending was sent, and is the version `base`
-pub record HasHeardSent (state : State) (hs : List Heard) (base : List ℕ) (pulled left : List SyncOp) : Type 0 where
-  pub position : IsPosition (start_of state) (plain state.pending) pulled left
-  pub ended : EndedBy hs (λ last. last.reply ≡ Ok (replies.Added base))
-
--- the operations of the versions that were brought, and after them those that were sent
-pub record IsHeardRecord (state : State) (client : List ℕ) (hs : List Heard) (base : List ℕ) (ops : List SyncOp) : Type 0 where
-  pub pulled : List SyncOp
-  pub reads : Reads (versions_in hs) pulled
-  pub end : ((ops ≡ pulled) × HasHeardAll state client hs base) ⊎ ((left : List SyncOp) × (ops ≡ pulled ++ left) × HasHeardSent state hs base pulled left)
-
--- so many bytes has the segment of what is left once all that was brought is pulled
+-- so many bytes has the segment of what is sent first of what is left at its end
 pub record IsSegmentLen (state : State) (client : List ℕ) (hs : List Heard) (bytes : ℕ) : Type 0 where
-  pub base : List ℕ
-  pub all : HasHeardAll state client hs base
-  pub pulled : List SyncOp
-  pub reads : Reads (versions_in hs) pulled
-  pub left : List SyncOp
-  pub position : IsPosition (start_of state) (plain state.pending) pulled left
-  pub len : bytes ≡ length (segment_text left)
+  pub legs : List Leg
+  pub heard : HasHeardPath state client hs legs
+  pub some : ¬ (joined (place state legs).left ≡ [])
+  pub len : bytes ≡ length (segment_text (first is_batch (place state legs).left))
 
--- so many bytes has the row of the record of all that was heard
+-- so many bytes has the row of the record of all its operations
 pub record IsRecordLen (state : State) (client : List ℕ) (hs : List Heard) (bytes : ℕ) : Type 0 where
-  pub base : List ℕ
-  pub ops : List SyncOp
-  pub heard : IsHeardRecord state client hs base ops
-  pub len : bytes ≡ record_size base ops
+  pub legs : List Leg
+  pub heard : HasHeardPath state client hs legs
+  pub len : bytes ≡ record_size (place state legs).at (ops_of legs)
 
 -- the number of a refusal, unless it is a sum of what was brought, is that of what was heard
 abbrev pub IsMeasured : State → (client : List ℕ) → List Heard → SyncError → Type 0

@@ -12,7 +12,7 @@ use Rattle.tw_replica.specs.declared.error.RecordError.{RecordError}
 
 -- the state that a replica gets at a cursor, unless that is at its base
 abbrev pub moved_state : Cursor → State → Option State
-moved_state cursor state = cond (same_id cursor.at state.base) None (Some (synced cursor.at cursor.remote.items state))
+moved_state cursor state = cond (same_id cursor.walker.at state.base) None (Some (synced cursor.walker.at cursor.remote.items state))
 
 -- whichever records the replica has, this one is appended to them
 abbrev pub AddsRecord : {D : Type 0} → DiskModel D → (old new : Replica) (before after : D) → (body : List ℕ) → Type 0
@@ -22,8 +22,8 @@ AddsRecord m old new before after body = (bodies : List (List ℕ)) → IsReplic
 abbrev pub IsMovedTo : {D : Type 0} → DiskModel D → (old new : Replica) (before after : D) → Cursor → Option State → Type 0
 IsMovedTo m old new before after cursor None = IsSame old new before after
 IsMovedTo m old new before after cursor (Some next) =
-    (state_of new.core ≡ next) × AddsRecord m old new before after (record_body cursor.at cursor.remote.items)
-    × (record_size cursor.at cursor.remote.items ≤ 2 ^ 30)
+    (state_of new.core ≡ next) × AddsRecord m old new before after (record_body cursor.walker.at cursor.remote.items)
+    × (record_size cursor.walker.at cursor.remote.items ≤ 2 ^ 30)
 
 -- at any moment the disk opens to the state before, or to the one that the replica gets at the cursor
 abbrev pub LeavesMove : {D : Type 0} → DiskModel D → (old : Replica) (before after : D) → Cursor → Type 0
@@ -32,4 +32,4 @@ LeavesMove m old before after cursor = (bodies : List (List ℕ)) → IsReplicaO
 
 -- why it is not moved
 abbrev pub IsNotMoved : {D : Type 0} → DiskModel D → (old new : Replica) (before after : D) → Cursor → RecordError → Type 0
-IsNotMoved m old new before after cursor e = SyncingRefused m old new before after (length (record_body cursor.at cursor.remote.items)) e
+IsNotMoved m old new before after cursor e = SyncingRefused m old new before after (length (record_body cursor.walker.at cursor.remote.items)) e

@@ -7,7 +7,7 @@ use Rattle.tw_segment.specs.Segment.{IsSegment}
 use Rattle.tw_transform.specs.Grid.{grid}
 use Rattle.tw_transform.specs.Positions.{IsPosition}
 use Rattle.tw_transform.specs.Refusals.{Refusal, sent_once}
-use Rattle.tw_sync.specs.Fold.{Reads, IsFold}
+use Rattle.tw_path.specs.Fold.{Reads, IsFold}
 
 -- a local list over the chain folded to b is left as `left` once the versions after b up to h are pulled
 pub record IsPositionIn (chain : List Version) (b : List ℕ) (mine : List SyncOp) (h : List ℕ) (left : List SyncOp) : Type 0 where

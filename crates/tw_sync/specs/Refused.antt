@@ -1,5 +1,5 @@
 -- Why a sync is refused, and what a refusal leaves.
-use Rattle.std.specs.Prelude.{◌≡◌, ◌⊎◌, ℕ, ◌<◌, ◌≤◌, ◌^◌, true, false, List, [], ◌∷◌, ◌++◌, Ok, Err}
+use Rattle.std.specs.Prelude.{◌≡◌, ◌⊎◌, ℕ, ◌<◌, ◌≤◌, ◌^◌, Bool, true, false, List, [], ◌∷◌, ◌++◌, Ok, Err}
 use Rattle.std.specs.List.{AllByRecursion}
 use Rattle.uuid.specs.Parts.{zero_bytes}
 use Rattle.tw_world.specs.Disk.{DiskModel, Rose}
@@ -48,9 +48,13 @@ abbrev pub IsNilChild : Heard → Type 0
 IsNilChild heard = (client : List ℕ) × (parent : List ℕ) × (segment : List ℕ)
     × (heard.asked ≡ asks.Child client parent) × (heard.reply ≡ Ok (replies.Child zero_bytes parent segment))
 
+-- a 200 to add-version that gave the version this id
+abbrev pub IsAdded : (id : List ℕ) → Heard → Type 0
+IsAdded id heard = (wanted : Bool) × (heard.reply ≡ Ok (replies.Added id wanted))
+
 -- a version that was added or brought has the id nil
 abbrev pub IsNilVersion : Heard → Type 0
-IsNilVersion heard = (heard.reply ≡ Ok (replies.Added zero_bytes)) ⊎ IsNilChild heard
+IsNilVersion heard = IsAdded zero_bytes heard ⊎ IsNilChild heard
 
 -- a reply with this status, which none has that a sync goes on from
 abbrev pub HasBadStatus : (code : ℕ) → Heard → Type 0
@@ -79,6 +83,10 @@ LeadsOn heard = IsWelcome heard × ¬ (heard.reply ≡ Ok replies.Gone)
 -- a 404 to get-child of this version: there is none after it
 abbrev pub IsUpToDate : (client base : List ℕ) → Heard → Type 0
 IsUpToDate client base heard = (heard.asked ≡ asks.Child client base) × (heard.reply ≡ Ok replies.UpToDate)
+
+-- the last reply of a sync that has come to the end of the chain: there is no version after this one, or this one was added
+abbrev pub IsLastReply : (client base : List ℕ) → Heard → Type 0
+IsLastReply client base last = IsUpToDate client base last ⊎ IsAdded base last
 
 -- a 410 to get-child of this version
 abbrev pub IsGone : (client base : List ℕ) → Heard → Type 0
@@ -121,7 +129,7 @@ HeardCause client hs (errors.Busy parent) = EndedBy hs (IsConflict parent) × (c
 HeardCause client hs (errors.OutOfSync base parent) = IsOutOfSync client hs base parent
 HeardCause client hs (errors.Segment version) = EndedBy hs (IsBadSegment version)
 HeardCause client hs (errors.PullTooLong bytes) = IsTooMuch hs bytes
-HeardCause client hs (errors.SegmentTooLong bytes) = (base : List ℕ) × EndedBy hs (IsUpToDate client base)
+HeardCause client hs (errors.SegmentTooLong bytes) = (base : List ℕ) × EndedBy hs (IsLastReply client base)
 HeardCause client hs errors.Link = Unit {0}
 HeardCause client hs (errors.Journal e) = Unit {0}
 HeardCause client hs errors.Memory = Unit {0}
@@ -187,13 +195,11 @@ SyncRefused m links old new before after first last (errors.SegmentTooLong bytes
 SyncRefused m links old new before after first last (errors.PullTooLong bytes) = (max_pull < bytes) × IsUnchanged old new before after
 SyncRefused m links old new before after first last errors.Memory = IsUnchanged old new before after
 
--- the causes after which a refused sync may have added a version
+-- the causes after which a version may have been added that a refused sync was not told of
 abbrev pub MayAdd : SyncError → Type 0
 MayAdd errors.Link = Unit {0}
 MayAdd errors.Memory = Unit {0}
-MayAdd (errors.Journal journal.Disk) = Unit {0}
-MayAdd (errors.Journal (journal.TooLong bytes)) = Unit {0}
-MayAdd (errors.Journal journal.Closed) = ⊥
+MayAdd (errors.Journal e) = ⊥
 MayAdd (errors.Reply kind) = ⊥
 MayAdd (errors.Gone base) = ⊥
 MayAdd (errors.Busy parent) = ⊥

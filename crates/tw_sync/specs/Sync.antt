@@ -1,20 +1,19 @@
 -- The parts of the contract of a sync.
-use Rattle.std.specs.Prelude.{◌≡◌, ◌⊎◌, ℕ, ◌+◌, ◌≤◌, ◌^◌, List, [], ◌∷◌, ◌++◌, length, Option, Some, None, Ok}
+use Rattle.std.specs.Prelude.{◌≡◌, ◌⊎◌, ℕ, ◌+◌, ◌≤◌, ◌^◌, List, [], ◌∷◌, ◌++◌, length, Option, Some, None}
 use Rattle.tw_world.specs.Disk.{DiskModel, LeavesOnly}
 use Rattle.tw_model.specs.declared.SyncOp.{SyncOp}
 use Rattle.tw_protocol.specs.Chain.{Version}
 use Rattle.tw_http.specs.Link.{LinkModel}
-use Rattle.tw_http.specs.declared.message.Response.TheVariants as replies
 use Rattle.tw_replica.specs.Body.{body_of}
 use Rattle.tw_replica.specs.Body.Step.{Sync}
 use Rattle.tw_replica.specs.State.{State, synced}
 use Rattle.tw_replica.specs.Core.{state_of}
 use Rattle.tw_replica.specs.Replica.{IsReplicaOn, IsSame, OpensToEither}
 use Rattle.tw_replica.specs.declared.replica.Replica.{Replica}
-use Rattle.tw_sync.specs.Fold.{Reads, ReadsBetween}
-use Rattle.tw_sync.specs.End.{ServerChain, SyncEnd}
+use Rattle.tw_path.specs.Fold.{Reads, ReadsBetween}
+use Rattle.tw_outcome.specs.End.{ServerChain, Answer, End}
 use Rattle.tw_sync.specs.Heard.{Heard, brought, versions_in}
-use Rattle.tw_sync.specs.Refused.{EndedBy, IsUpToDate, GoesOnFrom}
+use Rattle.tw_sync.specs.Refused.{EndedBy, IsLastReply, GoesOnFrom}
 use Rattle.tw_sync.specs.declared.report.SyncReport.{SyncReport}
 
 -- what a link tells of its chain
@@ -51,7 +50,7 @@ RecordsOfSync m old new before after honest chain bodies = WritesNothing m old n
 -- the end that a sync has led to, if it has come so far
 abbrev pub IsEndIn : (old : State) (before after : ServerChain) → Option State → Type 0
 IsEndIn old before after None = Unit {0}
-IsEndIn old before after (Some next) = (report : SyncReport) × SyncEnd old next before after report
+IsEndIn old before after (Some next) = (answer : Answer) × End answer old next before after
 
 -- the state after a sync, if there is one: that of some version, over operations that follow on the tasks without what is pending
 abbrev pub IsSyncOf : (old : State) → Option State → Type 0
@@ -64,10 +63,6 @@ pub record LeavesEnd {D : Type 0} (m : DiskModel D) (before after : D) (old : St
   pub made : IsSyncOf old next
   pub end : honest → IsEndIn old first last next
   pub leaves : LeavesOnly m before after (OpensToEither old next)
-
--- the last reply of a sync that ends: there is no more, or what was sent was added
-abbrev pub IsLastReply : (client base : List ℕ) → Heard → Type 0
-IsLastReply client base last = IsUpToDate client base last ⊎ (last.reply ≡ Ok (replies.Added base))
 
 -- what was heard by a sync that ends
 pub record HeardEnd (client : List ℕ) (hs : List Heard) (report : SyncReport) : Type 0 where

@@ -6,16 +6,16 @@ use Rattle.tw_model.specs.Ops.{TasksValue, apply_all}
 use Rattle.tw_model.specs.LocalOps.{plain}
 use Rattle.tw_model.specs.declared.Op.{Op}
 use Rattle.tw_protocol.specs.Chain.{Version, Grows, IsUuid, same_id}
-use Rattle.tw_protocol.specs.Answer.{answered}
+use Rattle.tw_protocol.specs.Snapshots.{Snapshot}
 use Rattle.tw_http.specs.Link.{IsServedChain}
 use Rattle.tw_http.specs.Messages.{max_body, request_body}
-use Rattle.tw_http.specs.Serving.{ask_of}
+use Rattle.tw_http.specs.Serving.{account_after}
 use Rattle.tw_http.specs.declared.message.Request.{Request}
 use Rattle.tw_replica.specs.Body.{is_group}
 use Rattle.tw_replica.specs.State.{State, start, committed, undone}
-use Rattle.tw_sync.specs.Fold.{IsFold, Agrees}
-use Rattle.tw_sync.specs.End.{SyncEnd}
-use Rattle.tw_sync.specs.declared.report.SyncReport.{SyncReport}
+use Rattle.tw_path.specs.Fold.{IsFold}
+use Rattle.tw_outcome.specs.Agreement.{Agrees}
+use Rattle.tw_outcome.specs.End.{Answer as EndAnswer, End}
 
 -- the chain of the machines' one client, and for each machine the states that the images of its disk open to
 pub record World : Type 0 where
@@ -45,12 +45,12 @@ pub record IsCommit (state next : State) : Type 0 where
   pub group : is_group ops ≡ true
   pub step : committed renumber ops state ≡ Some next
 
--- a sync, whatever was lost before it ended and whoever else added meanwhile
+-- a sync, whatever it answers, whatever was lost before it ended and whoever else added meanwhile
 pub record IsSync (chain now : List Version) (state next : State) : Type 0 where
   pub own : List Version
   pub own_now : List Version
-  pub report : SyncReport
-  pub ended : SyncEnd state next (record { chain = chain; own = own }) (record { chain = now; own = own_now }) report
+  pub answer : EndAnswer
+  pub ended : End answer state next (record { chain = chain; own = own }) (record { chain = now; own = own_now })
 
 -- what a run makes of the state that it opens, if it writes a record
 abbrev pub Makes : (chain now : List Version) → State → Option State → Type 0
@@ -98,12 +98,13 @@ pub record OnMachine (number : ℕ) (Step : List State → List State → Type 0
   pub place : length front ≡ number
   pub step : Step states left
 
--- the server answers
+-- the server answers, whatever snapshot is stored
 pub record Answers (request : Request) (id : List ℕ) (old new : World) : Type 0 where
   pub uuid : IsUuid id
   pub real : same_id id zero_bytes ≡ false
   pub fits : length (request_body request) ≤ max_body
-  pub chain : new.chain ≡ answered old.chain (ask_of request) id
+  pub stored : Option Snapshot
+  pub chain : new.chain ≡ (account_after (record { chain = old.chain; stored = stored }) request id).chain
   pub machines : new.machines ≡ old.machines
 
 abbrev pub Leads : Event → World → World → Type 0

@@ -36,7 +36,8 @@ pub(crate) enum ChildAnswer {
 #[derive(Clone, Copy, Drop)]
 pub(crate) enum AddAnswer {
     /// It is in the chain under this id, which is not nil.
-    Added { id: Uuid },
+    /// A snapshot is wanted, or not.
+    Added { id: Uuid, wanted: bool },
     /// Its parent is not the latest version, which is this.
     Conflict { latest: Uuid },
 }
@@ -143,6 +144,7 @@ fn child_answer(alloc: Global, bytes: &[u8], parent: Uuid) -> Result<ChildAnswer
         Response::Gone => Ok(ChildAnswer::Gone),
         Response::Bad | Response::TooLong | Response::Taken => unreachable!(),
         Response::Added { .. } | Response::Conflict { .. } => unreachable!(),
+        Response::Stored | Response::Snapshot { .. } => unreachable!(),
     }
 }
 
@@ -153,15 +155,16 @@ fn add_answer(alloc: Global, bytes: &[u8]) -> Result<AddAnswer, AskError>
     ensures refused { IfErr result (λ e. (client parent segment : List ℕ) → IsBadlyAnswered (asks.Add client parent segment) bytes.now e) }
 {
     match read_reply(alloc, bytes, Asked::Add)? {
-        Response::Added { id } => {
+        Response::Added { id, wanted } => {
             if id == Uuid::nil() {
                 return Err(bad_reply(ReplyKind::Nil));
             }
-            Ok(AddAnswer::Added { id })
+            Ok(AddAnswer::Added { id, wanted })
         }
         Response::Conflict { latest } => Ok(AddAnswer::Conflict { latest }),
         Response::Bad | Response::TooLong | Response::Taken => unreachable!(),
         Response::Child { .. } | Response::UpToDate | Response::Gone => unreachable!(),
+        Response::Stored | Response::Snapshot { .. } => unreachable!(),
     }
 }
 

@@ -1,39 +1,98 @@
 // Where a sync is in the chain.
-ghost use Rattle.std.specs.Prelude.{◌≡◌, ◌≤◌};
+ghost use Rattle.std.specs.Prelude.{◌≡◌, ◌≤◌, ◌⊎◌, [], true, false};
+ghost use Rattle.tw_groups.specs.Groups.{joined};
+ghost use Rattle.tw_groups.specs.Held.{groups_in};
 ghost use Rattle.tw_sync.specs.Refused.{max_pull};
 
+mod add;
+mod report;
 mod start;
 mod take_version;
 
-use tw_model::{SyncOp, Tasks};
+use tw_model::SyncOp;
+use tw_path::Walker;
 use uuid::Uuid;
 
 /// Where a sync is: at a version, with what is left there of the local list, and what came on the way.
-#[derive(Drop)]
 pub struct Cursor {
-    /// The version.
-    pub at: Uuid,
-    /// The tasks that the chain makes up to it, of those that what is left is about.
-    pub tasks: Tasks,
-    /// The local operations that are left there.
-    pub left: Vec<SyncOp>,
-    /// The operations of the versions that were pulled, also of those that did not fit.
+    /// The version, what of the tasks is known there, and what is left of the pending operations.
+    pub walker: Walker,
+    /// The operations of the versions on the way, also of those that did not fit.
     pub remote: Vec<SyncOp>,
     /// How many versions were pulled.
     pub versions: u64,
     /// How many bytes their segments have.
     pub bytes: u64,
-    /// How often others had added a version before what was left came.
+    /// How often others had added a version before what was sent came.
     pub conflicts: u64,
+    /// How many operations were pending at the start.
+    pub pending: u64,
+    /// How many of them were not sent.
+    pub unsent: u64,
     ghost few: { versions ≤ bytes },
     ghost within: { bytes ≤ max_pull },
 }
 
+// It is written out, so that a caller does not prove again how each part is dropped.
+impl Drop for Cursor {
+    fn drop(self) {
+        let Cursor {
+            walker: _walker,
+            remote: _remote,
+            versions: _versions,
+            bytes: _bytes,
+            conflicts: _conflicts,
+            pending: _pending,
+            unsent: _unsent,
+        } = self;
+    }
+}
+
 impl Cursor {
-    /// The operations that were pulled. All else is let go.
+    /// Whether an operation is left. No more are left than were not sent.
+    pub fn has_left(&self) -> bool
+        ensures some { result ≡ true → ¬ (joined (groups_in self.now.walker.left.items) ≡ []) }
+        ensures more { result ≡ true → 1 ≤ self.now.unsent }
+        ensures none { result ≡ false → (self.now.unsent ≡ 0) ⊎ (joined (groups_in self.now.walker.left.items) ≡ []) }
+    {
+        self.unsent > 0 && hold_any(&self.walker.left)
+    }
+
+    /// The version at which it is.
+    pub fn at(&self) -> Uuid
+        ensures { result ≡ self.now.walker.at }
+    {
+        self.walker.at
+    }
+
+    /// The operations of the versions on the way. All else is let go.
     pub fn into_remote(self) -> Vec<SyncOp>
         ensures { result.items ≡ self.remote.items }
     {
-        self.remote
+        let Cursor {
+            walker: _walker,
+            remote,
+            versions: _versions,
+            bytes: _bytes,
+            conflicts: _conflicts,
+            pending: _pending,
+            unsent: _unsent,
+        } = self;
+        remote
     }
+}
+
+// Whether groups hold an operation.
+fn hold_any(groups: &Vec<Vec<SyncOp>>) -> bool
+    ensures some { result ≡ true → ¬ (joined (groups_in groups.now.items) ≡ []) }
+    ensures none { result ≡ false → joined (groups_in groups.now.items) ≡ [] }
+{
+    let mut at = 0;
+    while at < groups.len() {
+        if !groups[at].is_empty() {
+            return true;
+        }
+        at += 1;
+    }
+    false
 }

@@ -10,11 +10,12 @@ ghost use Rattle.tw_replica.specs.Core.{state_of};
 ghost use Rattle.tw_replica.specs.Replica.{IsLengthKept};
 ghost use Rattle.tw_sync.specs.Heard.{HearsThat};
 ghost use Rattle.tw_sync.specs.Answers.{IsLinkKept};
-ghost use Rattle.tw_sync.specs.Refused.{SyncRefused, MayAdd};
+ghost use Rattle.tw_sync.specs.Refused.{SyncRefused};
+ghost use Rattle.tw_sync.specs.Way.{WentUntil};
 ghost use Rattle.tw_sync.specs.Sync.{HeardEnd};
 ghost use Rattle.tw_sync.specs.Honest.{CanSync, IsWant};
 ghost use Rattle.tw_sync.specs.Progress.{Meets, StopsPulling};
-ghost use Rattle.tw_sync.specs.Contract.{EndsOn, KeepsAgreement, AddsOneAtMost, SendsLaterAlone, RefusedTruly, LeavesOneEnd, LeavesRecords};
+ghost use Rattle.tw_sync.specs.Contract.{EndsOn, EndsUnwritten, KeepsAgreement, SendsLaterAlone, SendsNothingAgain, RefusedTruly, LeavesOneEnd, LeavesRecords};
 ghost use Rattle.tw_sync.specs.Contract.{HearsItsRefusal, HearsItsNumber, AsksFew, AnyEnd, DoneEnd, RefusedEnd};
 ghost use Rattle.tw_sync.specs.Moved.{moved_state, LeavesMove, IsMovedTo, IsNotMoved};
 ghost use Rattle.tw_sync.specs.declared.error.SyncError.TheVariants as errors;
@@ -27,15 +28,17 @@ use crate::report::SyncReport;
 use std::alloc::Global;
 use tw_http::Link;
 use tw_journal::AppendError;
+use tw_model::Tasks;
 use tw_replica::{RecordError, Replica};
 use tw_world::Disk;
 use uuid::Uuid;
 
 /// Pulls the versions that a server has after the replica's base, and sends what is left of what is pending.
 ///
-/// It asks until the server knows no further version and what is left is added, or nothing is left. A version of
-/// another client that came in between is pulled first, at most fifteen times. Then one record is written, unless
-/// the base has stayed. After a refusal the replica is unchanged, but closed if its disk failed.
+/// It asks until the server knows no further version and what is left is added, or nothing is left. What is left goes
+/// in versions of at most 1,048,576 bytes, or of one operation. A version of another client that came in between is
+/// pulled first, at most fifteen times. Then one record is written, unless the base has stayed. After a refusal the
+/// replica is unchanged, but closed if its disk failed.
 pub fn sync<D: Disk, L: Link>(
     alloc: Global,
     replica: &mut Replica,
@@ -47,14 +50,15 @@ pub fn sync<D: Disk, L: Link>(
     requires host { IsHost host.now }
     requires length { IsLengthKept D.model replica.old disk.old }
     ensures ended { IfOk result (EndsOn L.model client replica.old replica.new link.old link.new) }
+    ensures unwritten { IfErr result (λ e. EndsUnwritten L.model client replica.old replica.new link.old link.new) }
     ensures agrees { KeepsAgreement L.model client replica.old replica.new link.old link.new }
-    ensures added { IfErr result (λ e. AddsOneAtMost L.model client replica.old link.old link.new) }
-    ensures added_only { IfErr result (λ e. IsHonest L.model link.old client → MayAdd e ⊎ (L.model.own link.new ≡ L.model.own link.old)) }
+    ensures way { IfErr result (WentUntil L.model client host.now (state_of replica.old.core) link.old link.new) }
 
     ensures grows { IsHonest L.model link.old client → Grows (L.model.chain link.old) (L.model.chain link.new) }
 
     // What a refused sync sent is not sent again.
     ensures cancels { IfOk result (SendsLaterAlone L.model client replica.old link.old link.new) }
+    ensures cancels_too { IfErr result (λ e. SendsNothingAgain L.model client replica.old link.old link.new) }
 
     ensures closed { is_closed replica.old.journal ≡ true → result ≡ Err (errors.Journal journal.Closed) }
     ensures refused { IfErr result (SyncRefused D.model L.model replica.old replica.new disk.old disk.new link.old link.new) }
@@ -97,39 +101,34 @@ fn meet_and_move<D: Disk, L: Link>(
     ensures kept { FaultsRise D.model disk.old disk.new }
 {
     let mut cursor = Cursor::start(alloc, replica)?;
-    let pending = cursor.left.len() as u64;
-    let pushed = meet(alloc, link, client, host, &mut cursor)?;
-    let report = SyncReport {
-        pulled: cursor.versions,
-        dropped: pending - pushed,
-        pushed,
-        base: cursor.at,
-    };
+    meet(alloc, link, client, host, replica.tasks(), &mut cursor)?;
+    let report = cursor.report();
     stand_at(alloc, replica, disk, cursor)?;
     Ok(report)
 }
 
-// Pulls, and sends what is left, until it was added or nothing is left. It answers how many operations were sent.
+// Pulls, and sends what is left, until nothing is left.
 fn meet<L: Link>(
     alloc: Global,
     link: &mut L,
     client: Uuid,
     host: &str,
+    hand: &Tasks,
     cursor: &mut Cursor,
-) -> Result<u64, SyncError>
+) -> Result<(), SyncError>
     requires host { IsHost host.now }
     requires fresh { cursor.old.conflicts ≡ 0 }
-    ensures met { IfOk result (Meets L.model client host.now link.old cursor.old link.new cursor.new) }
-    ensures stopped { IfErr result (StopsPulling L.model client host.now link.old cursor.old link.new) }
+    ensures met { OnOk result (Meets L.model client host.now hand.now link.old cursor.old link.new cursor.new) }
+    ensures stopped { IfErr result (StopsPulling L.model client host.now hand.now link.old cursor.old link.new) }
 {
-    pull(alloc, link, client, host, cursor)?;
-    while !cursor.left.is_empty() {
+    pull(alloc, link, client, host, hand, cursor)?;
+    while cursor.has_left() {
         match push(alloc, link, client, host, cursor)? {
-            Sent::Added { operations } => return Ok(operations),
-            Sent::Late { latest } => pull_late(alloc, link, client, host, cursor, latest)?,
+            Sent::Added => {}
+            Sent::Late { latest } => pull_late(alloc, link, client, host, hand, cursor, latest)?,
         }
     }
-    Ok(0)
+    Ok(())
 }
 
 // Moves the replica to a cursor by one record, unless its base is there.
@@ -147,10 +146,10 @@ fn stand_at<D: Disk>(
     ensures refused { IfErr result (IsNotMoved D.model replica.old replica.new disk.old disk.new cursor) }
     ensures kept { FaultsRise D.model disk.old disk.new }
 {
-    if cursor.at == replica.base() {
+    let base = cursor.at();
+    if base == replica.base() {
         return Ok(());
     }
-    let base = cursor.at;
     let remote = cursor.into_remote();
     replica.finish_sync(alloc, disk, base, remote)
 }

@@ -1,7 +1,7 @@
 //! Laws of chains, positions and ends of a sync. Each function does nothing: its contract is the law.
 ghost use Rattle.tw_sync.specs.Laws.{NewReplicaAgrees, AgreesIsKept, FoldIsOne, PendingActsOnTheFold, AgreeingReplicasAreEqual};
-ghost use Rattle.tw_sync.specs.Laws.{AddedVersionCancels, PushedIsAdded, CutOffIsAdded, SyncEndAgrees};
-ghost use Rattle.tw_sync.specs.LaterOps.{CommitFollows, UndoStaysBehind, AddedForFollowing};
+ghost use Rattle.tw_sync.specs.Laws.{AddedWasSent};
+ghost use Rattle.tw_sync.specs.LaterOps.{CommitFollows, UndoStaysBehind, SentForFollowing};
 ghost use Rattle.tw_sync.specs.World.{ReachedIsGood, ReachedFollows};
 ghost use Rattle.tw_sync.specs.Positions.{ChainStarts, ChainPulls, ChainFits, ChainPushes, OwnVersionsCancelAt, OwnVersionCancelsIn, OwnVersionsCancelEachTime};
 ghost use Rattle.tw_sync.specs.LocalSteps.{CommitAgrees, UndoAgrees};
@@ -68,20 +68,10 @@ pub fn own_versions_cancel_each_time()
     ensures { OwnVersionsCancelEachTime }
 {}
 
-/// Once the version that a refused sync added is pulled, of what was pending then nothing is left, and of
-/// later operations what is not overruled.
-pub fn added_version_cancels()
-    ensures { AddedVersionCancels }
-{}
-
-/// What a sync that ends has added is what a refused one may have added.
-pub fn what_a_sync_sent_is_added()
-    ensures { PushedIsAdded }
-{}
-
-/// A sync that is cut off between its add-version and its record has added what was left of all that is pending.
-pub fn a_cut_off_sync_was_added()
-    ensures { CutOffIsAdded }
+/// Each version that a sync added, whatever it answered, is one that was sent: of what was pending when it began, its
+/// first operations up to the last that the version holds. Once it is pulled, nothing of them is left.
+pub fn what_was_added_was_sent()
+    ensures { AddedWasSent }
 {}
 
 /// A commit of a group leaves a replica in agreement with the chains that it agreed with.
@@ -94,11 +84,6 @@ pub fn undo_agrees()
     ensures { UndoAgrees }
 {}
 
-/// A sync of a replica that agrees with the chain ends in one that agrees with it.
-pub fn sync_end_agrees()
-    ensures { SyncEndAgrees }
-{}
-
 /// A commit puts its operations after what was pending and what came later.
 pub fn a_commit_follows()
     ensures { CommitFollows }
@@ -109,10 +94,9 @@ pub fn an_undo_stays_behind()
     ensures { UndoStaysBehind }
 {}
 
-/// The version that a refused sync added is one that a later sync takes for added, after any commits, and undos that do
-/// not reach into what was pending then.
-pub fn what_was_added_stays_added()
-    ensures { AddedForFollowing }
+/// What was sent up to a version stays so, after any commits, and undos that do not reach into what was pending then.
+pub fn what_was_sent_stays_sent()
+    ensures { SentForFollowing }
 {}
 
 /// In every world that any runs, crashes, lost and repeated requests and other clients lead to from empty disks,

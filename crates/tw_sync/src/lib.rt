@@ -1,13 +1,12 @@
-//! A sync of a replica with a server's chain: versions are pulled, what is left of the pending operations is sent, and one record is written.
+//! A sync of a replica with a server's chain: versions are pulled, what is left of the pending operations is sent in batches, and one record is written.
 //! It promises where a sync ends and what each refusal leaves, that agreement with the chain is kept, and that what was sent and comes back cancels.
-//! It stands on `tw_replica` and `tw_transform` for the replica's side, and on `tw_protocol`, `tw_segment` and `tw_http` for the chain's.
+//! It stands on `tw_replica`, `tw_path` and `tw_outcome` for the replica's side, and on `tw_protocol`, `tw_segment` and `tw_http` for the chain's.
 #![tactic(auto)]
 
 mod ask;
 mod cursor;
 mod engine;
 mod error;
-mod exchanged;
 pub mod laws;
 mod pulling;
 mod pushing;
@@ -15,5 +14,4 @@ mod report;
 
 pub use engine::sync;
 pub use error::{ReplyKind, SyncError};
-pub use exchanged::sync_ops;
 pub use report::SyncReport;

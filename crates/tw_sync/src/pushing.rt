@@ -2,8 +2,13 @@
 ghost use Rattle.std.specs.Prelude.{◌≡◌, ◌≤◌, [], length, IfOk, IfErr};
 ghost use Rattle.tw_http.specs.Messages.{IsHost};
 ghost use Rattle.tw_segment.specs.Segment.{max_len, segment_text, IsSegment};
+ghost use Rattle.tw_groups.specs.Groups.{joined};
+ghost use Rattle.tw_groups.specs.Held.{groups_in};
+ghost use Rattle.tw_groups.specs.Cut.{first};
+ghost use Rattle.tw_path.specs.Path.{is_batch};
+ghost use Rattle.tw_path.specs.Batch.{IsFirstBatch};
 ghost use Rattle.tw_sync.specs.Progress.{StopsSending};
-ghost use Rattle.tw_sync.specs.Sending.{IsUnsent, SendsLeft, CountsConflict};
+ghost use Rattle.tw_sync.specs.Sending.{IsUnsent, SendsLeft, CountsSent};
 
 use crate::ask::{AddAnswer, ask_add};
 use crate::cursor::Cursor;
@@ -11,19 +16,20 @@ use crate::error::{SendError, SyncError};
 use std::alloc::Global;
 use tw_http::Link;
 use tw_model::SyncOp;
+use tw_path::{Batch, first_batch};
 use tw_segment::{SegmentError, write_segment};
 use uuid::Uuid;
 
-/// What became of what was left.
+/// What became of what was sent.
 #[derive(Clone, Copy, Drop)]
 pub(crate) enum Sent {
-    /// It is in the chain: so many operations.
-    Added { operations: u64 },
+    /// It is in the chain.
+    Added,
     /// It came too late: the server's latest version is another.
     Late { latest: Uuid },
 }
 
-/// Sends what is left, as the version after the cursor. If it was added the cursor goes on to it.
+/// Sends what is first of what is left, as the version after the cursor. If it was added the cursor goes on to it.
 pub(crate) fn push<L: Link>(
     alloc: Global,
     link: &mut L,
@@ -32,19 +38,20 @@ pub(crate) fn push<L: Link>(
     cursor: &mut Cursor,
 ) -> Result<Sent, SyncError>
     requires host { IsHost host.now }
-    requires some { ¬ (cursor.old.left.items ≡ []) }
+    requires some { ¬ (joined (groups_in cursor.old.walker.left.items) ≡ []) }
     requires tries { cursor.old.conflicts ≤ 15 }
     ensures pushed { IfOk result (SendsLeft L.model client host.now link.old cursor.old link.new cursor.new) }
-    ensures conflicts { IfOk result (λ sent. CountsConflict sent cursor.old cursor.new) }
+    ensures counted { IfOk result (λ sent. CountsSent sent cursor.old cursor.new) }
     ensures stopped { IfErr result (StopsSending L.model client host.now link.old cursor.old link.new) }
 {
-    let segment = text_to_send(alloc, &cursor.left)?;
-    match ask_add(alloc, link, client, host, cursor.at, segment)? {
-        AddAnswer::Added { id } => {
-            let operations = cursor.left.len() as u64;
-            cursor.remote.append(&mut cursor.left)?;
-            cursor.at = id;
-            Ok(Sent::Added { operations })
+    let Letter { batch, ops, text } = write_letter(alloc, &cursor.walker.left)?;
+    match ask_add(alloc, link, client, host, cursor.walker.at, text)? {
+        AddAnswer::Added {
+            id,
+            wanted: _wanted,
+        } => {
+            cursor.add(alloc, id, ops, batch)?;
+            Ok(Sent::Added)
         }
         AddAnswer::Conflict { latest } => {
             cursor.conflicts += 1;
@@ -53,13 +60,40 @@ pub(crate) fn push<L: Link>(
     }
 }
 
-fn text_to_send(alloc: Global, left: &Vec<SyncOp>) -> Result<Vec<u8>, SendError>
-    ensures text { IfOk result (λ v. v.items ≡ segment_text left.now.items) }
-    ensures within { IfOk result (λ v. length v.items ≤ max_len) }
-    ensures reads_back { IfOk result (λ v. IsSegment v.items left.now.items) }
-    ensures refused { IfErr result (IsUnsent left.now.items) }
+// What is sent: the operations of a batch, and their text.
+#[derive(Drop)]
+struct Letter {
+    batch: Batch,
+    ops: Vec<SyncOp>,
+    text: Vec<u8>,
+}
+
+// What is sent first of what is left.
+fn write_letter(alloc: Global, left: &Vec<Vec<SyncOp>>) -> Result<Letter, SendError>
+    ensures batch { IfOk result (λ letter. IsFirstBatch letter.batch left.now.items) }
+    ensures ops { IfOk result (λ letter. letter.ops.items ≡ first is_batch (groups_in left.now.items)) }
+    ensures text { IfOk result (λ letter. letter.text.items ≡ segment_text letter.ops.items) }
+    ensures within { IfOk result (λ letter. length letter.text.items ≤ max_len) }
+    ensures reads_back { IfOk result (λ letter. IsSegment letter.text.items letter.ops.items) }
+    ensures refused { IfErr result (IsUnsent (first is_batch (groups_in left.now.items))) }
 {
-    match write_segment(alloc, left) {
+    let Ok(batch) = first_batch(alloc, left) else {
+        return Err(SendError::Memory);
+    };
+    let Ok(ops) = batch.sent(alloc, left) else {
+        return Err(SendError::Memory);
+    };
+    let text = text_to_send(alloc, &ops)?;
+    Ok(Letter { batch, ops, text })
+}
+
+fn text_to_send(alloc: Global, ops: &Vec<SyncOp>) -> Result<Vec<u8>, SendError>
+    ensures text { IfOk result (λ v. v.items ≡ segment_text ops.now.items) }
+    ensures within { IfOk result (λ v. length v.items ≤ max_len) }
+    ensures reads_back { IfOk result (λ v. IsSegment v.items ops.now.items) }
+    ensures refused { IfErr result (IsUnsent ops.now.items) }
+{
+    match write_segment(alloc, ops) {
         Ok(text) => Ok(text),
         Err(SegmentError::TooLong { bytes }) => Err(SendError::TooLong { bytes }),
         Err(_) => Err(SendError::Memory),

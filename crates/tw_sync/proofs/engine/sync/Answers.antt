@@ -1,5 +1,8 @@
 use Rattle.tw_sync.proofs.Results.{if_ok, if_err}
+use Rattle.tw_journal.specs.declared.error.AppendError.TheVariants as journal
+use Rattle.tw_sync.specs.declared.error.SyncError.TheVariants as errors
 use Rattle.tw_sync.proofs.Served.{grows_same}
+use Rattle.tw_sync.proofs.SyncEnds.{unasked_ended, unasked_way, unasked_cancels}
 use Rattle.tw_sync.proofs.engine.sync.Goals as goal
 
 -- ---- whatever becomes of it
@@ -38,11 +41,14 @@ returns-clause-exchanges g c = if_ok c.meet_and_move.result c.meet_and_move.ensu
 
 -- ---- it is refused
 
-pub returns-clause-added : goal.returns-clause-added
-returns-clause-added g c = if_err c.meet_and_move.result c.meet_and_move.ensures.refused (λ e end. end.added)
+pub returns-clause-unwritten : goal.returns-clause-unwritten
+returns-clause-unwritten g c = if_err c.meet_and_move.result c.meet_and_move.ensures.refused (λ e end. end.ended)
 
-pub returns-clause-added_only : goal.returns-clause-added_only
-returns-clause-added_only g c = if_err c.meet_and_move.result c.meet_and_move.ensures.refused (λ e end. end.added_only)
+pub returns-clause-way : goal.returns-clause-way
+returns-clause-way g c = if_err c.meet_and_move.result c.meet_and_move.ensures.refused (λ e end. end.way)
+
+pub returns-clause-cancels_too : goal.returns-clause-cancels_too
+returns-clause-cancels_too g c = if_err c.meet_and_move.result c.meet_and_move.ensures.refused (λ e end. end.cancels)
 
 pub returns-clause-refused : goal.returns-clause-refused
 returns-clause-refused g c = if_err c.meet_and_move.result c.meet_and_move.ensures.refused (λ e end. end.refused)
@@ -58,3 +64,14 @@ returns-clause-refused_heard g c = if_err c.meet_and_move.result c.meet_and_move
 
 pub returns-clause-measured : goal.returns-clause-measured
 returns-clause-measured g c = if_err c.meet_and_move.result c.meet_and_move.ensures.refused (λ e end. end.measured)
+
+-- ---- the replica is closed
+
+pub returns-then-is_closed-clause-unwritten : goal.returns-then-is_closed-clause-unwritten
+returns-then-is_closed-clause-unwritten g c = unasked_ended g.D.Disk.model g.L.Link.model c.args.client c.args.host.now c.args.replica.now c.args.disk.now c.args.link.now (g.met.L.Link.tells_chain c.args.link.now)
+
+pub returns-then-is_closed-clause-way : goal.returns-then-is_closed-clause-way
+returns-then-is_closed-clause-way g c = unasked_way g.D.Disk.model g.L.Link.model c.args.client c.args.host.now c.args.replica.now c.args.disk.now c.args.link.now (g.met.L.Link.tells_chain c.args.link.now) (errors.Journal journal.Closed)
+
+pub returns-then-is_closed-clause-cancels_too : goal.returns-then-is_closed-clause-cancels_too
+returns-then-is_closed-clause-cancels_too g c = unasked_cancels g.D.Disk.model g.L.Link.model c.args.client c.args.host.now c.args.replica.now c.args.disk.now c.args.link.now (g.met.L.Link.tells_chain c.args.link.now)

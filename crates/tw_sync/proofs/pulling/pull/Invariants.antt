@@ -6,8 +6,9 @@ use Rattle.tw_sync.proofs.pulling.pull.Given as goal
 
 abbrev pub invariant-loop : goal.invariant-loop
 invariant-loop g l = record {
-  pulls : (state : State) (first : g.row.L.Denot) → IsPulling g.L.Link.model l.fn.client l.fn.host state first l.fn.link l.fn.cursor → IsPulling g.L.Link.model l.fn.client l.fn.host state first l.link l.cursor;
+  pulls : (state : State) (first : g.row.L.Denot) → state.tasks ≡ l.fn.hand → IsPulling g.L.Link.model l.fn.client l.fn.host state first l.fn.link l.fn.cursor → IsPulling g.L.Link.model l.fn.client l.fn.host state first l.link l.cursor;
   conflicts : l.cursor.conflicts ≡ l.fn.cursor.conflicts;
+  unsent : l.cursor.unsent ≡ l.fn.cursor.unsent;
 }
 
 abbrev pub decreases-loop : goal.decreases-loop

@@ -1,25 +1,29 @@
-use Rattle.std.proofs.Common.{◌≡◌, ◌∙◌, List, ap, sym, subst, rules}
-use Rattle.tw_model.specs.LocalOps.{plain, take_back_all}
+use Rattle.std.proofs.Common.{◌≡◌, ◌∙◌, List, ℕ, length, ap, subst, rules, refl, arith}
+use Rattle.tw_model.specs.Ops.{TasksValue}
+use Rattle.tw_model.specs.LocalOps.{plain}
 use Rattle.tw_model.specs.declared.Op.{Op}
 use Rattle.tw_replica.specs.Replica.{held_state}
-use Rattle.tw_sync.specs.Alike.{SameFor}
-use Rattle.tw_sync.proofs.Alike.{take_back_all_same}
+use Rattle.tw_path.specs.Walk.{StandsAt, before_pending}
 use Rattle.tw_sync.proofs.cursor.Cursor.start.Goals as goal
 
 pub returns : goal.returns
 returns c =
-    let left = c.in_ok-left.left.items in
-    let pending = c.in_ok-pending.pending.items in
-    let kept : pending ≡ (held_state c.args.replica.now).pending = c.in_ok-pending.ensures ∙ c.pending.ensures in
-    let part = c.in_ok-tasks.tasks in
-    let same : SameFor c.in_ok-left.left.items c.in_ok-tasks.tasks c.args.replica.now.core.tasks = subst (SameFor c.in_ok-left.left.items c.in_ok-tasks.tasks) c.tasks.ensures c.in_ok-tasks.ensures in
-    let made : c.take_back.new.tasks ≡ take_back_all c.in_ok-tasks.tasks c.in_ok-pending.pending.items = search rules in
+    let state = held_state c.args.replica.now in
+    let ops = c.in_ok-ops.ops.items in
+    let kept : c.in_ok-ops.ops.items ≡ (held_state c.args.replica.now).pending = c.in_ok-ops.ensures ∙ c.pending.ensures in
+    let walker = c.in_ok-walker.walker in
+    let one = subst (λ (t : TasksValue). StandsAt t (before_pending c.base.result t ops) walker) c.tasks.ensures c.in_ok-walker.ensures in
+    let two = subst (λ (b : List ℕ). StandsAt state.tasks (before_pending b state.tasks ops) walker) c.base.ensures one in
+    let count = c.count_exchanged-pending.ensures ∙ ap (λ (p : List Op). length (plain p)) kept in
     record {
-      at = search rules;
-      left = c.in_ok-left.ensures ∙ ap plain kept;
-      tasks = subst (λ (p : List Op). SameFor left c.take_back.new.tasks (take_back_all c.args.replica.now.core.tasks p)) kept (subst (λ t. SameFor left t (take_back_all c.args.replica.now.core.tasks pending)) (sym made) (take_back_all_same pending left part c.args.replica.now.core.tasks same));
-      remote = search rules;
-      versions = search rules;
-      bytes = search rules;
-      conflicts = search rules;
+      on_path = record {
+        path = tt;
+        stands = subst (λ (p : List Op). StandsAt state.tasks (before_pending state.base state.tasks p) walker) kept two;
+        remote = search rules;
+        versions = refl;
+        bytes = refl;
+        pending = count;
+        unsent = (let n = count in omega (arith, n));
+      };
+      conflicts = refl;
     }

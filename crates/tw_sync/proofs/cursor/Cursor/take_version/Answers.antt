@@ -1,5 +1,5 @@
 use Rattle.std.proofs.Common.{◌≤◌, length, arith}
-use Rattle.tw_sync.proofs.Reading.{segment_some}
+use Rattle.tw_path.proofs.Reading.{segment_some}
 use Rattle.tw_sync.proofs.cursor.Cursor.take_version.Goals as goal
 
 pub invariant_of-self-2-clause-few : goal.invariant_of-self-2-clause-few
