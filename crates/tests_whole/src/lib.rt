@@ -10,6 +10,8 @@ mod damage;
 #[cfg(test)]
 mod hooks;
 #[cfg(test)]
+mod hours;
+#[cfg(test)]
 mod imports;
 #[cfg(test)]
 mod instances;

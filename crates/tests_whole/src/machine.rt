@@ -8,7 +8,7 @@ use tw_replica::Replica;
 use tw_server::{Fate, LinkStep, MemoryLink};
 use tw_spawn::MemorySpawner;
 use tw_time::Zone;
-use tw_world::{FailingDisk, IdWords, MemoryDisk, MemorySink, MemorySource, Moment};
+use tw_world::{Disk, FailingDisk, Folder, IdWords, MemoryDisk, MemorySink, MemorySource, Moment};
 use uuid::Uuid;
 
 const CLIENT: [u8; 16] = [
@@ -210,14 +210,16 @@ impl Streams {
     }
 }
 
-/// Runs a line of words that are parted by bars, over an output whose calls with these numbers fail.
-pub fn run_given(
+/// Runs a line of words that are parted by bars, over an output whose calls with these numbers fail, and a folder and a journal of hours.
+pub fn run_over<F: Folder, J: Disk>(
     alloc: Global,
     given: &Given<'_>,
     line: &str,
     disk: &mut MemoryDisk,
     link: &mut MemoryLink,
     out_fails: &[u64],
+    months: &mut F,
+    track: &mut J,
 ) -> Result<Ended, Fail> {
     let now = moment(given.second)?;
     let words = words_of(alloc, line)?;
@@ -228,8 +230,6 @@ pub fn run_given(
         step: 1,
     };
     let mut hooks = hooks_of(alloc, given)?;
-    let mut months = FailingFolder::new();
-    let mut hours = FailingDisk::new();
     let outcome = task_run(
         alloc,
         &words,
@@ -243,10 +243,33 @@ pub fn run_given(
         &mut streams.out,
         &mut streams.err,
         &mut hooks,
-        &mut months,
-        &mut hours,
+        months,
+        track,
     );
     Ok(streams.ended(outcome))
+}
+
+/// The same over hours whose every call fails.
+pub fn run_given(
+    alloc: Global,
+    given: &Given<'_>,
+    line: &str,
+    disk: &mut MemoryDisk,
+    link: &mut MemoryLink,
+    out_fails: &[u64],
+) -> Result<Ended, Fail> {
+    let mut months = FailingFolder::new();
+    let mut track = FailingDisk::new();
+    run_over(
+        alloc,
+        given,
+        line,
+        disk,
+        link,
+        out_fails,
+        &mut months,
+        &mut track,
+    )
 }
 
 /// The same over a link and an output that do not fail.

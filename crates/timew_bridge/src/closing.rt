@@ -1,14 +1,13 @@
 // Intervals that end because of tasks.
 ghost use Rattle.std.specs.Prelude.{◌≡◌, ◌++◌, IfOk, OnOk};
 ghost use Rattle.std.specs.List.{flat_map};
-ghost use Rattle.std.specs.Option.{option_copied};
-ghost use Rattle.timew_bridge.specs.Track.{ended, ended_if, let_go_at, let_go_from, let_go, released, given_way};
+ghost use Rattle.timew_bridge.specs.Track.{ended, ended_if, let_go_at, given_way};
+ghost use Rattle.timew_bridge.specs.Known.{known_lets_go, known_end, released_known};
 
+use crate::known::{Known, find_known};
 use crate::named::uuid_in;
 use std::alloc::Global;
 use timew_store::Interval;
-use tw_model::{TaskMap, Tasks};
-use tw_urgency::moment_at;
 use tw_world::Memory;
 use uuid::Uuid;
 
@@ -46,57 +45,55 @@ fn let_go_at(start: u64, now: u64, modified: Option<u64>) -> u64
 }
 
 // When an interval ends whose task was not started or is not there.
-fn let_go_from(start: u64, now: u64, task: Option<&TaskMap>) -> Option<u64>
-    ensures { result ≡ let_go_from start now (option_copied task.entry) }
+fn lets_go(start: u64, now: u64, known: Option<Known>) -> Option<u64>
+    ensures { result ≡ known_lets_go start now known }
 {
-    let Some(task) = task else {
-        return Some(now);
-    };
-    if moment_at(task, "start").is_some() {
-        return None;
+    match known {
+        Some(task) if task.is_started => None,
+        Some(task) => Some(let_go_at(start, now, task.modified)),
+        None => Some(now),
     }
-    Some(let_go_at(start, now, moment_at(task, "modified")))
 }
 
-fn let_go(tasks: &Tasks, now: u64, start: u64, uuid: Option<Uuid>) -> Option<u64>
-    ensures { result ≡ let_go tasks.now now start uuid }
+fn known_end(known: &[Known], now: u64, start: u64, uuid: Option<Uuid>) -> Option<u64>
+    ensures { result ≡ known_end known.now now start uuid }
 {
     match uuid {
-        Some(uuid) => let_go_from(start, now, tasks.get(uuid)),
+        Some(uuid) => lets_go(start, now, find_known(known, uuid)),
         None => None,
     }
 }
 
 fn push_released(
     out: &mut Vec<Interval>,
-    tasks: &Tasks,
+    known: &[Known],
     now: u64,
     row: Interval,
 ) -> Result<(), Memory>
-    ensures { OnOk result (out.new.items ≡ out.old.items ++ released tasks.now now row) }
+    ensures { OnOk result (out.new.items ≡ out.old.items ++ released_known known.now now row) }
 {
     match row.end {
         Some(_) => out.push(row)?,
         None => {
-            let end = let_go(tasks, now, row.start, uuid_in(row.annotation.as_str()));
+            let end = known_end(known, now, row.start, uuid_in(row.annotation.as_str()));
             push_ended_if(out, end, row)?;
         }
     }
     Ok(())
 }
 
-/// The rows, with an open one ended if its task is active no more.
+/// The rows, with an open one ended if its task is known to be active no more.
 pub fn all_released(
     alloc: Global,
-    tasks: &Tasks,
+    known: &[Known],
     now: u64,
     rows: Vec<Interval>,
 ) -> Result<Vec<Interval>, Memory>
-    ensures { IfOk result (λ out. out.items ≡ flat_map (released tasks.now now) rows.items) }
+    ensures { IfOk result (λ out. out.items ≡ flat_map (released_known known.now now) rows.items) }
 {
     let mut out = Vec::with_capacity(alloc, rows.len().saturating_add(1))?;
     for row in rows {
-        push_released(&mut out, tasks, now, row)?;
+        push_released(&mut out, known, now, row)?;
     }
     Ok(out)
 }

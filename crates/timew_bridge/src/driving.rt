@@ -1,19 +1,23 @@
 // The intervals after tasks have driven them.
 ghost use Rattle.std.specs.Prelude.{◌≡◌, ◌≤◌, ◌<◌, ◌+◌, ◌++◌, ◌∷◌, [], length, take, IfOk, Some};
+ghost use Rattle.std.specs.FinMap.{get};
 ghost use Rattle.std.specs.List.{AllByRecursion};
 ghost use Rattle.tw_world.specs.declared.moment.TheConstants.{MOMENT_LIMIT};
 ghost use Rattle.timew_store.specs.Edit.{edited};
 ghost use Rattle.timew_store.specs.Interval.{AreRows};
 ghost use Rattle.timew_bridge.specs.Tail.{IsClosed, IsTailOf};
-ghost use Rattle.timew_bridge.specs.Track.{is_tracked, opened, followed, tracked};
+ghost use Rattle.timew_bridge.specs.Label.{label_of};
+ghost use Rattle.timew_bridge.specs.Track.{is_tracked, followed, tracked};
+ghost use Rattle.timew_bridge.specs.Known.{AreDrivers, opened_with};
+ghost use Rattle.tw_model.specs.Ops.{TasksValue};
 ghost use Rattle.uuid.specs.Text.{hyphenated_text, lower};
 
-use crate::active::{Active, latest};
+use crate::active::Active;
 use crate::closing::{all_given_way, all_released};
+use crate::drivers::Drivers;
 use crate::free::{free_from, is_tracked};
-use crate::label::label_of;
 use std::alloc::Global;
-use timew_store::{Edit, Interval, Intervals};
+use timew_store::{Edit, Interval, Intervals, Texts};
 use tw_model::Tasks;
 use tw_world::{Memory, Moment, Text};
 use uuid::Uuid;
@@ -40,14 +44,14 @@ fn copy_rows(alloc: Global, rows: &[Interval], more: usize) -> Result<Vec<Interv
     Ok(copies)
 }
 
-// The open interval of a task.
-fn opened(alloc: Global, tasks: &Tasks, from: u64, active: Active) -> Result<Interval, Memory>
-    ensures { IfOk result (λ r. r ≡ opened tasks.now from active) }
+// The open interval of a task with this label.
+fn opened(alloc: Global, label: &Texts, from: u64, active: Active) -> Result<Interval, Memory>
+    ensures { IfOk result (λ r. r ≡ opened_with label.now from active) }
 {
     Ok(Interval {
         start: from,
         end: None,
-        tags: label_of(alloc, tasks, active.uuid)?,
+        tags: label.copy(alloc)?,
         annotation: Text::from_str(
             alloc,
             active
@@ -70,14 +74,15 @@ fn is_followed(front: &[Interval], last: &[Interval], active: Active) -> bool
 // The rows after others, once the task that was started last has its interval.
 fn follow(
     alloc: Global,
-    tasks: &Tasks,
+    label: &Texts,
     active: Active,
     front: &[Interval],
     last: Vec<Interval>,
     now: u64,
 ) -> Result<Vec<Interval>, Memory>
     requires { AllByRecursion IsClosed front.now }
-    ensures { IfOk result (λ next. front.now ++ next.items ≡ followed tasks.now now (Some active) (front.now ++ last.items)) }
+    ensures { IfOk result (λ next. (tasks : TasksValue) → label.now ≡ label_of (get tasks active.uuid)
+        → front.now ++ next.items ≡ followed tasks now (Some active) (front.now ++ last.items)) }
 {
     if is_followed(front, &last, active) {
         return Ok(last);
@@ -85,7 +90,7 @@ fn follow(
     let mut last = all_given_way(alloc, active.start, now, last)?;
     let from = free_from(free_from(active.start, front), &last);
     if from <= now {
-        last.push(opened(alloc, tasks, from, active)?)?;
+        last.push(opened(alloc, label, from, active)?)?;
     }
     Ok(last)
 }
@@ -93,17 +98,18 @@ fn follow(
 // The rows after others, none of which is open, once tasks have driven them.
 fn drive(
     alloc: Global,
-    tasks: &Tasks,
+    drivers: &Drivers,
     front: &[Interval],
     last: Vec<Interval>,
     now: u64,
 ) -> Result<Vec<Interval>, Memory>
     requires { AllByRecursion IsClosed front.now }
-    ensures { IfOk result (λ next. front.now ++ next.items ≡ tracked tasks.now (front.now ++ last.items) now) }
+    ensures { IfOk result (λ next. (tasks : TasksValue) → AreDrivers tasks now drivers.now
+        → front.now ++ next.items ≡ tracked tasks (front.now ++ last.items) now) }
 {
-    let last = all_released(alloc, tasks, now, last)?;
-    match latest(tasks, now) {
-        Some(active) => Ok(follow(alloc, tasks, active, front, last, now)?),
+    let last = all_released(alloc, &drivers.known, now, last)?;
+    match drivers.active {
+        Some(active) => Ok(follow(alloc, &drivers.label, active, front, last, now)?),
         None => Ok(last),
     }
 }
@@ -140,13 +146,15 @@ pub fn tail_of(alloc: Global, rows: &Intervals) -> Result<Edit, Memory>
 /// A second use at the same moment changes nothing.
 pub fn track_tail(
     alloc: Global,
-    tasks: &Tasks,
+    drivers: &Drivers,
     rows: &Intervals,
     edit: Edit,
     now: Moment,
 ) -> Result<Edit, Memory>
-    requires { IsTailOf rows.now edit }
-    ensures tracked { IfOk result (λ e. edited e rows.now ≡ tracked tasks.now (edited edit rows.now) now.seconds) }
+    requires tail { IsTailOf rows.now edit }
+    requires known { (tasks : TasksValue) × AreDrivers tasks now.seconds drivers.now }
+    ensures tracked { IfOk result (λ e. (tasks : TasksValue) → AreDrivers tasks now.seconds drivers.now
+        → edited e rows.now ≡ tracked tasks (edited edit rows.now) now.seconds) }
     ensures tail { IfOk result (IsTailOf rows.now) }
 {
     let Edit {
@@ -155,7 +163,7 @@ pub fn track_tail(
         rows: last,
     } = edit;
     let (front, _) = rows.as_slice().split_at(at);
-    let rows = drive(alloc, tasks, front, last, now.seconds)?;
+    let rows = drive(alloc, drivers, front, last, now.seconds)?;
     Ok(Edit { at, count, rows })
 }
 
@@ -168,7 +176,8 @@ pub fn track(
 ) -> Result<Intervals, Memory>
     ensures { IfOk result (λ next. next ≡ tracked tasks.now rows.now now.seconds) }
 {
-    let edit = track_tail(alloc, tasks, rows, tail_of(alloc, rows)?, now)?;
+    let drivers = Drivers::of(alloc, tasks, now)?;
+    let edit = track_tail(alloc, &drivers, rows, tail_of(alloc, rows)?, now)?;
     let copies = copy_rows(alloc, rows.as_slice(), edit.rows.len())?;
     Intervals::from_rows(copies).edited(edit)
 }

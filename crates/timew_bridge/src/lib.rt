@@ -5,10 +5,13 @@
 
 mod active;
 mod closing;
+mod drivers;
 mod driving;
 mod free;
+mod known;
 mod label;
 pub mod laws;
 mod named;
 
+pub use drivers::Drivers;
 pub use driving::{tail_of, track, track_tail};

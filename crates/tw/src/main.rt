@@ -5,6 +5,7 @@
 
 mod disk;
 mod help;
+mod hours;
 mod link;
 mod print;
 mod server;

@@ -1,19 +1,20 @@
 // `tw task`.
 
-use crate::disk::disk_at;
+use crate::disk::{busy, disk_at};
+use crate::hours::{Hours, open_hours};
 use crate::link::TcpLink;
 use crate::settings::settings;
-use crate::start::{StartError, moment, seed, variable};
+use crate::start::{StartError, moment, seed};
 use crate::task_paths::{replica_path, task_folder};
 use crate::zone::zone;
 use std::alloc::Global;
 use std::fs::File;
-use tw_cli::{link_address, needs_store, task_run};
-use tw_files::{Busy, FailingFolder, FileDisk, ProcessSpawner, Stream, StreamSource};
+use tw_cli::{link_address, needs_hours, needs_store, task_run};
+use tw_files::{FailingFolder, FileDisk, ProcessSpawner, Stream, StreamSource};
 use tw_http::Link;
 use tw_spawn::Spawner;
 use tw_time::Zone;
-use tw_world::{Disk, FailingDisk, IdWords, Moment};
+use tw_world::{Disk, FailingDisk, Folder, IdWords, Moment};
 
 /// Does what the words after `task` ask for, and gives the program's status. Nothing is opened or made for bad words or
 /// settings, or for `_generate`; the zone is judged before. If the journal's file isn't opened, it works on a disk whose every call fails.
@@ -62,17 +63,13 @@ fn run_in(
     }
 }
 
-// The journal in a folder. A run that a hook starts does not wait for it: the run that started the hook holds it, and waits for the hook.
 fn store_in(
     rt: &HostRuntime,
     alloc: Global,
     folder: &str,
 ) -> Result<Option<FileDisk<File>>, StartError> {
     let path = replica_path(alloc, folder)?;
-    let busy = match variable(rt, "TW_HOOK")? {
-        Some(_) => Busy::Fail,
-        None => Busy::Wait,
-    };
+    let busy = busy(rt)?;
     disk_at(rt, path.as_str(), busy)
 }
 
@@ -90,13 +87,13 @@ fn run_over<D: Disk>(
 ) -> Result<u8, StartError> {
     let mut link = TcpLink::new(rt, link_address(alloc, words, settings)?);
     let mut hooks = ProcessSpawner::new(alloc, rt, folder)?;
-    Ok(run_beside(
+    over_hours(
         rt, alloc, words, settings, now, zone, ids, disk, &mut link, &mut hooks,
-    ))
+    )
 }
 
-// The same over the streams of the program.
-fn run_beside<D: Disk, L: Link, P: Spawner>(
+// The same over the hours, which are opened only for a command that drives them, after the tasks. If they can't be opened, each call of them fails.
+fn over_hours<D: Disk, L: Link, P: Spawner>(
     rt: &HostRuntime,
     alloc: Global,
     words: &Vec<String>,
@@ -107,27 +104,75 @@ fn run_beside<D: Disk, L: Link, P: Spawner>(
     disk: &mut D,
     link: &mut L,
     hooks: &mut P,
+) -> Result<u8, StartError> {
+    let opened = if needs_hours(alloc, words, settings, now, zone)? {
+        open_hours(rt, alloc)?
+    } else {
+        None
+    };
+    match opened {
+        Some(hours) => {
+            let Hours {
+                mut months,
+                mut track,
+            } = hours;
+            Ok(run_beside(
+                rt,
+                alloc,
+                words,
+                settings,
+                now,
+                zone,
+                ids,
+                disk,
+                link,
+                hooks,
+                &mut months,
+                &mut track,
+            ))
+        }
+        None => {
+            let mut months = FailingFolder::new();
+            let mut track = FailingDisk::new();
+            Ok(run_beside(
+                rt,
+                alloc,
+                words,
+                settings,
+                now,
+                zone,
+                ids,
+                disk,
+                link,
+                hooks,
+                &mut months,
+                &mut track,
+            ))
+        }
+    }
+}
+
+// The same over the streams of the program.
+fn run_beside<D: Disk, L: Link, P: Spawner, F: Folder, J: Disk>(
+    rt: &HostRuntime,
+    alloc: Global,
+    words: &Vec<String>,
+    settings: &Vec<u8>,
+    now: Moment,
+    zone: &Zone,
+    ids: &mut IdWords,
+    disk: &mut D,
+    link: &mut L,
+    hooks: &mut P,
+    months: &mut F,
+    track: &mut J,
 ) -> u8 {
     let mut input = StreamSource::new(rt.stdin());
     let mut out = Stream::new(rt.stdout());
     let mut err = Stream::new(rt.stderr());
-    let mut months = FailingFolder::new();
-    let mut hours = FailingDisk::new();
     let outcome = task_run(
-        alloc,
-        words,
-        settings,
-        now,
-        zone,
-        ids,
-        disk,
-        link,
-        &mut input,
-        &mut out,
-        &mut err,
-        hooks,
-        &mut months,
-        &mut hours,
+        alloc, words, settings, now, zone, ids, disk, link, &mut input, &mut out, &mut err, hooks,
+        months, track,
     );
     outcome.status
 }

@@ -1,14 +1,15 @@
 // `tw timew`.
 
-use crate::disk::disk_at;
-use crate::start::{StartError, moment, variable};
-use crate::timew_paths::{months_path, timew_folder, undo_path};
+use crate::disk::{busy, disk_at};
+use crate::hours::hours_folder;
+use crate::start::{StartError, moment};
+use crate::timew_paths::{months_path, undo_path};
 use crate::zone::zone;
 use std::alloc::Global;
 use std::io::ErrorKind;
 use timew_cli::timew_run;
 use timew_cmd::{WordsError, read_words};
-use tw_files::{Busy, FailingFolder, Stream, open_folder};
+use tw_files::{FailingFolder, Stream, open_folder};
 use tw_time::Zone;
 use tw_world::{Disk, FailingDisk, Folder, Moment};
 
@@ -17,11 +18,11 @@ use tw_world::{Disk, FailingDisk, Folder, Moment};
 pub fn run_timew(rt: &HostRuntime, alloc: Global, words: &Vec<String>) -> Result<u8, StartError> {
     let zone = zone(rt)?;
     let now = moment(rt)?;
-    let folder = folder_of(rt, alloc)?;
+    let folder = hours_folder(rt, alloc)?;
     let path = undo_path(alloc, folder.as_str())?;
     // The journal's file is locked before the folder of the months is looked at.
     let opened = if are_good(alloc, words, now, &zone)? {
-        disk_at(rt, path.as_str(), Busy::Wait)?
+        disk_at(rt, path.as_str(), busy(rt)?)?
     } else {
         None
     };
@@ -47,12 +48,6 @@ fn are_good(
         Err(WordsError::Memory) => Err(StartError::Memory),
         Err(WordsError::Bad(_)) => Ok(false),
     }
-}
-
-fn folder_of(rt: &HostRuntime, alloc: Global) -> Result<String, StartError> {
-    let named = variable(rt, "TIMEWARRIORDB")?;
-    let home = variable(rt, "HOME")?;
-    Ok(timew_folder(alloc, &named, &home)?)
 }
 
 // Carries the words out over the month files and a journal.

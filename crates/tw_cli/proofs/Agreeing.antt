@@ -12,13 +12,15 @@ use Rattle.tw_http.specs.Link.{LinkModel, IsHonest, IsChainOf, IsServedChain}
 use Rattle.tw_replica.specs.State.{State}
 use Rattle.tw_replica.specs.Replica.{magic, OpensTo, OpensToEither}
 use Rattle.tw_sync.specs.Answers.{IsLinkKept}
-use Rattle.tw_sync.specs.Fold.{Agrees}
+use Rattle.tw_outcome.specs.Agreement.{Agrees}
 use Rattle.tw_sync.specs.Sync.{server_chain, IsEndIn}
 use Rattle.tw_sync.specs.declared.report.SyncReport.{SyncReport}
 use Rattle.tw_sync.proofs.Folds.{agrees_is_kept}
 use Rattle.tw_replica.proofs.CommittedChanges.{changes_are_group}
 use Rattle.tw_sync.proofs.LocalSteps.{commit_agrees, undo_agrees}
-use Rattle.tw_sync.proofs.Ends.{sync_end_agrees}
+use Rattle.tw_outcome.specs.End.Answer.{Done as DoneSync}
+use Rattle.tw_outcome.proofs.Ends.{end_agrees as outcome_agrees}
+use Rattle.tw_sync.specs.End.{counts_of}
 use Rattle.tw_world.specs.declared.ids.IdWords.{IdWords}
 use Rattle.tw_model.specs.declared.changes.Change.{Change}
 use Rattle.tw_model.specs.Changes.{changed_all, ops_of_all, group_of}
@@ -95,7 +97,7 @@ module _ {D L : Type 0} (m : DiskModel D) (links : LinkModel L) (d0 d1 : D) (l0 
 
   end_agrees : (server : ServerSettings) (state : State) (next : Option State) → IsServedChain (links.chain l1) → Agrees state (links.chain l0) → IsEndIn state (server_chain links l0) (server_chain links l1) next → LeadsAgreeing (links.chain l1) next
   end_agrees server state None chain a end = λ s e. absurd (no_state s e)
-  end_agrees server state (Some next) chain a end = λ s e. subst (λ t. Agrees t (links.chain l1)) (some_is next s e) (sync_end_agrees state next (server_chain links l0) (server_chain links l1) end.0 chain.whole a end.1)
+  end_agrees server state (Some next) chain a end = λ s e. subst (λ t. Agrees t (links.chain l1)) (some_is next s e) (outcome_agrees end.0 state next (server_chain links l0) (server_chain links l1) chain.whole a end.1)
 
   module _ (here : OpensAgreeing (links.chain l0) (m.seen d0)) (grows : Grows (links.chain l0) (links.chain l1)) where
     still : Agrees here.0 (links.chain l1)
@@ -144,7 +146,7 @@ module _ {D L : Type 0} (m : DiskModel D) (links : LinkModel L) (d0 d1 : D) (l0 
   synced_agrees tells_chain kept server report run tells honest here =
       let has = run.disk tells in
       more_agrees has.bodies here.0 run.old run.new here.1 here.2 has.more
-      (λ a. sync_end_agrees run.old run.new (server_chain links l0) (server_chain links l1) report (whole_chain server.client tells_chain kept honest).whole a (run.ended honest))
+      (λ a. outcome_agrees (DoneSync (counts_of report)) run.old run.new (server_chain links l0) (server_chain links l1) (whole_chain server.client tells_chain kept honest).whole a (run.ended honest))
 
 module _ {D S O L P F J : Type 0} (m : Models D S O L P F J) (w : Outside D S O L P F J) (tells_chain : (link : L) → IsChainOf m.link link) (kept : IsLinkKept m.link w.l0 w.l1)
     (tells : Tells m.disk w.d0) (ids : IdWords) where

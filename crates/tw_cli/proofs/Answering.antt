@@ -84,6 +84,9 @@ module _ {P : Type 0} (hooks : SpawnerModel P) (request : Request) (p0 p1 : P) (
       plan_refused (carry.Refused x) is = absurd is
       plan_refused (carry.TooLong bytes) is = absurd is
       plan_refused carry.Disk is = absurd is
+      plan_refused (carry.Load x) is = absurd is
+      plan_refused (carry.HoursTooLong bytes) is = absurd is
+      plan_refused carry.Track is = absurd is
 
 -- ---- a command, once its plan is made
 
@@ -118,6 +121,9 @@ module _ {P : Type 0} (hooks : SpawnerModel P) (request : Request) (ids : IdWord
     unhooked (carry.Refused x) why = absurd why
     unhooked (carry.TooLong bytes) why = absurd why
     unhooked carry.Disk why = absurd why
+    unhooked (carry.Load x) why = absurd why
+    unhooked (carry.HoursTooLong bytes) why = absurd why
+    unhooked carry.Track why = absurd why
 
     module _ (made : Plan) (answered : PlanAnswered hooks request p0 p1 tasks_held plan made) where
       answers_are : Answered hooks request ids p0 p1 (held_state replica) answered.0

@@ -24,7 +24,8 @@ use Rattle.tw_cli.specs.Cause.{may_write, open_cause, input_cause, hook_cause, c
 use Rattle.tw_cli.specs.Hooks.{celled, Answered, AnswersRefused, HooksKept}
 use Rattle.tw_cli.specs.Deciding.{DecidedBy, NotDecided, HasDrawn}
 use Rattle.tw_cli.specs.Input.{Took, NotTaken, WithInput, with_input}
-use Rattle.tw_cli.specs.Run.{CarriedOut, Refuses, HooksRefused, PassesLimit, HasAsked, HasAnswers, StaysUnread, NotCarried, CanBeCarriedOut, CanCarryOut, Drew, Draws}
+use Rattle.tw_cli.specs.Ready.{SparesHours}
+use Rattle.tw_cli.specs.Run.{CarriedOut, Refuses, HooksRefused, PassesLimit, HeldBack, HasAsked, HasAnswers, StaysUnread, NotCarried, CanBeCarriedOut, CanCarryOut, Drew, Draws}
 use Rattle.tw_cli.specs.Crash.{LeavesRecords, LeavesIf, LeavesAnswered, LeavesCommand, new_of, next_of}
 use Rattle.tw_cli.specs.declared.cause.Cause.{Cause}
 use Rattle.tw_cli.specs.declared.carry.CarryError.{CarryError}
@@ -42,7 +43,7 @@ use Rattle.tw_cli.proofs.Answering.{refused_wants}
 use Rattle.tw_cli.proofs.Taking.{took_same, taking_wants}
 use Rattle.tw_cli.proofs.Openings.{records_of, opens_to, held_is, stays_open, open_wants, rose_later, no_longer, leaves_step}
 
-above_limit : (bytes : ℕ) → 2 ^ 30 < bytes → bytes ≤ 2 ^ 30 → ⊥
+pub above_limit : (bytes : ℕ) → 2 ^ 30 < bytes → bytes ≤ 2 ^ 30 → ⊥
 above_limit bytes above fits = omega (arith, above, fits)
 
 -- what is known of a result that is an Ok, or an Err
@@ -127,6 +128,15 @@ module _ {D S : Type 0} (m : DiskModel D) (sources : SourceModel S) (request : R
         undecided (carry.Input e) why = absurd why
         undecided (carry.TooLong bytes) why = absurd why
         undecided carry.Disk why = absurd why
+        undecided (carry.Load e) why = absurd why
+        undecided (carry.HoursTooLong bytes) why = absurd why
+        undecided carry.Track why = absurd why
+
+        pub undecided_spares : (e : CarryError) → NotDecided hooks r ids p0 p1 old e → SparesHours e
+        undecided_spares (carry.Load e) why = absurd why
+        undecided_spares (carry.HoursTooLong bytes) why = absurd why
+        undecided_spares carry.Track why = absurd why
+        undecided_spares _ why = tt
 
         -- the identifiers that it leaves
         pub undecided_draws : (new : IdWords) (e : CarryError) → HasDrawn r ids new (held_state old) e → Draws m sources request d0 i0 i1 ids new (carry_cause e)
@@ -144,12 +154,12 @@ module _ {D P : Type 0} (m : DiskModel D) (hooks : SpawnerModel P) (request : Re
     drew new all = record { state = held_state old; opens = λ tells. opens_to m d0 mid old (opened tells); left = all }
 
     -- the state of which it can be carried out is that of the replica that was opened
-    here : (d1 : D) (can : CanBeCarriedOut m hooks request ids d0 d1 p0 p1) → can.state ≡ held_state old
+    pub here : (d1 : D) (can : CanBeCarriedOut m hooks request ids d0 d1 p0 p1) → can.state ≡ held_state old
     here d1 can = held_is m d0 mid old can.state (opened can.tells) can.opens
 
     -- where it can be carried out, these answers lead to it in the replica that was opened
     module _ (d1 : D) (can : CanBeCarriedOut m hooks request ids d0 d1 p0 p1) (answers : List TaskValue) (answered : Answered hooks request ids p0 p1 (held_state old) answers) where
-      answered_there : Answered hooks request ids p0 p1 can.state answers
+      pub answered_there : Answered hooks request ids p0 p1 can.state answers
       answered_there = subst (λ s. Answered hooks request ids p0 p1 s answers) (sym (here d1 can)) answered
 
       can_in : carried_out request ids answers (held_state old) ≡ Ok (can.carried answers answered_there)
@@ -170,6 +180,9 @@ module _ {D P : Type 0} (m : DiskModel D) (hooks : SpawnerModel P) (request : Re
     undecided_wants (carry.Input e) why can = absurd why
     undecided_wants (carry.TooLong bytes) why can = absurd why
     undecided_wants carry.Disk why can = absurd why
+    undecided_wants (carry.Load e) why can = absurd why
+    undecided_wants (carry.HoursTooLong bytes) why can = absurd why
+    undecided_wants carry.Track why can = absurd why
 
     module _ (d1 : D) (ready : Ready) (is : DecidedBy hooks request ids p0 p1 old ready) where
       abbrev pub made : IsDecided request ids is.answers old ready
@@ -183,16 +196,30 @@ module _ {D P : Type 0} (m : DiskModel D) (hooks : SpawnerModel P) (request : Re
       unfolding come
       comes = made.is
 
-      pub shows_text : (new : Replica) → held_state new ≡ prepared_state ready.prepared
-          → ((bodies : List (List ℕ)) → IsOpenOn m magic ready.prepared.journal mid bodies → IsOpenOn m magic new.journal d1 (bodies ++ prepared_bodies ready.prepared)) → IsWithinLimit (prepared_bodies ready.prepared) → (run : CarriedOut m hooks request ids d0 d1 p0 p1) × (ready.text.items ≡ run.carried.text)
+      -- what was written is what the command comes to
+      pub runs_so : (new : Replica) → held_state new ≡ prepared_state ready.prepared
+          → ((bodies : List (List ℕ)) → IsOpenOn m magic ready.prepared.journal mid bodies → IsOpenOn m magic new.journal d1 (bodies ++ prepared_bodies ready.prepared)) → IsWithinLimit (prepared_bodies ready.prepared)
+          → (run : CarriedOut m hooks request ids d0 d1 p0 p1) × (ready.text.items ≡ run.carried.text) × (held_state old ≡ run.old) × (prepared_state ready.prepared ≡ run.carried.new)
       unfolding come
-      shows_text new state opens within = (record { old = held_state old; answers = is.answers; answered = is.answered; carried = come; is = comes; within = subst IsWithinLimit made.prepared.bodies within; disk = λ tells. by (opened tells) }, refl)
+      runs_so new state opens within = (record { old = held_state old; answers = is.answers; answered = is.answered; carried = come; is = comes; within = subst IsWithinLimit made.prepared.bodies within; disk = λ tells. by (opened tells) }, refl, refl, refl)
         where
           by : IsOpenedReplica m d0 mid old → HasMore (m.seen d0) (m.seen d1) (step_bodies made.step) (held_state old) (prepared_state ready.prepared) × IsStable m d1
           by o =
               let left : List (List ℕ) = opened_bodies (has_areas (m.seen d0)) (held_state old) o.bodies in
               let n : IsReplicaOn m new d1 (left ++ step_bodies made.step) = prepared_on m old made.step ready.prepared made.prepared left mid d1 o.now new state opens in
               (record { bodies = o.bodies; had = o.records; stood = o.stands; has = records_of m d1 new (left ++ step_bodies made.step) n; stands = subst (Stands (left ++ step_bodies made.step)) state n.stands }, n.open_on.rest.settled)
+
+      -- it was decided on, and nothing is written
+      pub held_back : d1 ≡ mid → HeldBack m hooks request ids d0 d1 p0 p1
+      unfolding come
+      held_back same = record { state = held_state old; answers = is.answers; answered = is.answered; carried = come; is = comes; stays = subst (λ d. Stays m d0 d (held_state old)) (sym same) (stays_open m d0 mid old opened) }
+
+      -- where it can be carried out, it leads to what is prepared
+      pub can_leads : (can : CanBeCarriedOut m hooks request ids d0 d1 p0 p1) → prepared_state ready.prepared ≡ (can.carried is.answers (answered_there d1 can is.answers is.answered)).new
+      can_leads can =
+          let there : carried_out request ids is.answers (held_state old) ≡ Ok (can.carried is.answers (answered_there d1 can is.answers is.answered)) = can_in d1 can is.answers is.answered in
+          let same : record { step = made.step; new = prepared_state ready.prepared; text = ready.text.items } ≡ can.carried is.answers (answered_there d1 can is.answers is.answered) = (let e = made.is in cc) in
+          ap (λ (c : Carried). c.new) same
 
       -- a write that passes the limit
       pub passes_limit : (bytes : ℕ) → PreparedRefused m ready.prepared mid d1 (writes.TooLong bytes) → PassesLimit m hooks request ids d0 d1 p0 p1 bytes
@@ -229,7 +256,7 @@ module _ {D P : Type 0} (m : DiskModel D) (hooks : SpawnerModel P) (request : Re
       not_closed live refused = no_longer (is_replica_closed old) (ap is_closed (sym made.prepared.journal) ∙ refused.0) live
 
       -- the state after the step is the next one
-      leads : applied (held_state old) made.step ≡ next_of request ids is.answers (held_state old)
+      pub leads : applied (held_state old) made.step ≡ next_of request ids is.answers (held_state old)
       leads = made.prepared.leads ∙ sym (ap new_of made.is)
 
       -- a crash while the step is written behind the opening

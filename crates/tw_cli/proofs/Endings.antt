@@ -7,6 +7,10 @@ use Rattle.tw_world.specs.declared.ids.IdWords.{IdWords}
 use Rattle.tw_http.specs.Link.{LinkModel}
 use Rattle.tw_journal.specs.declared.error.AppendError.{AppendError}
 use Rattle.tw_journal.specs.declared.error.AppendError.TheVariants as journal
+use Rattle.tw_journal.specs.declared.error.JournalError.{JournalError}
+use Rattle.tw_journal.specs.declared.error.JournalError.TheVariants as hours
+use Rattle.timew_store.specs.declared.error.LoadError.{LoadError}
+use Rattle.timew_store.specs.declared.error.LoadError.TheVariants as load
 use Rattle.tw_sync.specs.declared.error.SyncError.{SyncError}
 use Rattle.tw_sync.specs.declared.error.SyncError.TheVariants as syncs
 use Rattle.tw_commands.specs.declared.request.Request.{Request}
@@ -17,7 +21,7 @@ use Rattle.tw_commands.specs.declared.refusal.Refusal.{Refusal}
 use Rattle.tw_commands.specs.declared.refusal.Refusal.TheVariants as refusal
 use Rattle.tw_ending.specs.Ending.{EndsPrinting}
 use Rattle.tw_ending.specs.Ending.End.{Failed}
-use Rattle.tw_cli.specs.Cause.{end_of, open_cause, input_cause, refusal_cause, hook_cause, carry_cause, journal_cause, sync_cause, failure_cause}
+use Rattle.tw_cli.specs.Cause.{end_of, open_cause, input_cause, refusal_cause, hook_cause, track_cause, load_cause, carry_cause, journal_cause, sync_cause, failure_cause}
 use Rattle.tw_cli.specs.Run.{NotCarried, GivesBy, Gives, IsDoneOrWant}
 use Rattle.tw_cli.specs.Syncing.{NotSynced, SyncGivesBy, SyncGives}
 use Rattle.tw_words.specs.declared.settings.server.ServerSettings.{ServerSettings}
@@ -58,6 +62,19 @@ hook_fails (hook.Answer name) = refl
 hook_fails hook.Fault = refl
 hook_fails hook.Memory = refl
 
+track_fails : (e : JournalError) → end_of (track_cause e) ≡ Failed
+track_fails hours.Disk = refl
+track_fails hours.Closed = refl
+track_fails (hours.Damaged offset) = refl
+track_fails (hours.TooLong bytes) = refl
+track_fails hours.Memory = refl
+
+load_fails : (e : LoadError) → end_of (load_cause e) ≡ Failed
+load_fails load.Folder = refl
+load_fails (load.Journal e) = track_fails e
+load_fails (load.BadLine file line) = refl
+load_fails load.Memory = refl
+
 pub carry_fails : (e : CarryError) → end_of (carry_cause e) ≡ Failed
 carry_fails (carry.Open e) = open_fails e
 carry_fails (carry.Input e) = input_fails e
@@ -66,6 +83,9 @@ carry_fails (carry.Hook e) = hook_fails e
 carry_fails (carry.TooLong bytes) = refl
 carry_fails carry.Disk = refl
 carry_fails carry.Memory = refl
+carry_fails (carry.Load e) = load_fails e
+carry_fails (carry.HoursTooLong bytes) = refl
+carry_fails carry.Track = refl
 
 journal_fails : (e : AppendError) → end_of (journal_cause e) ≡ Failed
 journal_fails journal.Disk = refl

@@ -20,6 +20,8 @@ use Rattle.tw_replica.specs.Prepared.{step_bodies}
 use Rattle.tw_replica.specs.Replica.{magic, OpensTo, OpensToEither}
 use Rattle.tw_replica.specs.Opening.{IsOpening, opened_bodies}
 use Rattle.tw_replica.proofs.CommittedChanges.{changes_are_group}
+use Rattle.tw_outcome.specs.End.Answer.{Done as DoneSync}
+use Rattle.tw_sync.specs.End.{counts_of}
 use Rattle.tw_sync.specs.Answers.{IsLinkKept}
 use Rattle.tw_sync.specs.Sync.{server_chain, IsEndIn}
 use Rattle.tw_sync.specs.World.{IsAmong, IsCommit, Makes, with_next, Runs}
@@ -211,13 +213,13 @@ module _ {D S O L P : Type 0} (m : DiskModel D) (sources : SourceModel S) (s : S
   -- a sync
   end_makes : (state : State) (next : Option State) → IsEndIn state (server_chain links l0) (server_chain links l1) next → Makes (links.chain l0) (links.chain l1) state next
   end_makes state None end = tt
-  end_makes state (Some next) end = inr (inr (record { own = links.own l0; own_now = links.own l1; report = end.0; ended = end.1 }))
+  end_makes state (Some next) end = inr (inr (record { own = links.own l0; own_now = links.own l1; answer = end.0; ended = end.1 }))
 
   synced_known : (server : ServerSettings) (report : SyncReport) → IsHonest links l0 server.client → Synced m links server d0 d1 l0 l1 report → (one : State) × Makes (links.chain l0) (links.chain l1) here.0 (Some one) × IsStable m d1 × OpensTo (m.seen d1) one
   synced_known server report honest run =
       let has = run.disk tells in
       let is : run.old ≡ here.0 = opened_is has.bodies run.old run.new has.more in
-      (run.new, subst (λ state. Makes (links.chain l0) (links.chain l1) state (Some run.new)) is (inr (inr (record { own = links.own l0; own_now = links.own l1; report = report; ended = run.ended honest }))), has.settled, opens_more has.bodies run.old run.new has.more)
+      (run.new, subst (λ state. Makes (links.chain l0) (links.chain l1) state (Some run.new)) is (inr (inr (record { own = links.own l0; own_now = links.own l1; answer = DoneSync (counts_of report); ended = run.ended honest }))), has.settled, opens_more has.bodies run.old run.new has.more)
 
   sync_known : (grows : Grows (links.chain l0) (links.chain l1)) (served : IsServedChain (links.chain l0) → IsServedChain (links.chain l1)) (server : ServerSettings) → IsHonest links l0 server.client → (end : End) → SyncGivesBy m s links server d0 d1 o0 o1 l0 l1 cause end
       → IsKnownAt m d0 d1 states stands tells seen_may_stay counts_now (OpensReplica (Ok (Sync server))) cause (links.chain l0) (links.chain l1) grows served end

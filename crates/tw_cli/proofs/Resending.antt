@@ -1,13 +1,14 @@
 -- What is appended to pending, and what a refused sync added.
-use Rattle.std.proofs.Common.{◌∙◌, [], ◌∷◌, ◌++◌, refl, sym, ap, subst}
+use Rattle.std.proofs.Common.{◌∙◌, [], ◌++◌, refl, sym, ap}
 use Rattle.std.proofs.lemmas.List.{append_assoc, append-nil}
 use Rattle.tw_model.specs.LocalOps.{plain}
-use Rattle.tw_protocol.specs.Chain.{IsBetween}
-use Rattle.tw_transform.specs.Positions.{IsPosition}
+use Rattle.tw_path.proofs.Sending.{sent_stays}
+use Rattle.tw_outcome.specs.End.{starts_at}
+use Rattle.tw_outcome.proofs.Ends.{all_in_groups}
 use Rattle.tw_sync.specs.LaterOps.{Follows}
 use Rattle.tw_sync.proofs.PendingOps.{plain-append}
 use Rattle.tw_sync.proofs.LaterOps.{commit_follows}
-use Rattle.tw_sync.proofs.CursorInChain.{between_grows}
+use Rattle.tw_sync.proofs.Ends.{added_was_sent}
 use Rattle.tw_cli.specs.Resending.{AddedIsNotSentAgain, CommitAppends, AppendingGoesOn}
 
 pub commit_appends : CommitAppends
@@ -23,17 +24,14 @@ appending_goes_on a b c first second one two = record {
 }
 
 pub added_is_not_sent_again : AddedIsNotSentAgain
-added_is_not_sent_again old new before after chain later added grows more = (
-  record {
-    pending = more.pending;
-    v = added.v;
-    versions = added.versions;
-    pulled = added.ops;
-    sent = added.left;
-    behind = subst (λ b. IsBetween chain b added.v.id (added.versions ++ added.v ∷ [])) (sym more.base) (between_grows after.chain chain old.base added.v.id (added.versions ++ added.v ∷ []) added.sent grows);
-    reads = added.pulled.reads;
-    position = subst (λ t. IsPosition t (plain old.pending) added.ops added.left) (sym more.start) added.pulled.position;
-    reads_back = added.reads_back;
-  },
-  refl,
-)
+added_is_not_sent_again old new before after chain legs more v ops appended sound sound_now went grows a =
+    let sent = added_was_sent old before after legs more v ops sound went in (
+      sent.0,
+      sent.1,
+      sent_stays (starts_at old) (starts_at new) after.chain chain sent.0 sent.1 (sent.1 ++ appended) v.id sent.2 a.base a.start
+          (sym (all_in_groups new.pending sound_now.begins)
+          ∙ a.pending
+          ∙ ap (λ xs. xs ++ appended) (all_in_groups old.pending sound.begins ∙ sent.2.all)
+          ∙ append_assoc sent.0 sent.1 appended)
+          grows,
+    )

@@ -14,6 +14,7 @@ use Rattle.tw_words.specs.declared.word_error.WordError.TheVariants as wrong
 use Rattle.tw_commands.specs.declared.request.Request.{Request}
 use Rattle.tw_spawn.specs.Spawner.{SpawnerKept}
 use Rattle.tw_cli.specs.Hooks.{HooksKept}
+use Rattle.tw_cli.specs.Hours.{HoursCan, DrivesHours}
 use Rattle.tw_cli.specs.Input.{IsInputKept}
 use Rattle.tw_cli.specs.Run.{Gives, CanEnd, Draws, IsDoneOrWant}
 use Rattle.tw_cli.specs.Syncing.{SyncGives, CanBeSynced}
@@ -22,7 +23,7 @@ use Rattle.tw_cli.specs.Crash.{LeavesCommand, LeavesSync}
 use Rattle.tw_words.specs.declared.settings.server.ServerSettings.{ServerSettings}
 use Rattle.tw_cli.specs.Asked.{IsAsked}
 use Rattle.tw_cli.specs.Cause.{line_cause}
-use Rattle.tw_cli.specs.Whole.{Models, Outside, went, RunGives, EndsWell, RunLeaves, RunDraws, RunSpares, RunKeepsInput, IsRun}
+use Rattle.tw_cli.specs.Whole.{Models, Outside, went, RunGives, EndsWell, RunLeaves, RunDrives, RunDraws, RunSpares, RunKeepsInput, IsRun}
 use Rattle.tw_cli.specs.declared.carry.CarryError.TheVariants as carry
 use Rattle.tw_replica.specs.declared.error.OpenError.TheVariants as opening
 use Rattle.tw_replica.proofs.Replaying.{opens_as_before}
@@ -33,6 +34,7 @@ use Rattle.tw_cli.specs.declared.asked.LineError.{LineError}
 use Rattle.tw_cli.specs.declared.asked.LineError.TheVariants.{Words}
 use Rattle.tw_cli.specs.declared.cause.Cause.{Cause}
 use Rattle.tw_cli.specs.declared.cause.Cause.TheVariants.{Memory, BadReply}
+use Rattle.tw_cli.proofs.LoadedHours.{unopened_stays}
 use Rattle.tw_cli.proofs.Openings.{leaves_as_it_was}
 use Rattle.tw_cli.proofs.Taking.{input_same}
 
@@ -54,13 +56,14 @@ module _ {D S O L P F J : Type 0} (m : Models D S O L P F J) where
   still d i o0 o1 l p f j = went d d i i o0 o1 l l p p f f j j
 
   unchanged_is_run : (asked : Result Job LineError) (ids : IdWords) (d : D) (i : S) (o0 o1 : O) (l : L) (p : P) (f : F) (j : J) (cause : Cause) → RunGives m asked ids (still d i o0 o1 l p f j) cause → EndsWell m asked ids (still d i o0 o1 l p f j) cause
-      → RunLeaves m asked ids (still d i o0 o1 l p f j) cause → RunDraws m.disk m.source asked d i i ids ids cause → RunSpares asked (still d i o0 o1 l p f j) → RunKeepsInput m.source asked i i → IsRun m asked ids ids (still d i o0 o1 l p f j) cause
-  unchanged_is_run asked ids d i o0 o1 l p f j cause gives complete leaves draws spares input_kept = record {
+      → RunLeaves m asked ids (still d i o0 o1 l p f j) cause → RunDraws m.disk m.source asked d i i ids ids cause → RunDrives m asked ids (still d i o0 o1 l p f j) cause → RunSpares asked (still d i o0 o1 l p f j) → RunKeepsInput m.source asked i i → IsRun m asked ids ids (still d i o0 o1 l p f j) cause
+  unchanged_is_run asked ids d i o0 o1 l p f j cause gives complete leaves draws hours spares input_kept = record {
     gives = gives;
     complete = complete;
     any_moment = leaves;
     grows = λ honest. grows_same (m.link.chain l);
     ids = draws;
+    hours = hours;
     spares = spares;
     spawner_kept = spawner_same p;
     input_kept = input_kept;
@@ -68,38 +71,51 @@ module _ {D S O L P F J : Type 0} (m : Models D S O L P F J) where
     link_kept = link_same l;
   }
 
+  -- the hours are as they were
+  hours_same : (request : Request) (ids : IdWords) (d : D) (i : S) (p : P) (f : F) (j : J) → DrivesHours m.disk m.source m.spawner m.folder m.track request ids d d i i p p f f j j Memory
+  hours_same request ids d i p f j = record {
+    gives = unopened_stays m.folder m.track f f j j (refl, refl);
+    spares = λ off. (refl, refl);
+    any_moment = inl (refl, refl);
+    folder = record { faults = omega arith; tells = refl };
+    track = record { faults = omega arith; tells = refl };
+  }
+
   -- memory runs out before anything is asked for
   pub want_is_run : OnlyNow m.disk → (asked : Result Job LineError) (ids : IdWords) (d : D) (i : S) (o : O) (l : L) (p : P) (f : F) (j : J) → IsRun m asked ids ids (still d i o o l p f j) Memory
   want_is_run only_now (Ok (Here request)) ids d i o l p f j =
-      unchanged_is_run (Ok (Here request)) ids d i o o l p f j Memory ((carry.Open opening.Memory, refl, ((λ tells. opens_as_before (m.disk.seen d) (m.disk.seen d) (inl refl)), refl, refl), refl), refl) (λ can. inr refl)
-      (inl (leaves_as_it_was m.disk only_now d)) (inr (refl, inr (inl refl))) ((λ none. refl), refl, refl) (input_same m.source request.command i)
+      unchanged_is_run (Ok (Here request)) ids d i o o l p f j Memory ((carry.Open opening.Memory, refl, ((λ tells. opens_as_before (m.disk.seen d) (m.disk.seen d) (inl refl)), refl, refl), refl), refl) (λ can well. inr refl)
+      (inl (leaves_as_it_was m.disk only_now d)) (inr (refl, inr (inl refl))) (hours_same request ids d i p f j) ((λ none. refl), λ off. (refl, refl)) (input_same m.source request.command i)
   want_is_run only_now (Ok (Sync server)) ids d i o l p f j =
       unchanged_is_run (Ok (Sync server)) ids d i o o l p f j Memory (failure.Open opening.Memory, refl, ((λ tells. opens_as_before (m.disk.seen d) (m.disk.seen d) (inl refl)), refl), refl) (λ can well. inl (inr refl))
-      (λ tells. record { next = None; made = λ state opens. tt; end = λ honest state opens. tt; leaves = leaves_as_it_was m.disk only_now d }) refl (refl, refl, refl) refl
-  want_is_run only_now (Ok (Generate line settings)) ids d i o l p f j = unchanged_is_run (Ok (Generate line settings)) ids d i o o l p f j Memory ((refl, refl), refl, refl, refl) (λ well. inr refl) (leaves_as_it_was m.disk only_now d) refl (refl, refl, refl) refl
-  want_is_run only_now (Err error) ids d i o l p f j = unchanged_is_run (Err error) ids d i o o l p f j Memory (inr refl, refl, refl, refl, refl) tt (leaves_as_it_was m.disk only_now d) refl (refl, refl, refl) refl
+      (λ tells. record { next = None; made = λ state opens. tt; end = λ honest state opens. tt; leaves = leaves_as_it_was m.disk only_now d }) refl (refl, refl) (refl, refl, refl) refl
+  want_is_run only_now (Ok (Generate line settings)) ids d i o l p f j = unchanged_is_run (Ok (Generate line settings)) ids d i o o l p f j Memory ((refl, refl), refl, refl, refl) (λ well. inr refl) (leaves_as_it_was m.disk only_now d) refl (refl, refl) (refl, refl, refl) refl
+  want_is_run only_now (Err error) ids d i o l p f j = unchanged_is_run (Err error) ids d i o o l p f j Memory (inr refl, refl, refl, refl, refl) tt (leaves_as_it_was m.disk only_now d) refl (refl, refl) (refl, refl, refl) refl
 
   -- nothing is done
   pub error_is_run : OnlyNow m.disk → (asked : Result Job LineError) (error : LineError) (ids : IdWords) (d : D) (i : S) (o : O) (l : L) (p : P) (f : F) (j : J) (cause : Cause) → cause ≡ line_cause error → IsAsked asked (Err error)
       → IsRun m asked ids ids (still d i o o l p f j) cause
   error_is_run only_now asked error ids d i o l p f j cause is (inl refused) = subst (λ (a : Result Job LineError). IsRun m a ids ids (still d i o o l p f j) cause) refused
-      (unchanged_is_run (Err error) ids d i o o l p f j cause (inl is, refl, refl, refl, refl) tt (leaves_as_it_was m.disk only_now d) refl (refl, refl, refl) refl)
+      (unchanged_is_run (Err error) ids d i o o l p f j cause (inl is, refl, refl, refl, refl) tt (leaves_as_it_was m.disk only_now d) refl (refl, refl) (refl, refl, refl) refl)
   error_is_run only_now asked error ids d i o l p f j cause is (inr want) =
       let same : error ≡ Words wrong.Memory = same_error (Err error) error (Words wrong.Memory) refl want in
       subst (IsRun m asked ids ids (still d i o o l p f j)) (sym (is ∙ ap line_cause same)) (want_is_run only_now asked ids d i o l p f j)
 
   -- a command is asked for
-  pub command_is_run : (asked : Result Job LineError) (request : Request) (old new : IdWords) (d0 d1 : D) (i0 i1 : S) (o0 o1 : O) (l : L) (p0 p1 : P) (f : F) (j : J) (cause : Cause) → asked ≡ Ok (Here request)
-      → Gives m.disk m.source m.spawner request old d0 d1 i0 i1 p0 p1 m.sink o0 o1 cause → (CanEnd m.disk m.source m.spawner request old d0 d1 i0 i1 p0 p1 m.sink o0 o1 → IsDoneOrWant cause) → LeavesCommand m.disk m.source m.spawner request old d0 d1 i0 i1 p0 p1 cause
+  pub command_is_run : (asked : Result Job LineError) (request : Request) (old new : IdWords) (d0 d1 : D) (i0 i1 : S) (o0 o1 : O) (l : L) (p0 p1 : P) (f0 f1 : F) (j0 j1 : J) (cause : Cause) → asked ≡ Ok (Here request)
+      → Gives m.disk m.source m.spawner request old d0 d1 i0 i1 p0 p1 m.sink o0 o1 cause
+      → ((can : CanEnd m.disk m.source m.spawner request old d0 d1 i0 i1 p0 p1 m.sink o0 o1) → HoursCan m.folder m.track can.can f0 f1 j0 j1 → IsDoneOrWant cause) → LeavesCommand m.disk m.source m.spawner request old d0 d1 i0 i1 p0 p1 cause
+      → DrivesHours m.disk m.source m.spawner m.folder m.track request old d0 d1 i0 i1 p0 p1 f0 f1 j0 j1 cause
       → Draws m.disk m.source request d0 i0 i1 old new cause → FaultsRise m.disk d0 d1 → IsInputKept m.source request.command i0 i1 → HooksKept m.spawner request p0 p1
-      → IsRun m asked old new (went d0 d1 i0 i1 o0 o1 l l p0 p1 f f j j) cause
-  command_is_run asked request old new d0 d1 i0 i1 o0 o1 l p0 p1 f j cause here gives complete leaves draws kept input_kept hooks_kept = subst (λ (a : Result Job LineError). IsRun m a old new (went d0 d1 i0 i1 o0 o1 l l p0 p1 f f j j) cause) (sym here) (record {
+      → IsRun m asked old new (went d0 d1 i0 i1 o0 o1 l l p0 p1 f0 f1 j0 j1) cause
+  command_is_run asked request old new d0 d1 i0 i1 o0 o1 l p0 p1 f0 f1 j0 j1 cause here gives complete leaves hours draws kept input_kept hooks_kept = subst (λ (a : Result Job LineError). IsRun m a old new (went d0 d1 i0 i1 o0 o1 l l p0 p1 f0 f1 j0 j1) cause) (sym here) (record {
     gives = (gives, refl);
     complete = complete;
     any_moment = leaves;
     grows = λ honest. grows_same (m.link.chain l);
     ids = draws;
-    spares = (hooks_kept.untouched, refl, refl);
+    hours = hours;
+    spares = (hooks_kept.untouched, hours.spares);
     spawner_kept = hooks_kept.kept;
     input_kept = input_kept;
     kept = kept;
@@ -117,6 +133,7 @@ module _ {D S O L P F J : Type 0} (m : Models D S O L P F J) where
     any_moment = leaves;
     grows = grows;
     ids = refl;
+    hours = (refl, refl);
     spares = (refl, refl, refl);
     spawner_kept = spawner_same p;
     input_kept = refl;
@@ -129,4 +146,4 @@ module _ {D S O L P F J : Type 0} (m : Models D S O L P F J) where
       → GenerateGives m.sink line settings o0 o1 cause → ((Rose (m.sink.faults o0) (m.sink.faults o1) → ⊥) → IsDoneOrWant cause)
       → IsRun m asked ids ids (still d i o0 o1 l p f j) cause
   generate_is_run only_now asked line settings ids d i o0 o1 l p f j cause there gives complete = subst (λ (a : Result Job LineError). IsRun m a ids ids (still d i o0 o1 l p f j) cause) (sym there)
-      (unchanged_is_run (Ok (Generate line settings)) ids d i o0 o1 l p f j cause (gives, refl, refl, refl) complete (leaves_as_it_was m.disk only_now d) refl (refl, refl, refl) refl)
+      (unchanged_is_run (Ok (Generate line settings)) ids d i o0 o1 l p f j cause (gives, refl, refl, refl) complete (leaves_as_it_was m.disk only_now d) refl (refl, refl) (refl, refl, refl) refl)

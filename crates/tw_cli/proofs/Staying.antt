@@ -31,7 +31,7 @@ use Rattle.tw_cli.specs.declared.carry.CarryError.TheVariants as carry
 use Rattle.tw_cli.specs.declared.syncing.SyncFailure.{SyncFailure}
 use Rattle.tw_cli.specs.declared.syncing.SyncFailure.TheVariants as failure
 use Rattle.tw_cli.specs.declared.cause.Cause.{Cause}
-use Rattle.tw_cli.specs.declared.cause.Cause.TheVariants.{DiskFault}
+use Rattle.tw_cli.specs.declared.cause.Cause.TheVariants.{DiskFault, TrackFault}
 use Rattle.tw_cli.proofs.Openings.{opens_one}
 
 same_by : (before after : List ℕ) (s : State) → OpensTo before s → OpensTo after s → SameState before after
@@ -55,14 +55,17 @@ module _ {D : Type 0} (m : DiskModel D) (d0 d1 : D) where
   opening_stays (opening.Damaged offset) spared why tells = (opens_as_before (m.seen d0) (m.seen d1) (why tells).1).state
   opening_stays opening.Memory spared why tells = (why tells).state
 
-  carrying_stays : {S P : Type 0} (sources : SourceModel S) (hooks : SpawnerModel P) (i0 i1 : S) (p0 p1 : P) (request : Request) (ids : IdWords) (e : CarryError) → (carry_cause e ≡ DiskFault → ⊥) → NotCarried m sources hooks request ids d0 d1 i0 i1 p0 p1 e → Tells m d0 → SameState (m.seen d0) (m.seen d1)
-  carrying_stays sources hooks i0 i1 p0 p1 request ids (carry.Open e) spared why tells = opening_stays e spared why.0 tells
-  carrying_stays sources hooks i0 i1 p0 p1 request ids (carry.Input e) spared why tells = records_stay why.0.state why.0.stays tells
-  carrying_stays sources hooks i0 i1 p0 p1 request ids (carry.Refused refusal) spared why tells = records_stay why.2.state why.2.stays tells
-  carrying_stays sources hooks i0 i1 p0 p1 request ids (carry.Hook e) spared why tells = records_stay why.2.1.state why.2.1.stays tells
-  carrying_stays sources hooks i0 i1 p0 p1 request ids (carry.TooLong bytes) spared why tells = records_stay why.2.state why.2.stays tells
-  carrying_stays sources hooks i0 i1 p0 p1 request ids carry.Disk spared why tells = absurd (spared refl)
-  carrying_stays sources hooks i0 i1 p0 p1 request ids carry.Memory spared why tells = records_stay why.0.0 why.0.1 tells
+  carrying_stays : {S P : Type 0} (sources : SourceModel S) (hooks : SpawnerModel P) (i0 i1 : S) (p0 p1 : P) (request : Request) (ids : IdWords) (e : CarryError) → (carry_cause e ≡ DiskFault → ⊥) → (carry_cause e ≡ TrackFault → ⊥) → NotCarried m sources hooks request ids d0 d1 i0 i1 p0 p1 e → Tells m d0 → SameState (m.seen d0) (m.seen d1)
+  carrying_stays sources hooks i0 i1 p0 p1 request ids (carry.Open e) spared tracks why tells = opening_stays e spared why.0 tells
+  carrying_stays sources hooks i0 i1 p0 p1 request ids (carry.Input e) spared tracks why tells = records_stay why.0.state why.0.stays tells
+  carrying_stays sources hooks i0 i1 p0 p1 request ids (carry.Refused refusal) spared tracks why tells = records_stay why.2.state why.2.stays tells
+  carrying_stays sources hooks i0 i1 p0 p1 request ids (carry.Hook e) spared tracks why tells = records_stay why.2.1.state why.2.1.stays tells
+  carrying_stays sources hooks i0 i1 p0 p1 request ids (carry.TooLong bytes) spared tracks why tells = records_stay why.2.state why.2.stays tells
+  carrying_stays sources hooks i0 i1 p0 p1 request ids carry.Disk spared tracks why tells = absurd (spared refl)
+  carrying_stays sources hooks i0 i1 p0 p1 request ids carry.Memory spared tracks why tells = records_stay why.0.0 why.0.1 tells
+  carrying_stays sources hooks i0 i1 p0 p1 request ids (carry.Load e) spared tracks why tells = records_stay why.2.state why.2.stays tells
+  carrying_stays sources hooks i0 i1 p0 p1 request ids (carry.HoursTooLong bytes) spared tracks why tells = records_stay why.1.2.state why.1.2.stays tells
+  carrying_stays sources hooks i0 i1 p0 p1 request ids carry.Track spared tracks why tells = absurd (tracks refl)
 
   module _ {L : Type 0} (links : LinkModel L) (l0 l1 : L) where
     refusal_stays : (server : ServerSettings) (e : SyncError) → (sync_cause e ≡ DiskFault → ⊥) → SyncEnds m links server d0 d1 l0 l1 e → Tells m d0 → SameState (m.seen d0) (m.seen d1)
@@ -85,11 +88,11 @@ module _ {D : Type 0} (m : DiskModel D) (d0 d1 : D) where
 
 module _ {D S O L P F J : Type 0} (m : Models D S O L P F J) (w : Outside D S O L P F J) where
   pub state_stays : (asked : Result Job LineError) (ids : IdWords) (cause : Cause) → RunGives m asked ids w cause → KeepsState m.disk w.d0 w.d1 cause
-  state_stays (Ok (Here request)) ids cause gives = λ failed spared tells.
+  state_stays (Ok (Here request)) ids cause gives = λ failed spared tracks tells.
       let why : GivesBy m.disk m.source m.spawner request ids w.d0 w.d1 w.i0 w.i1 w.p0 w.p1 m.sink w.o0 w.o1 cause Failed = subst (GivesBy m.disk m.source m.spawner request ids w.d0 w.d1 w.i0 w.i1 w.p0 w.p1 m.sink w.o0 w.o1 cause) failed gives.0 in
-      carrying_stays m.disk w.d0 w.d1 m.source m.spawner w.i0 w.i1 w.p0 w.p1 request ids why.0 (λ e. spared (why.1 ∙ e)) why.2 tells
-  state_stays (Ok (Sync server)) ids cause gives = λ failed spared tells.
+      carrying_stays m.disk w.d0 w.d1 m.source m.spawner w.i0 w.i1 w.p0 w.p1 request ids why.0 (λ e. spared (why.1 ∙ e)) (λ e. tracks (why.1 ∙ e)) why.2 tells
+  state_stays (Ok (Sync server)) ids cause gives = λ failed spared tracks tells.
       let why : SyncGivesBy m.disk m.sink m.link server w.d0 w.d1 w.o0 w.o1 w.l0 w.l1 cause Failed = subst (SyncGivesBy m.disk m.sink m.link server w.d0 w.d1 w.o0 w.o1 w.l0 w.l1 cause) failed gives in
       syncing_stays m.disk w.d0 w.d1 m.link w.l0 w.l1 server why.0 (λ e. spared (why.1 ∙ e)) why.2 tells
-  state_stays (Ok (Generate line settings)) ids cause gives = λ failed spared tells. untouched_stays m.disk w.d0 w.d1 gives.1
-  state_stays (Err error) ids cause gives = λ failed spared tells. untouched_stays m.disk w.d0 w.d1 gives.1
+  state_stays (Ok (Generate line settings)) ids cause gives = λ failed spared tracks tells. untouched_stays m.disk w.d0 w.d1 gives.1
+  state_stays (Err error) ids cause gives = λ failed spared tracks tells. untouched_stays m.disk w.d0 w.d1 gives.1

@@ -15,6 +15,7 @@ use Rattle.tw_words.specs.declared.command.AnyCommand.{AnyCommand}
 use Rattle.tw_words.specs.declared.command.AnyCommand.TheVariants as command
 use Rattle.tw_words.specs.declared.word_error.WordError.{WordError}
 use Rattle.tw_words.specs.declared.word_error.WordError.TheVariants as wrong
+use Rattle.tw_cli.specs.Driving.{is_driving}
 use Rattle.tw_cli.specs.declared.asked.Job.{Job}
 use Rattle.tw_cli.specs.declared.asked.Job.TheVariants.{Here, Sync, Generate}
 use Rattle.tw_cli.specs.declared.asked.LineError.{LineError}
@@ -75,3 +76,10 @@ needs_store (Ok (Here request)) = true
 needs_store (Ok (Sync server)) = true
 needs_store (Ok (Generate line settings)) = false
 needs_store (Err error) = false
+
+-- whether the store of hours is
+abbrev pub needs_hours : Result Job LineError → Bool
+needs_hours (Ok (Here request)) = is_driving request
+needs_hours (Ok (Sync server)) = false
+needs_hours (Ok (Generate line settings)) = false
+needs_hours (Err error) = false

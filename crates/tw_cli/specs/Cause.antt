@@ -4,6 +4,10 @@ use Rattle.tw_ending.specs.Ending.{End}
 use Rattle.tw_ending.specs.Ending.End.{Well, Output, Failed}
 use Rattle.tw_journal.specs.declared.error.AppendError.{AppendError}
 use Rattle.tw_journal.specs.declared.error.AppendError.TheVariants as journal
+use Rattle.tw_journal.specs.declared.error.JournalError.{JournalError}
+use Rattle.tw_journal.specs.declared.error.JournalError.TheVariants as hours
+use Rattle.timew_store.specs.declared.error.LoadError.{LoadError}
+use Rattle.timew_store.specs.declared.error.LoadError.TheVariants as load
 use Rattle.tw_sync.specs.declared.error.SyncError.{SyncError}
 use Rattle.tw_sync.specs.declared.error.SyncError.TheVariants as syncs
 use Rattle.tw_words.specs.declared.word_error.WordError.TheVariants as wrong
@@ -25,7 +29,7 @@ use Rattle.tw_cli.specs.declared.cause.Cause.{Cause}
 use Rattle.tw_cli.specs.declared.cause.Cause.TheVariants.{Done, NoMatch, NothingToUndo, BadWords, BadSetting, NoServer, IdTaken, Cycle}
 use Rattle.tw_cli.specs.declared.cause.Cause.TheVariants.{DiskFault, RecordTooLong, Memory, LinkFault, BadReply, Gone, Busy, OutOfSync}
 use Rattle.tw_cli.specs.declared.cause.Cause.TheVariants.{BadSegment, SegmentTooLong, PullTooLong, OutFault, Damaged, InFault, InputTooLong, BadInput}
-use Rattle.tw_cli.specs.declared.cause.Cause.TheVariants.{HookRefused, HookAnswer, HookFault}
+use Rattle.tw_cli.specs.declared.cause.Cause.TheVariants.{HookRefused, HookAnswer, HookFault, TrackFault, TrackBad, TrackDamaged}
 
 -- how a run ends with this cause
 abbrev pub end_of : Cause → End
@@ -38,6 +42,7 @@ abbrev pub may_write : Cause → Bool
 may_write Done = true
 may_write OutFault = true
 may_write DiskFault = true
+may_write TrackFault = true
 may_write cause = false
 
 -- the cause that an error becomes: of words that ask for nothing
@@ -75,6 +80,21 @@ hook_cause (hook.Answer name) = HookAnswer name
 hook_cause hook.Fault = HookFault
 hook_cause hook.Memory = Memory
 
+-- of a journal of hours that refuses
+abbrev pub track_cause : JournalError → Cause
+track_cause hours.Disk = TrackFault
+track_cause hours.Closed = TrackFault
+track_cause (hours.Damaged offset) = TrackDamaged offset
+track_cause (hours.TooLong bytes) = RecordTooLong bytes
+track_cause hours.Memory = Memory
+
+-- of hours that are not loaded
+abbrev pub load_cause : LoadError → Cause
+load_cause load.Folder = TrackFault
+load_cause (load.Journal e) = track_cause e
+load_cause (load.BadLine file line) = TrackBad file line
+load_cause load.Memory = Memory
+
 -- of a command that is not carried out
 abbrev pub carry_cause : CarryError → Cause
 carry_cause (carry.Open e) = open_cause e
@@ -82,7 +102,10 @@ carry_cause (carry.Input e) = input_cause e
 carry_cause (carry.Refused refusal) = refusal_cause refusal
 carry_cause (carry.Hook e) = hook_cause e
 carry_cause (carry.TooLong bytes) = RecordTooLong bytes
+carry_cause (carry.Load e) = load_cause e
+carry_cause (carry.HoursTooLong bytes) = RecordTooLong bytes
 carry_cause carry.Disk = DiskFault
+carry_cause carry.Track = TrackFault
 carry_cause carry.Memory = Memory
 
 -- of a record that is not written: a journal is closed by a fault of the disk alone

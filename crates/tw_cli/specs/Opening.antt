@@ -8,7 +8,7 @@ use Rattle.tw_replica.specs.Opening.{opened_bodies}
 use Rattle.tw_cli.specs.Cause.{end_of}
 use Rattle.tw_ending.specs.Ending.End.{Failed}
 use Rattle.tw_cli.specs.declared.cause.Cause.{Cause}
-use Rattle.tw_cli.specs.declared.cause.Cause.TheVariants.{DiskFault}
+use Rattle.tw_cli.specs.declared.cause.Cause.TheVariants.{DiskFault, TrackFault}
 
 -- a file's records stood for a state; now these come after those that its opening leaves, and all stand for another state
 pub record HasMore (before after : List ℕ) (more : List (List ℕ)) (old new : State) : Type 0 where
@@ -22,6 +22,6 @@ pub record HasMore (before after : List ℕ) (more : List (List ℕ)) (old new :
 abbrev pub Stays : {D : Type 0} → DiskModel D → (d0 d1 : D) → State → Type 0
 Stays m d0 d1 state = Tells m d0 → HasMore (m.seen d0) (m.seen d1) [] state state
 
--- a run that was not carried out leaves the state, unless the disk failed
+-- a run that did not end well leaves the state, unless the disk failed, or the hours, which may be after the record
 abbrev pub KeepsState : {D : Type 0} → DiskModel D → (d0 d1 : D) → Cause → Type 0
-KeepsState m d0 d1 cause = end_of cause ≡ Failed → (cause ≡ DiskFault → ⊥) → Tells m d0 → SameState (m.seen d0) (m.seen d1)
+KeepsState m d0 d1 cause = end_of cause ≡ Failed → (cause ≡ DiskFault → ⊥) → (cause ≡ TrackFault → ⊥) → Tells m d0 → SameState (m.seen d0) (m.seen d1)

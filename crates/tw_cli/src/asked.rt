@@ -1,7 +1,8 @@
 // What a command line asks for.
 ghost use Rattle.std.specs.Prelude.{◌≡◌, IfOk, Ok};
-ghost use Rattle.tw_cli.specs.Asked.{job_by, asked_by, needs_store, IsAsked};
+ghost use Rattle.tw_cli.specs.Asked.{job_by, asked_by, needs_store, needs_hours, IsAsked};
 
+use crate::hours::is_driving;
 use std::alloc::Global;
 use tw_commands::{Input, Request};
 use tw_filter::Filter;
@@ -124,5 +125,32 @@ fn is_for_store(job: &Job<'_>) -> bool
     match job {
         Job::Here(_) | Job::Sync(_) => true,
         Job::Generate(_, _) => false,
+    }
+}
+
+/// Whether the words ask for something that needs the store of hours: a command that drives intervals, if the setting `timetrack` is on.
+pub fn needs_hours(
+    alloc: Global,
+    words: &Vec<String>,
+    settings: &Vec<u8>,
+    now: Moment,
+    zone: &Zone,
+) -> Result<bool, Memory>
+    ensures { IfOk result (λ needs. needs ≡ needs_hours (asked_by words.now settings.now now zone.entry)) }
+{
+    match asked(alloc, words, settings, now, zone) {
+        Ok(job) => Ok(is_for_hours(&job)),
+        Err(LineError::Words(WordError::Memory)) => Err(Memory),
+        Err(_) => Ok(false),
+    }
+}
+
+// Whether what is to be done drives intervals.
+fn is_for_hours(job: &Job<'_>) -> bool
+    ensures { result ≡ needs_hours (Ok job.now) }
+{
+    match job {
+        Job::Here(request) => is_driving(request),
+        Job::Sync(_) | Job::Generate(_, _) => false,
     }
 }

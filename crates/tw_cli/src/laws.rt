@@ -1,7 +1,7 @@
 //! Laws of several runs. Each function does nothing: its contract is the law.
 ghost use Rattle.tw_cli.specs.Resending.{AddedIsNotSentAgain, CommitAppends, AppendingGoesOn};
 
-/// The version that a refused sync added is the one of which a sync that ends later sends nothing again.
+/// Each version that a refused sync added was sent: a later sync sends nothing again of what was sent up to it.
 pub fn what_a_refused_sync_added_is_not_sent_again()
     ensures { AddedIsNotSentAgain }
 {}

@@ -6,7 +6,8 @@ ghost use Rattle.tw_sync.specs.Answers.{IsLinkKept};
 ghost use Rattle.tw_cli.specs.Opening.{KeepsState};
 ghost use Rattle.tw_cli.specs.Fault.{GotFault, status_of};
 ghost use Rattle.tw_cli.specs.Asked.{asked_by};
-ghost use Rattle.tw_cli.specs.Whole.{models, went, RunGives, EndsWell, RunLeaves, RunSpares, IsHonestFor, ChainGrows, RunDraws, RunKeepsInput, IsRun};
+ghost use Rattle.tw_cli.specs.Whole.{models, went, RunGives, EndsWell, RunLeaves, RunDrives, RunSpares, IsHonestFor, ChainGrows};
+ghost use Rattle.tw_cli.specs.Whole.{RunDraws, RunKeepsInput, IsRun};
 ghost use Rattle.tw_cli.specs.Agreement.{AgreementStays};
 ghost use Rattle.tw_cli.specs.Events.{IsEvent};
 
@@ -43,7 +44,11 @@ fn run_words<D: Disk, L: Link, S: Source, O: Sink, P: Spawner, F: Folder, J: Dis
         spawner.old spawner.new folder.old folder.new track.old track.new) result }
 {
     match asked(alloc, words, settings, now, zone) {
-        Ok(Job::Here(request)) => run_command(alloc, request, ids, disk, input, out, spawner),
+        Ok(Job::Here(request)) => {
+            run_command(
+                alloc, request, ids, disk, input, out, spawner, folder, track,
+            )
+        }
         Ok(Job::Sync(server)) => run_sync(alloc, &server, disk, link, out),
         Ok(Job::Generate(line, settings)) => run_generate(alloc, &line, &settings, out),
         Err(error) => Cause::from(error),
@@ -55,7 +60,8 @@ fn run_words<D: Disk, L: Link, S: Source, O: Sink, P: Spawner, F: Folder, J: Dis
 /// writes a line on `err` for any other end than `Done`. The record is written before anything is printed. Only `sync` uses the link, and only
 /// `import` the input, of which it reads at most 67,108,864 bytes and one more. `_generate` is in memory, and leaves the disk as it was.
 /// The hooks that `spawner` runs see each task that a command makes or changes, and may change or refuse it; the record is written after them.
-/// The folder and the journal of hours are not used yet.
+/// If the setting `timetrack` is on, a command that changes tasks loads the hours that `folder` and `track` hold before it writes its record,
+/// and changes them after that, so that an interval is open for the task that was started last. No other command uses them.
 pub fn task_run<D: Disk, L: Link, S: Source, O: Sink, E: Sink, P: Spawner, F: Folder, J: Disk>(
     alloc: Global,
     words: &Vec<String>,
@@ -82,6 +88,10 @@ pub fn task_run<D: Disk, L: Link, S: Source, O: Sink, E: Sink, P: Spawner, F: Fo
         (went disk.old disk.new input.old input.new out.old out.new link.old link.new
         spawner.old spawner.new folder.old folder.new track.old track.new) result.cause }
 
+    // A command that drives intervals changes the hours once its record is written, and no other uses them.
+    ensures hours { RunDrives (models D.model S.model O.model L.model P.model F.model J.model) (asked_by words.now settings.now now zone.entry) ids.old
+        (went disk.old disk.new input.old input.new out.old out.new link.old link.new
+        spawner.old spawner.new folder.old folder.new track.old track.new) result.cause }
     ensures stays { KeepsState D.model disk.old disk.new result.cause }
 
     // A replica that agrees with the server's chain agrees with it after each run.

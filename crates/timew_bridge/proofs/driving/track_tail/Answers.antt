@@ -4,10 +4,10 @@ use Rattle.timew_bridge.proofs.driving.track_tail.Goals as goal
 
 pub returns-clause-tail : goal.returns-clause-tail
 returns-clause-tail c = record {
-  whole = c.requires.whole;
+  whole = c.requires.tail.whole;
   edit = record {
-    inside = c.requires.edit.inside;
-    are = driven_order c.args.tasks.now c.args.now.seconds c.args.edit.at c.args.edit.count c.args.edit.rows.items c.in_ok-rows.rows.items c.split_at.result.0.now c.args.rows.now c.args.now.in_years c.requires.whole (c.split_at.ensures.front ∙ ap (take c.args.edit.at) c.as_slice.ensures.value) c.in_ok-rows.ensures c.requires.edit.are;
+    inside = c.requires.tail.edit.inside;
+    are = driven_order c.requires.known.0 c.args.now.seconds c.args.edit.at c.args.edit.count c.args.edit.rows.items c.in_ok-rows.rows.items c.split_at.result.0.now c.args.rows.now c.args.now.in_years c.requires.tail.whole (c.split_at.ensures.front ∙ ap (take c.args.edit.at) c.as_slice.ensures.value) (c.in_ok-rows.ensures c.requires.known.0 c.requires.known.1) c.requires.tail.edit.are;
   };
-  closed = c.requires.closed;
+  closed = c.requires.tail.closed;
 }

@@ -18,3 +18,8 @@ pub returns-in-HookAnswer : goal.returns-in-HookAnswer
 returns-in-HookAnswer g c =
     subst (GotFault g.E.Sink.model c.args.err.now c.put_hook-in-HookAnswer.new.err) (sym c.in-HookAnswer.is)
     (subst (λ (name : List ℕ). GotLine g.E.Sink.model c.args.err.now c.put_hook-in-HookAnswer.new.err (codes "task: hook " ++ (name ++ codes " answered no task\n"))) c.as_str-in-HookAnswer.ensures c.put_hook-in-HookAnswer.ensures)
+
+pub returns-in-TrackBad : goal.returns-in-TrackBad
+returns-in-TrackBad g c =
+    subst (GotFault g.E.Sink.model c.args.err.now c.put_bad_line.new.err) (sym c.in-TrackBad.is)
+    (subst (λ (name : List ℕ). GotLine g.E.Sink.model c.args.err.now c.put_bad_line.new.err (numbered (codes "task: line ") c.in-TrackBad.line (codes " of ") ++ (name ++ codes " is no interval\n"))) c.as_str-in-TrackBad.ensures c.put_bad_line.ensures)

@@ -1,0 +1,168 @@
+// The hours that a command drives.
+ghost use Rattle.std.specs.Prelude.{◌≡◌, IfOk, IfErr};
+ghost use Rattle.tw_world.specs.Disk as tells;
+ghost use Rattle.tw_world.specs.Crash.{FaultsRise};
+ghost use Rattle.tw_model.specs.Ops.{TasksValue};
+ghost use Rattle.tw_replica.specs.Replica.{held_state};
+ghost use Rattle.tw_replica.specs.Prepared.{prepared_state};
+ghost use Rattle.timew_store.specs.Edit.{edited, IsEditOf};
+ghost use Rattle.timew_store.specs.Loading.{LeavesAlike};
+ghost use Rattle.timew_bridge.specs.Known.{AreDrivers};
+ghost use Rattle.tw_cli.specs.Driving.{driven, is_driving};
+ghost use Rattle.tw_cli.specs.Ready.{IsBefore, KnowsTasks, IsReadyChange, AreReady, ChangeRefused, HoursRefused, LeavesLoaded};
+ghost use Rattle.tw_cli.specs.Ready.{CanBeWritten, HoursEnd, HoursLeave};
+
+use crate::carry::CarryError;
+use std::alloc::Global;
+use std::mem::forget;
+use timew_bridge::{Drivers, tail_of, track_tail};
+use timew_store::{Edit, Intervals, PrepareError, PreparedChange, Store};
+use tw_commands::Request;
+use tw_model::Tasks;
+use tw_replica::{Prepared, Replica};
+use tw_world::{Disk, Folder, Memory, Moment};
+
+/// What intervals ask of the tasks before a command that drives them, and how many operations were pending then.
+pub(crate) struct Before {
+    pub(crate) drivers: Drivers,
+    pub(crate) pending: usize,
+}
+
+// It is written out, so that a caller does not prove again how each part is dropped.
+impl Drop for Before {
+    fn drop(self) {
+        let Before {
+            drivers: _,
+            pending: _,
+        } = self;
+    }
+}
+
+/// Whether a request drives intervals. It takes no memory.
+pub(crate) fn is_driving(request: &Request<'_>) -> bool
+    ensures { result ≡ is_driving request.now }
+{
+    request.settings.timetrack() && request.command.drives()
+}
+
+/// What intervals ask of the tasks of a replica, if a request drives them.
+pub(crate) fn asked_before(
+    alloc: Global,
+    request: &Request<'_>,
+    replica: &Replica,
+) -> Result<Option<Before>, Memory>
+    ensures { IfOk result (IsBefore request.now (held_state replica.now)) }
+{
+    if !is_driving(request) {
+        return Ok(None);
+    }
+    let drivers = Drivers::of(alloc, replica.tasks(), request.at)?;
+    Ok(Some(Before {
+        drivers,
+        pending: replica.pending().len(),
+    }))
+}
+
+// The edit by which the tasks before a command and those after it drive intervals.
+fn edit_by(
+    alloc: Global,
+    before: &Drivers,
+    after: &Tasks,
+    rows: &Intervals,
+    now: Moment,
+) -> Result<Edit, Memory>
+    requires { (tasks : TasksValue) × AreDrivers tasks now.seconds before.now }
+    ensures driven { IfOk result (λ e. (tasks : TasksValue) → AreDrivers tasks now.seconds before.now
+        → edited e rows.now ≡ driven tasks after.now rows.now now.seconds) }
+    ensures edit { IfOk result (IsEditOf rows.now) }
+{
+    let tail = tail_of(alloc, rows)?;
+    let edit = track_tail(alloc, before, rows, tail, now)?;
+    let after = Drivers::of(alloc, after, now)?;
+    track_tail(alloc, &after, rows, edit, now)
+}
+
+// Loads the hours, and prepares the change by which the tasks before a command and those after it drive them.
+fn load_change<F: Folder, J: Disk>(
+    alloc: Global,
+    now: Moment,
+    before: &Drivers,
+    after: &Tasks,
+    folder: &mut F,
+    track: &mut J,
+) -> Result<PreparedChange, CarryError>
+    requires { (tasks : TasksValue) × AreDrivers tasks now.seconds before.now }
+    ensures ready { IfOk result (IsReadyChange F.model J.model now.seconds before.now after.now folder.old folder.new track.old track.new) }
+    ensures refused { IfErr result (ChangeRefused F.model J.model folder.old folder.new track.old track.new now.seconds before.now after.now) }
+    ensures any_moment { LeavesAlike F.model J.model folder.old folder.new track.old track.new }
+    ensures folder { FaultsRise F.model folder.old folder.new }
+    ensures track { tells.FaultsRise J.model track.old track.new }
+{
+    let store = match Store::load(alloc, folder, track) {
+        Ok(store) => store,
+        Err(error) => return Err(CarryError::Load(error)),
+    };
+    let Ok(edit) = edit_by(alloc, before, after, store.intervals(), now) else {
+        return Err(CarryError::Memory);
+    };
+    match store.prepare(alloc, edit) {
+        Ok(change) => Ok(change),
+        Err(PrepareError::TooLong { bytes }) => Err(CarryError::HoursTooLong { bytes }),
+        Err(PrepareError::Memory) => Err(CarryError::Memory),
+        Err(PrepareError::Closed) => unreachable!(),
+    }
+}
+
+/// Makes the hours ready for the change that a command drives, or leaves them alone if it drives none or its step makes no operation and
+/// takes none back. All the memory that the change wants is taken here, and nothing of it is written.
+pub(crate) fn ready_hours<F: Folder, J: Disk>(
+    alloc: Global,
+    now: Moment,
+    before: &Option<Before>,
+    prepared: &Prepared,
+    folder: &mut F,
+    track: &mut J,
+) -> Result<Option<PreparedChange>, CarryError>
+    requires { KnowsTasks now.seconds before.now }
+    ensures ready { IfOk result (AreReady F.model J.model now.seconds before.now (prepared_state prepared.now) folder.old folder.new track.old track.new) }
+    ensures refused { IfErr result (HoursRefused F.model J.model folder.old folder.new track.old track.new
+        now.seconds before.now (prepared_state prepared.now).tasks) }
+    ensures any_moment { LeavesLoaded F.model J.model folder.old folder.new track.old track.new }
+    ensures folder { FaultsRise F.model folder.old folder.new }
+    ensures track { tells.FaultsRise J.model track.old track.new }
+{
+    let Some(before) = before else {
+        return Ok(None);
+    };
+    if before.pending == prepared.pending().len() {
+        return Ok(None);
+    }
+    match load_change(alloc, now, &before.drivers, prepared.tasks(), folder, track) {
+        Ok(change) => Ok(Some(change)),
+        Err(error) => Err(error),
+    }
+}
+
+/// Writes the change of the hours, if there is one. It takes no memory. Answers whether folder and journal did not fail.
+pub(crate) fn write_hours<F: Folder, J: Disk>(
+    change: Option<PreparedChange>,
+    folder: &mut F,
+    track: &mut J,
+) -> bool
+    requires { CanBeWritten J.model track.old change }
+    ensures ended { HoursEnd F.model J.model folder.old folder.new track.old track.new change result }
+    ensures any_moment { HoursLeave F.model J.model folder.old folder.new track.old track.new change }
+    ensures folder { FaultsRise F.model folder.old folder.new }
+    ensures track { tells.FaultsRise J.model track.old track.new }
+{
+    let Some(change) = change else {
+        return true;
+    };
+    match change.write(folder, track) {
+        Ok(store) => {
+            forget(store);
+            true
+        }
+        Err(_) => false,
+    }
+}
