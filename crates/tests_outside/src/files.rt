@@ -85,15 +85,20 @@ fn size_of<S: Folders>(system: &mut S, path: &str) -> io::Result<Option<u64>> {
     Ok(disk.size().ok())
 }
 
+// Whether a file is made and used by one at a time. It is removed before and after.
+fn is_used_by_one(rt: &HostRuntime, path: &str) -> io::Result<bool> {
+    let mut system = rt;
+    let _ = fs::remove_file(rt, path);
+    let is_made = is_made(&mut system, path)?;
+    let size = size_of(&mut system, path)?;
+    fs::remove_file(rt, path)?;
+    Ok(is_made && size == Some(3))
+}
+
 #[test]
 fn a_file_is_made_with_its_folders_and_used_by_one_at_a_time(rt: HostRuntime) -> Result<(), Fail> {
-    let mut system = &rt;
-    for path in ["a.journal", "two/deep/a.journal"] {
-        let _ = fs::remove_file(&rt, path);
-        assert!(rt; is_made(&mut system, path)?);
-        assert!(rt; size_of(&mut system, path)? == Some(3));
-        fs::remove_file(&rt, path)?;
-    }
+    assert!(rt; is_used_by_one(&rt, "a.journal")?);
+    assert!(rt; is_used_by_one(&rt, "two/deep/a.journal")?);
     fs::remove_dir(&rt, "two/deep")?;
     fs::remove_dir(&rt, "two")?;
     Ok(())
@@ -135,6 +140,15 @@ fn holds_two<F: Folder>(folder: &mut F, alloc: Global) -> Result<bool, Fail> {
     Ok(first & second & third & named & there & none)
 }
 
+// Removes two files and three folders, in which nothing else may be.
+fn remove_made(rt: &HostRuntime) -> io::Result<()> {
+    fs::remove_file(rt, "a_folder/deep/a")?;
+    fs::remove_file(rt, "a_folder/deep/b")?;
+    fs::remove_dir(rt, "a_folder/deep/d")?;
+    fs::remove_dir(rt, "a_folder/deep")?;
+    fs::remove_dir(rt, "a_folder")
+}
+
 #[test]
 fn a_folder_holds_what_is_put_into_it(rt: HostRuntime) -> Result<(), Fail> {
     let alloc = rt.alloc();
@@ -142,11 +156,6 @@ fn a_folder_holds_what_is_put_into_it(rt: HostRuntime) -> Result<(), Fail> {
     assert!(rt; holds_two(&mut folder, alloc)?);
     let _ = open_folder(alloc, &rt, "a_folder/deep/d")?;
     assert!(rt; holds(&mut folder, alloc, "d", None) == Err(FolderError::Failed));
-    for made in ["a_folder/deep/a", "a_folder/deep/b"] {
-        fs::remove_file(&rt, made)?;
-    }
-    for made in ["a_folder/deep/d", "a_folder/deep", "a_folder"] {
-        fs::remove_dir(&rt, made)?;
-    }
+    remove_made(&rt)?;
     Ok(())
 }

@@ -3,52 +3,62 @@ use std::collections::BTreeMap;
 use std::test::Fail;
 use tw_world::{Disk, IdWords, Memory, MemoryDisk, Moment, Text};
 
+const SEED: [u8; 32] = [
+    0, 1, 2, 3, 4, 5, 6, 7, 8, 9, 10, 11, 12, 13, 14, 15, 16, 17, 18, 19, 20, 21, 22, 23, 24, 25,
+    26, 27, 28, 29, 30, 30,
+];
+
+// The first and the second identifier of that seed.
+const DRAWN: [[u8; 16]; 2] = [
+    [0, 1, 2, 3, 4, 5, 0x46, 7, 0x88, 9, 10, 11, 12, 13, 14, 15],
+    [
+        16, 18, 20, 22, 24, 26, 0x4c, 30, 0xa0, 34, 36, 38, 40, 42, 44, 46,
+    ],
+];
+
 #[test]
 fn a_seed_draws_its_identifiers(rt: HostRuntime) {
-    let seed = [
-        0, 1, 2, 3, 4, 5, 6, 7, 8, 9, 10, 11, 12, 13, 14, 15, 16, 17, 18, 19, 20, 21, 22, 23, 24,
-        25, 26, 27, 28, 29, 30, 30,
-    ];
-    let mut words = IdWords::from_seed(seed);
-    let first = [0, 1, 2, 3, 4, 5, 0x46, 7, 0x88, 9, 10, 11, 12, 13, 14, 15];
-    assert_eq!(rt; words.next(), first);
-    let second = [
-        16, 18, 20, 22, 24, 26, 0x4c, 30, 0xa0, 34, 36, 38, 40, 42, 44, 46,
-    ];
-    assert_eq!(rt; words.next(), second);
+    let mut words = IdWords::from_seed(SEED);
+    let first = words.next();
+    let second = words.next();
+    assert!(rt; [first, second] == DRAWN);
 }
 
 #[test]
 fn a_moment_ends_before_the_year_9999(rt: HostRuntime) {
-    let table = [
-        (0, 0, true),
-        (253_370_764_799, 999_999_999, true),
-        (253_370_764_800, 0, false),
-        (0, 1_000_000_000, false),
-    ];
-    for (seconds, nanos, is) in table {
-        assert_eq!(rt;
-            Moment::new(seconds, nanos).is_some(),
-            is,
-            "{seconds} {nanos}"
-        );
-    }
+    let first = Moment::new(0, 0).is_some();
+    let last = Moment::new(253_370_764_799, 999_999_999).is_some();
+    assert!(rt; first && last);
+    let late = Moment::new(253_370_764_800, 0).is_none();
+    assert!(rt; late && Moment::new(0, 1_000_000_000).is_none());
 }
 
-// Short texts and long ones stand in one order, and a text is a key.
-#[test]
-fn texts_are_ordered_by_their_bytes(rt: HostRuntime) -> Result<(), Fail> {
-    let alloc = rt.alloc();
-    let rising = ["", "Tag", "tag_", "tag_of seventeen.", "tag_z", "tagé"];
+// Short texts and long ones, as they are ordered.
+const RISING: [&str; 6] = ["", "Tag", "tag_", "tag_of seventeen.", "tag_z", "tagé"];
+
+// The places of the texts by these.
+fn places(alloc: Global) -> Result<BTreeMap<Text, usize>, Memory> {
     let mut places = BTreeMap::new(alloc);
-    for (place, text) in rising.iter().enumerate().rev() {
+    for (place, text) in RISING.iter().enumerate().rev() {
         places.insert(Text::from_str(alloc, text)?, place)?;
     }
-    for ((text, place), want) in places.iter().zip(rising.iter()) {
-        assert_eq!(rt; text.as_str(), *want);
-        assert_eq!(rt; rising.get(*place).copied(), Some(*want));
+    Ok(places)
+}
+
+fn are_in_order(places: &BTreeMap<Text, usize>) -> bool {
+    for ((text, place), want) in places.iter().zip(RISING.iter()) {
+        if text.as_str() != *want || RISING.get(*place) != Some(want) {
+            return false;
+        }
     }
-    assert_eq!(rt; places.len(), rising.len());
+    places.len() == RISING.len()
+}
+
+// A text is a key.
+#[test]
+fn texts_are_ordered_by_their_bytes(rt: HostRuntime) -> Result<(), Fail> {
+    let places = places(rt.alloc())?;
+    assert!(rt; are_in_order(&places));
     Ok(())
 }
 
@@ -82,22 +92,31 @@ fn changed(alloc: Global) -> Result<MemoryDisk, Fail> {
 }
 
 // What each pick of an image holds after so many of these calls.
+const IMAGES: [(u64, u8, &[u8]); 9] = [
+    (0, 1, &[1, 2, 3, 4]),
+    (1, 0, &[1, 2, 3, 4]),
+    (1, 1, &[9, 9, 3, 4]),
+    (1, 2, &[255, 255, 3, 4]),
+    (2, 3, &[9, 9, 3, 4]),
+    (5, 0, &[9, 9, 3, 4]),
+    (5, 1, &[9, 7, 7, 8, 0]),
+    (5, 2, &[9, 255, 255, 8, 0]),
+    (5, 3, &[9, 255, 255, 4, 0]),
+];
+
+// How many of the images are as wanted, up to the first that is not.
+fn images_so_far(disk: &MemoryDisk) -> Result<usize, Memory> {
+    for (number, (calls, pick, want)) in IMAGES.iter().enumerate() {
+        if !has_image(disk, *calls, *pick, want)? {
+            return Ok(number);
+        }
+    }
+    Ok(IMAGES.len())
+}
+
 #[test]
 fn an_image_goes_by_its_pick(rt: HostRuntime) -> Result<(), Fail> {
     let disk = changed(rt.alloc())?;
-    let table = [
-        (0, 1, [1, 2, 3, 4].as_slice()),
-        (1, 0, [1, 2, 3, 4].as_slice()),
-        (1, 1, [9, 9, 3, 4].as_slice()),
-        (1, 2, [255, 255, 3, 4].as_slice()),
-        (2, 3, [9, 9, 3, 4].as_slice()),
-        (5, 0, [9, 9, 3, 4].as_slice()),
-        (5, 1, [9, 7, 7, 8, 0].as_slice()),
-        (5, 2, [9, 255, 255, 8, 0].as_slice()),
-        (5, 3, [9, 255, 255, 4, 0].as_slice()),
-    ];
-    for (calls, pick, want) in table {
-        assert!(rt; has_image(&disk, calls, pick, want)?, "{calls} {pick}");
-    }
+    assert_eq!(rt; images_so_far(&disk)?, IMAGES.len());
     Ok(())
 }

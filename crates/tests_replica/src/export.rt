@@ -178,9 +178,13 @@ const NAMES: [&str; 13] = [
     "wait",
 ];
 
+fn has_same_text(ours: &Value, theirs: &Value, name: &str) -> bool {
+    ours.get(name).and_then(Value::as_str) == theirs.get(name).and_then(Value::as_str)
+}
+
 fn is_same_object(ours: &Value, theirs: &Value) -> bool {
-    for name in NAMES {
-        if ours.get(name).and_then(Value::as_str) != theirs.get(name).and_then(Value::as_str) {
+    for name in &NAMES {
+        if !has_same_text(ours, theirs, name) {
             return false;
         }
     }

@@ -24,7 +24,7 @@ fn a_world_of_one_task_comes_to_its_numbers(rt: HostRuntime) -> Result<(), Fail>
 #[test]
 fn a_world_of_a_thousand_tasks_comes_to_its_numbers(rt: HostRuntime) -> Result<(), Fail> {
     let wanted =
-        b"tasks 1000, first segment 1191906 bytes, dropped 67, pushed 133, exports equal\n";
+        b"tasks 1000, first segment 1048452 bytes, dropped 67, pushed 133, exports equal\n";
     assert_eq!(rt; is_printed(rt.alloc(), 1000, wanted.as_slice())?, true);
     Ok(())
 }

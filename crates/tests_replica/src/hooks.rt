@@ -4,7 +4,7 @@ use std::test::Fail;
 use tw_hooks::{Ask, Event, HookError, run_all, run_hooks};
 use tw_model::TaskMap;
 use tw_spawn::MemorySpawner;
-use tw_world::Moment;
+use tw_world::{Memory, Moment};
 use uuid::Uuid;
 
 // 2023-11-14T22:13:20Z.
@@ -97,35 +97,53 @@ fn is_answered(
     }
 }
 
+// Whether hooks make a task of this text, and the last of so many runs was given this.
+fn makes(
+    alloc: Global,
+    hooks: &mut MemorySpawner,
+    event: Event,
+    text: &str,
+    runs: usize,
+    input: &str,
+) -> Result<bool, Fail> {
+    let answer = run(alloc, hooks, event)?;
+    let is_given = hooks.count() == runs
+        && hooks.input(runs.saturating_sub(1)) == Some(input.as_bytes());
+    Ok(is_given && is_answered(alloc, &answer, text)?)
+}
+
+fn adds_a_tag(alloc: Global, names: &[&str], runs: usize, input: &str) -> Result<bool, Fail> {
+    let mut hooks = hooks_of(alloc, names, &[(0, TAGGED)])?;
+    makes(alloc, &mut hooks, Event::Add, TAGGED_MILK, runs, input)
+}
+
 #[test]
 fn a_hook_may_add_a_tag(rt: HostRuntime) -> Result<(), Fail> {
-    let alloc = rt.alloc();
-    let mut hooks = hooks_of(alloc, &["on-add-tag"], &[(0, TAGGED)])?;
-    let answer = run(alloc, &mut hooks, Event::Add)?;
-    assert!(rt; is_answered(alloc, &answer, TAGGED_MILK)?);
-    assert!(rt; hooks.input(0) == Some(LINE.as_bytes()));
+    assert!(rt; adds_a_tag(rt.alloc(), &["on-add-tag"], 1, LINE)?);
     Ok(())
 }
 
 #[test]
 fn hooks_run_in_the_order_of_their_names(rt: HostRuntime) -> Result<(), Fail> {
-    let alloc = rt.alloc();
     let names = ["on-add-2", "on-modify", "on-add-1", "off-add"];
-    let mut hooks = hooks_of(alloc, &names, &[(0, TAGGED)])?;
-    let answer = run(alloc, &mut hooks, Event::Add)?;
-    assert!(rt; is_answered(alloc, &answer, TAGGED_MILK)?);
-    assert!(rt; hooks.count() == 2 && hooks.input(1) == Some(TAGGED.as_bytes()));
+    assert!(rt; adds_a_tag(rt.alloc(), &names, 2, TAGGED)?);
     Ok(())
+}
+
+// The lines of the first task without properties, and with them.
+fn two_lines(alloc: Global) -> Result<String, Memory> {
+    Ok(format!(in alloc; "{{\"uuid\":\"00000000-0000-4000-8000-000000000001\"}}\n{LINE}")?)
+}
+
+fn gives_two_lines(alloc: Global) -> Result<bool, Fail> {
+    let two = two_lines(alloc)?;
+    let mut hooks = hooks_of(alloc, &["on-modify"], &[])?;
+    makes(alloc, &mut hooks, Event::Modify, MILK, 1, two.as_str())
 }
 
 #[test]
 fn a_hook_of_a_change_is_given_two_lines(rt: HostRuntime) -> Result<(), Fail> {
-    let alloc = rt.alloc();
-    let mut hooks = hooks_of(alloc, &["on-modify"], &[])?;
-    let answer = run(alloc, &mut hooks, Event::Modify)?;
-    assert!(rt; is_answered(alloc, &answer, MILK)?);
-    let two = format!(in alloc; "{{\"uuid\":\"00000000-0000-4000-8000-000000000001\"}}\n{LINE}")?;
-    assert!(rt; hooks.input(0) == Some(two.as_str().as_bytes()));
+    assert!(rt; gives_two_lines(rt.alloc())?);
     Ok(())
 }
 
@@ -140,41 +158,62 @@ const NO_TASKS: [&str; 6] = [
     {\"description\":\"x\",\"uuid\":\"00000000-0000-4000-8000-000000000001\"}\n",
 ];
 
-#[test]
-fn an_answer_is_one_task_of_the_uuid(rt: HostRuntime) -> Result<(), Fail> {
-    let alloc = rt.alloc();
-    for output in NO_TASKS {
-        let mut hooks = hooks_of(alloc, &["on-add"], &[(0, output)])?;
-        match run(alloc, &mut hooks, Event::Add)? {
-            Err(HookError::Answer { name }) => assert!(rt; name.as_str() == "on-add"),
-            _ => return Err(Fail::from("an answer")),
+// Whether the answer of a hook with this output is refused.
+fn is_no_task(alloc: Global, output: &str) -> Result<bool, Fail> {
+    let mut hooks = hooks_of(alloc, &["on-add"], &[(0, output)])?;
+    let answer = run(alloc, &mut hooks, Event::Add)?;
+    Ok(match &answer {
+        Err(HookError::Answer { name }) => name.as_str() == "on-add",
+        _ => false,
+    })
+}
+
+// How many of the outputs are no task, up to the first that is one.
+fn no_tasks_so_far(alloc: Global) -> Result<usize, Fail> {
+    for (number, output) in NO_TASKS.iter().enumerate() {
+        if !is_no_task(alloc, output)? {
+            return Ok(number);
         }
     }
+    Ok(NO_TASKS.len())
+}
+
+#[test]
+fn an_answer_is_one_task_of_the_uuid(rt: HostRuntime) -> Result<(), Fail> {
+    assert_eq!(rt; no_tasks_so_far(rt.alloc())?, NO_TASKS.len());
     Ok(())
+}
+
+// Whether the hooks of two tasks make two, the first of them with a tag.
+fn makes_two(alloc: Global, hooks: &mut MemorySpawner) -> Result<bool, Fail> {
+    let wanted = task_of(alloc, TAGGED_MILK)?;
+    Ok(match run_two(alloc, hooks)? {
+        Ok(finals) => finals.len() == 2 && finals[0].is_same(&wanted),
+        Err(_) => false,
+    })
 }
 
 #[test]
 fn the_hooks_of_each_task_run_in_turn(rt: HostRuntime) -> Result<(), Fail> {
-    let alloc = rt.alloc();
-    let mut hooks = hooks_of(alloc, &["on-add"], &[(0, TAGGED)])?;
-    let Ok(finals) = run_two(alloc, &mut hooks)? else {
-        return Err(Fail::from("refused"));
-    };
-    let wanted = task_of(alloc, TAGGED_MILK)?;
-    assert!(rt; finals.len() == 2 && finals[0].is_same(&wanted));
+    let mut hooks = hooks_of(rt.alloc(), &["on-add"], &[(0, TAGGED)])?;
+    assert!(rt; makes_two(rt.alloc(), &mut hooks)?);
     assert!(rt; hooks.input(1) == Some(BREAD_LINE.as_bytes()));
     Ok(())
 }
 
+// Whether the second of two hooks refuses with the status 1.
+fn refuses_the_second(alloc: Global, hooks: &mut MemorySpawner) -> Result<bool, Fail> {
+    let answer = run_two(alloc, hooks)?;
+    let is_refused = match &answer {
+        Err(HookError::Refused { name, status }) => name.as_str() == "on-add" && *status == 1,
+        _ => false,
+    };
+    Ok(is_refused && hooks.count() == 2)
+}
+
 #[test]
 fn the_second_task_may_be_refused(rt: HostRuntime) -> Result<(), Fail> {
-    let alloc = rt.alloc();
-    let mut hooks = hooks_of(alloc, &["on-add"], &[(0, TAGGED), (1, BREAD_LINE)])?;
-    match run_two(alloc, &mut hooks)? {
-        Err(HookError::Refused { name, status }) => {
-            assert!(rt; name.as_str() == "on-add" && status == 1 && hooks.count() == 2);
-        }
-        _ => return Err(Fail::from("not refused")),
-    }
+    let mut hooks = hooks_of(rt.alloc(), &["on-add"], &[(0, TAGGED), (1, BREAD_LINE)])?;
+    assert!(rt; refuses_the_second(rt.alloc(), &mut hooks)?);
     Ok(())
 }

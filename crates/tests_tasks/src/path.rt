@@ -42,11 +42,19 @@ fn is_pulled(alloc: Global, row: &[&str; 4]) -> Result<bool, Memory> {
     Ok(left && carried && walker.at == Uuid::from_u128(7))
 }
 
+// How many of the rows are pulled as wanted, up to the first that is not.
+fn pulled_so_far(alloc: Global) -> Result<usize, Memory> {
+    for (number, row) in PULLED.iter().enumerate() {
+        if !is_pulled(alloc, row)? {
+            return Ok(number);
+        }
+    }
+    Ok(PULLED.len())
+}
+
 #[test]
 fn each_group_keeps_its_own_and_the_rest_is_carried(rt: HostRuntime) -> Result<(), Fail> {
-    for row in PULLED {
-        assert!(rt; is_pulled(rt.alloc(), &row)?, "{} over {}", row[0], row[1]);
-    }
+    assert_eq!(rt; pulled_so_far(rt.alloc())?, PULLED.len());
     Ok(())
 }
 
@@ -113,33 +121,38 @@ const BATCHES: [([usize; 3], usize, usize); 5] = [
     ([0, 0, 1], 3, 0),
 ];
 
+fn length_of(groups: &Vec<Vec<SyncOp>>) -> usize {
+    let mut length: usize = 0;
+    for group in groups {
+        length = length.saturating_add(group.len());
+    }
+    length
+}
+
+// Whether so many operations are sent first, and the others are left.
 fn is_first(alloc: Global, counts: &[usize], whole: usize, part: usize) -> Result<bool, Memory> {
     let mut left = groups_of_creates(alloc, counts)?;
+    let all = length_of(&left);
     let batch = first_batch(alloc, &left)?;
     let sent = batch.sent(alloc, &left)?.len();
     batch.take_from(&mut left)?;
-    let mut all: usize = sent;
-    for group in &left {
-        all = all.saturating_add(group.len());
+    let is_whole = sent.saturating_add(length_of(&left)) == all;
+    Ok(is_whole && batch.whole == whole && batch.part == part)
+}
+
+// How many of the batches are as wanted, up to the first that is not.
+fn batches_so_far(alloc: Global) -> Result<usize, Memory> {
+    for (number, (counts, whole, part)) in BATCHES.iter().enumerate() {
+        if !is_first(alloc, counts.as_slice(), *whole, *part)? {
+            return Ok(number);
+        }
     }
-    let mut had: usize = 0;
-    for count in counts {
-        had = had.saturating_add(*count);
-    }
-    Ok(batch.whole == whole && batch.part == part && all == had)
+    Ok(BATCHES.len())
 }
 
 #[test]
 fn whole_groups_are_sent_first_if_they_are_short(rt: HostRuntime) -> Result<(), Fail> {
-    for (counts, whole, part) in BATCHES {
-        assert!(rt;
-            is_first(rt.alloc(), counts.as_slice(), whole, part)?,
-            "of {}, {} and {}",
-            counts[0],
-            counts[1],
-            counts[2]
-        );
-    }
+    assert_eq!(rt; batches_so_far(rt.alloc())?, BATCHES.len());
     Ok(())
 }
 
@@ -189,35 +202,59 @@ fn generated(alloc: Global, count: u64) -> Result<Vec<Vec<SyncOp>>, Memory> {
     Ok(left)
 }
 
+fn put_update(
+    alloc: Global,
+    ops: &mut Vec<SyncOp>,
+    uuid: Uuid,
+    property: &str,
+    value: &str,
+) -> Result<(), Memory> {
+    let property = Text::from_str(alloc, property)?;
+    let value = Some(Text::from_str(alloc, value)?);
+    ops.push(SyncOp::Update {
+        uuid,
+        property,
+        value,
+        at: Moment {
+            seconds: 1_700_000_000,
+            nanos: 0,
+        },
+    })?;
+    Ok(())
+}
+
+// An update whose value is a number after these characters.
+fn put_number(
+    alloc: Global,
+    ops: &mut Vec<SyncOp>,
+    uuid: Uuid,
+    property: &str,
+    front: &str,
+    number: u64,
+) -> Result<(), Memory> {
+    let value = format!(in alloc; "{front}{number}")?;
+    put_update(alloc, ops, uuid, property, value.as_str())
+}
+
 fn put_generated(alloc: Global, n: u64, ops: &mut Vec<SyncOp>) -> Result<(), Memory> {
     let uuid = Uuid::from_u128(n as u128);
-    let name = format!(in alloc; "Task {}", n)?;
-    let due = format!(in alloc; "{}", 1_800_000_000 + 60 * (n % 10_000))?;
-    let entry = format!(in alloc; "{}", 1_700_000_000 + n % 10_000)?;
-    let project = format!(in alloc; "p{}", n % 10)?;
-    let properties = [
-        ("description", name.as_str()),
-        ("due", due.as_str()),
-        ("entry", entry.as_str()),
-        ("modified", entry.as_str()),
-        ("priority", "H"),
-        ("project", project.as_str()),
-        ("status", "pending"),
-        ("tag_a", ""),
-    ];
+    let entry = 1_700_000_000 + n % 10_000;
     ops.push(SyncOp::Create { uuid })?;
-    for (property, value) in properties {
-        ops.push(SyncOp::Update {
-            uuid,
-            property: Text::from_str(alloc, property)?,
-            value: Some(Text::from_str(alloc, value)?),
-            at: Moment {
-                seconds: 1_700_000_000,
-                nanos: 0,
-            },
-        })?;
-    }
-    Ok(())
+    put_number(alloc, ops, uuid, "description", "Task ", n)?;
+    put_number(
+        alloc,
+        ops,
+        uuid,
+        "due",
+        "",
+        1_800_000_000 + 60 * (n % 10_000),
+    )?;
+    put_number(alloc, ops, uuid, "entry", "", entry)?;
+    put_number(alloc, ops, uuid, "modified", "", entry)?;
+    put_update(alloc, ops, uuid, "priority", "H")?;
+    put_number(alloc, ops, uuid, "project", "p", n % 10)?;
+    put_update(alloc, ops, uuid, "status", "pending")?;
+    put_update(alloc, ops, uuid, "tag_a", "")
 }
 
 // How many operations are sent first of those that make a thousand tasks, and how long their segment is.

@@ -74,8 +74,8 @@ fn due_in_may(alloc: Global, tasks: &Tasks) -> Result<Vec<Uuid>, Memory> {
 }
 
 fn are_rents(uuids: &Vec<Uuid>) -> bool {
-    for (uuid, (rent, _, _)) in uuids.iter().zip(RENT) {
-        if *uuid != Uuid::from_u128(rent) {
+    for (uuid, (rent, _, _)) in uuids.iter().zip(RENT.iter()) {
+        if *uuid != Uuid::from_u128(*rent) {
             return false;
         }
     }
@@ -103,20 +103,21 @@ pub(crate) fn has_all(tasks: &Tasks, uuid: u128, properties: &[(&str, Option<&st
     true
 }
 
+// What each of the rents has.
+const OF_RENTS: [(&str, Option<&str>); 7] = [
+    ("description", Some("Rent")),
+    ("entry", Some("1777593600")),
+    ("mask", None),
+    ("modified", Some("1777593600")),
+    ("parent", Some("00000000-0000-4000-8000-000000000001")),
+    ("recur", Some("monthly")),
+    ("status", Some("pending")),
+];
+
 fn has_rents(tasks: &Tasks) -> bool {
-    for (uuid, number, due) in RENT {
-        let properties = [
-            ("description", Some("Rent")),
-            ("due", Some(due)),
-            ("entry", Some("1777593600")),
-            ("imask", Some(number)),
-            ("mask", None),
-            ("modified", Some("1777593600")),
-            ("parent", Some("00000000-0000-4000-8000-000000000001")),
-            ("recur", Some("monthly")),
-            ("status", Some("pending")),
-        ];
-        if !has_all(tasks, uuid, &properties) {
+    for (uuid, number, due) in &RENT {
+        let own = [("due", Some(*due)), ("imask", Some(*number))];
+        if !has_all(tasks, *uuid, &own) || !has_all(tasks, *uuid, &OF_RENTS) {
             return false;
         }
     }

@@ -45,7 +45,7 @@ const PROPERTIES: [(&str, &str); 4] = [
 fn added(alloc: Global, uuid: Uuid, at: Moment) -> Result<Vec<SyncOp>, Memory> {
     let mut ops = Vec::new(alloc);
     ops.push(SyncOp::Create { uuid })?;
-    for (property, value) in PROPERTIES {
+    for (property, value) in &PROPERTIES {
         ops.push(update(alloc, uuid, property, value, at)?)?;
     }
     Ok(ops)
@@ -134,14 +134,19 @@ const TEXTS: [(&str, Option<SegmentError>); 12] = [
     ),
 ];
 
+// How many of the texts are refused as wanted, up to the first that is not.
+fn texts_so_far(alloc: Global) -> usize {
+    for (number, (text, want)) in TEXTS.iter().enumerate() {
+        if read_segment(alloc, text.as_bytes()).err() != *want {
+            return number;
+        }
+    }
+    TEXTS.len()
+}
+
 #[test]
 fn other_texts_are_refused_by_their_first_fault(rt: HostRuntime) {
-    for (text, want) in TEXTS {
-        assert!(rt;
-            read_segment(rt.alloc(), text.as_bytes()).err() == want,
-            "at {text}"
-        );
-    }
+    assert_eq!(rt; texts_so_far(rt.alloc()), TEXTS.len());
 }
 
 // The moment of an update with this timestamp, where its segment is read.
@@ -192,16 +197,28 @@ const NO_MOMENTS: [&str; 17] = [
     "",
 ];
 
+// How many of the timestamps are those moments, up to the first that is not.
+fn moments_so_far(alloc: Global) -> Result<usize, Memory> {
+    for (number, (text, seconds, nanos)) in MOMENTS.iter().enumerate() {
+        if moment_of(alloc, text)? != Moment::new(*seconds, *nanos) {
+            return Ok(number);
+        }
+    }
+    Ok(MOMENTS.len())
+}
+
+fn no_moments_so_far(alloc: Global) -> Result<usize, Memory> {
+    for (number, text) in NO_MOMENTS.iter().enumerate() {
+        if moment_of(alloc, text)?.is_some() {
+            return Ok(number);
+        }
+    }
+    Ok(NO_MOMENTS.len())
+}
+
 #[test]
 fn timestamps_have_offsets_and_decimals(rt: HostRuntime) -> Result<(), Fail> {
-    for (text, seconds, nanos) in MOMENTS {
-        assert!(rt;
-            moment_of(rt.alloc(), text)? == Moment::new(seconds, nanos),
-            "at {text}"
-        );
-    }
-    for text in NO_MOMENTS {
-        assert!(rt; moment_of(rt.alloc(), text)?.is_none(), "at {text}");
-    }
+    assert_eq!(rt; moments_so_far(rt.alloc())?, MOMENTS.len());
+    assert_eq!(rt; no_moments_so_far(rt.alloc())?, NO_MOMENTS.len());
     Ok(())
 }

@@ -1,4 +1,4 @@
-use crate::model::task_of;
+use crate::model::{put_new, task_of};
 use std::alloc::Global;
 use std::test::Fail;
 use tw_model::{TaskMap, Tasks};
@@ -38,58 +38,64 @@ fn read(alloc: Global, bytes: &[u8]) -> Result<String, Memory> {
 const ONE: &str =
     "{\"00000000-0000-4000-8000-000000000001\":{\"description\":\"Buy milk\",\"entry\":\"1700000000\",\"modified\":\"1700000000\",\"status\":\"pending\"}}";
 
+const MILK: [(&str, &str); 4] = [
+    ("status", "pending"),
+    ("description", "Buy milk"),
+    ("modified", "1700000000"),
+    ("entry", "1700000000"),
+];
+
+fn milk(alloc: Global) -> Result<Tasks, Fail> {
+    let mut tasks = Tasks::new(alloc);
+    put_new(&mut tasks, uuid(1), task_of(alloc, &MILK)?)?;
+    Ok(tasks)
+}
+
+// Whether the snapshot of tasks is this text.
+fn is_written(alloc: Global, tasks: &Tasks, want: &str) -> Result<bool, Memory> {
+    Ok(match write_snapshot(alloc, tasks)? {
+        Some(text) => text.as_slice() == want.as_bytes(),
+        None => false,
+    })
+}
+
 #[test]
 fn the_snapshot_of_a_task_has_131_bytes(rt: HostRuntime) -> Result<(), Fail> {
-    let alloc = rt.alloc();
-    let mut tasks = Tasks::new(alloc);
-    let milk = task_of(
-        alloc,
-        &[
-            ("status", "pending"),
-            ("description", "Buy milk"),
-            ("modified", "1700000000"),
-            ("entry", "1700000000"),
-        ],
-    )?;
-    assert!(rt; tasks.insert(uuid(1), milk)?);
-    match write_snapshot(alloc, &tasks)? {
-        Some(text) => {
-            assert_eq!(rt; text.len(), 131);
-            assert_eq!(rt; text.as_slice(), ONE.as_bytes());
-        }
-        None => assert!(rt; false),
-    }
+    let tasks = milk(rt.alloc())?;
+    assert!(rt; ONE.len() == 131 && is_written(rt.alloc(), &tasks, ONE)?);
     Ok(())
+}
+
+const ODD: [(&str, &str); 3] = [
+    ("", "a \"b\" \\ \u{7}\n"),
+    ("caf\u{e9}", "\u{1f600}"),
+    ("dep_x", ""),
+];
+
+// A task with odd properties, and one without any.
+fn two_tasks(alloc: Global) -> Result<Tasks, Fail> {
+    let mut tasks = Tasks::new(alloc);
+    put_new(&mut tasks, uuid(255), task_of(alloc, &ODD)?)?;
+    put_new(&mut tasks, uuid(2), TaskMap::new(alloc))?;
+    Ok(tasks)
+}
+
+const TWO: &str = "{\"00000000-0000-4000-8000-000000000002\":{},\
+     \"00000000-0000-4000-8000-0000000000ff\":{\"\":\"a \\\"b\\\" \\\\ \\u0007\\n\",\
+     \"caf\u{e9}\":\"\u{1f600}\",\"dep_x\":\"\"}}";
+
+// Whether the two tasks are read from a text.
+fn are_read(alloc: Global, text: &str) -> Result<bool, Fail> {
+    let again = read(alloc, text.as_bytes())?;
+    let lines = lines_of(alloc, &Some(two_tasks(alloc)?))?;
+    Ok(again.as_str() == lines.as_str())
 }
 
 #[test]
 fn what_is_written_is_read_again(rt: HostRuntime) -> Result<(), Fail> {
     let alloc = rt.alloc();
-    let mut tasks = Tasks::new(alloc);
-    match write_snapshot(alloc, &tasks)? {
-        Some(text) => assert_eq!(rt; text.as_slice(), b"{}".as_slice()),
-        None => assert!(rt; false),
-    }
-    let odd = task_of(
-        alloc,
-        &[
-            ("", "a \"b\" \\ \u{7}\n"),
-            ("caf\u{e9}", "\u{1f600}"),
-            ("dep_x", ""),
-        ],
-    )?;
-    assert!(rt; tasks.insert(uuid(255), odd)?);
-    assert!(rt; tasks.insert(uuid(2), TaskMap::new(alloc))?);
-    let want = "{\"00000000-0000-4000-8000-000000000002\":{},\
-         \"00000000-0000-4000-8000-0000000000ff\":{\"\":\"a \\\"b\\\" \\\\ \\u0007\\n\",\
-         \"caf\u{e9}\":\"\u{1f600}\",\"dep_x\":\"\"}}";
-    let Some(text) = write_snapshot(alloc, &tasks)? else {
-        assert!(rt; false);
-        return Ok(());
-    };
-    assert_eq!(rt; text.as_slice(), want.as_bytes());
-    let again = read(alloc, text.as_slice())?;
-    assert_eq!(rt; again.as_str(), lines_of(alloc, &Some(tasks))?.as_str());
+    assert!(rt; is_written(alloc, &Tasks::new(alloc), "{}")?);
+    assert!(rt; is_written(alloc, &two_tasks(alloc)?, TWO)? && are_read(alloc, TWO)?);
     Ok(())
 }
 
@@ -166,14 +172,26 @@ const TEXTS: [(&str, &str); 30] = [
     ),
 ];
 
+fn is_read(alloc: Global, bytes: &[u8], want: &str) -> Result<bool, Fail> {
+    Ok(read(alloc, bytes)?.as_str() == want)
+}
+
+// How many of the texts are read as wanted, up to the first that is not.
+fn texts_so_far(alloc: Global) -> Result<usize, Fail> {
+    for (number, (text, want)) in TEXTS.iter().enumerate() {
+        if !is_read(alloc, text.as_bytes(), want)? {
+            return Ok(number);
+        }
+    }
+    Ok(TEXTS.len())
+}
+
+const NO_UTF8: &[u8] = b"{\"00000000-0000-4000-8000-000000000001\":{\"a\":\"\xff\"}}";
+
 #[test]
 fn bytes_are_read_as_tasks_or_as_none(rt: HostRuntime) -> Result<(), Fail> {
-    let alloc = rt.alloc();
-    for (text, want) in TEXTS {
-        assert_eq!(rt; read(alloc, text.as_bytes())?.as_str(), want, "of {text}");
-    }
-    let no_utf8 = b"{\"00000000-0000-4000-8000-000000000001\":{\"a\":\"\xff\"}}";
-    assert_eq!(rt; read(alloc, no_utf8)?.as_str(), "none");
+    assert_eq!(rt; texts_so_far(rt.alloc())?, TEXTS.len());
+    assert!(rt; is_read(rt.alloc(), NO_UTF8, "none")?);
     Ok(())
 }
 
@@ -188,17 +206,22 @@ fn long(alloc: Global, bytes: usize) -> Result<Tasks, Memory> {
     Ok(tasks)
 }
 
+// Whether a text of so many bytes is read as tasks, and as none with one byte more.
+fn is_longest(alloc: Global, text: &mut Vec<u8>) -> Result<bool, Memory> {
+    let is_whole = text.len() == 16_777_216 && read_snapshot(alloc, text.as_slice())?.is_some();
+    text.push(b' ')?;
+    Ok(is_whole && read_snapshot(alloc, text.as_slice())?.is_none())
+}
+
+// The snapshot of a task for so many bytes, if there is one.
+fn long_text(alloc: Global, bytes: usize) -> Result<Option<Vec<u8>>, Memory> {
+    write_snapshot(alloc, &long(alloc, bytes)?)
+}
+
 #[test]
 fn a_snapshot_has_at_most_16_777_216_bytes(rt: HostRuntime) -> Result<(), Fail> {
-    let alloc = rt.alloc();
-    let Some(mut text) = write_snapshot(alloc, &long(alloc, 16_777_216)?)? else {
-        assert!(rt; false);
-        return Ok(());
-    };
-    assert_eq!(rt; text.len(), 16_777_216);
-    assert!(rt; read_snapshot(alloc, text.as_slice())?.is_some());
-    text.push(b' ')?;
-    assert!(rt; read_snapshot(alloc, text.as_slice())?.is_none());
-    assert!(rt; write_snapshot(alloc, &long(alloc, 16_777_217)?)?.is_none());
+    let mut text = long_text(rt.alloc(), 16_777_216)?.ok_or("no snapshot")?;
+    assert!(rt; is_longest(rt.alloc(), &mut text)?);
+    assert!(rt; long_text(rt.alloc(), 16_777_217)?.is_none());
     Ok(())
 }

@@ -122,9 +122,9 @@ fn urgencies(alloc: Global, text: &str) -> Result<(i64, i64), Memory> {
 
 // The first task of another urgency.
 fn other_urgency(alloc: Global) -> Result<Option<&'static str>, Memory> {
-    for (text, by_default, by_odd) in URGENCIES {
-        if urgencies(alloc, text)? != (by_default, by_odd) {
-            return Ok(Some(text));
+    for (text, by_default, by_odd) in &URGENCIES {
+        if urgencies(alloc, text)? != (*by_default, *by_odd) {
+            return Ok(Some(*text));
         }
     }
     Ok(None)
@@ -200,8 +200,8 @@ const DEPENDENCIES: [(u128, &str, &[u128], bool, bool); 9] = [
 
 fn dependent(alloc: Global) -> Result<Tasks, Memory> {
     let mut tasks = Tasks::new(alloc);
-    for (number, text, _, _, _) in DEPENDENCIES {
-        let _ = tasks.insert(numbered(number), task_of(alloc, text)?)?;
+    for (number, text, _, _, _) in &DEPENDENCIES {
+        let _ = tasks.insert(numbered(*number), task_of(alloc, text)?)?;
     }
     Ok(tasks)
 }
@@ -227,12 +227,10 @@ const OTHERS: [u128; 10] = [1, 2, 3, 4, 5, 6, 7, 8, 9, 0x88];
 // Whether dependencies lead from a task to these others alone, by both ways to ask for that.
 fn leads_to(alloc: Global, tasks: &Tasks, from: u128, leads: &[u128]) -> Result<bool, Memory> {
     let met = reached(alloc, tasks, numbered(from))?;
-    for other in OTHERS {
-        let is_led = leads.contains(&other);
-        if met.contains(&numbered(other)) != is_led {
-            return Ok(false);
-        }
-        if closes(alloc, tasks, other, from)? != is_led {
+    for other in &OTHERS {
+        let is_led = leads.contains(other);
+        let is_met = met.contains(&numbered(*other)) == is_led;
+        if !is_met || closes(alloc, tasks, *other, from)? != is_led {
             return Ok(false);
         }
     }
@@ -241,10 +239,11 @@ fn leads_to(alloc: Global, tasks: &Tasks, from: u128, leads: &[u128]) -> Result<
 
 // The first task that leads to others than these, or of which is said otherwise whether it is blocked or blocking.
 fn other_dependent(alloc: Global, tasks: &Tasks) -> Result<Option<u128>, Memory> {
-    for (number, _, leads, is_blocked, is_blocking) in DEPENDENCIES {
-        let blocks = blocks(alloc, tasks, number)? == (is_blocked, is_blocking, is_blocking);
-        if !blocks || !leads_to(alloc, tasks, number, leads)? {
-            return Ok(Some(number));
+    for (number, _, leads, is_blocked, is_blocking) in &DEPENDENCIES {
+        let wanted = (*is_blocked, *is_blocking, *is_blocking);
+        let is_said = blocks(alloc, tasks, *number)? == wanted;
+        if !is_said || !leads_to(alloc, tasks, *number, leads)? {
+            return Ok(Some(*number));
         }
     }
     Ok(None)

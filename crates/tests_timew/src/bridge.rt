@@ -1,6 +1,6 @@
 use std::alloc::Global;
 use std::test::Fail;
-use timew_bridge::{tail_of, track, track_tail};
+use timew_bridge::{Drivers, tail_of, track, track_tail};
 use timew_store::{Intervals, read_month, write_month};
 use tw_model::{TaskMap, Tasks};
 use tw_world::Moment;
@@ -155,8 +155,10 @@ fn intervals_follow_tasks(rt: HostRuntime) -> Result<(), Fail> {
 fn are_one_edit(alloc: Global, before: &Tasks, after: &Tasks) -> Result<bool, Fail> {
     let rows = read(alloc, OPEN)?;
     let now = moment(160)?;
-    let edit = track_tail(alloc, before, &rows, tail_of(alloc, &rows)?, now)?;
-    let edit = track_tail(alloc, after, &rows, edit, now)?;
+    let before = Drivers::of(alloc, before, now)?;
+    let after = Drivers::of(alloc, after, now)?;
+    let edit = track_tail(alloc, &before, &rows, tail_of(alloc, &rows)?, now)?;
+    let edit = track_tail(alloc, &after, &rows, edit, now)?;
     Ok(text_of(alloc, &rows.edited(edit)?)?.as_slice() == ENDED.as_bytes())
 }
 

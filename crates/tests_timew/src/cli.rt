@@ -223,12 +223,20 @@ const LINES: [(&str, &str, &str); 18] = [
     ),
 ];
 
+// How many of the lines say and leave what is wanted, up to the first that does not.
+fn lines_so_far(machine: &mut Machine) -> Result<usize, Fail> {
+    for (number, (line, want, file)) in LINES.iter().enumerate() {
+        if !machine.leaves(line, want, file)? {
+            return Ok(number);
+        }
+    }
+    Ok(LINES.len())
+}
+
 #[test]
 fn lines_one_after_another(rt: HostRuntime) -> Result<(), Fail> {
     let mut machine = empty(rt.alloc())?;
-    for (line, want, file) in LINES {
-        assert!(rt; machine.leaves(line, want, file)?, "{line}");
-    }
+    assert_eq!(rt; lines_so_far(&mut machine)?, LINES.len());
     Ok(())
 }
 
@@ -251,11 +259,18 @@ fn is_undone(alloc: Global, text: &str, want: &str) -> Result<bool, Fail> {
     machine.tells("undo", want)
 }
 
+fn edited_so_far(alloc: Global) -> Result<usize, Fail> {
+    for (number, (text, want)) in EDITED.iter().enumerate() {
+        if !is_undone(alloc, text, want)? {
+            return Ok(number);
+        }
+    }
+    Ok(EDITED.len())
+}
+
 #[test]
 fn a_file_was_changed_by_hand(rt: HostRuntime) -> Result<(), Fail> {
-    for (text, want) in EDITED {
-        assert!(rt; is_undone(rt.alloc(), text, want)?, "{want}");
-    }
+    assert_eq!(rt; edited_so_far(rt.alloc())?, EDITED.len());
     Ok(())
 }
 
@@ -287,11 +302,18 @@ fn is_told(
     Ok(machine.told_over("split @1", out_fails)?.as_str() == want)
 }
 
+fn failing_so_far(alloc: Global) -> Result<usize, Fail> {
+    for (number, (folder, disk, out, want)) in FAILING.iter().enumerate() {
+        if !is_told(alloc, folder, disk, out, want)? {
+            return Ok(number);
+        }
+    }
+    Ok(FAILING.len())
+}
+
 #[test]
 fn what_fails_is_told(rt: HostRuntime) -> Result<(), Fail> {
-    for (folder, disk, out, want) in FAILING {
-        assert!(rt; is_told(rt.alloc(), folder, disk, out, want)?, "{want}");
-    }
+    assert_eq!(rt; failing_so_far(rt.alloc())?, FAILING.len());
     Ok(())
 }
 

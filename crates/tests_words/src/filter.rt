@@ -72,22 +72,25 @@ fn task_of(alloc: Global, text: &str) -> Result<TaskMap, Memory> {
 
 fn made_tasks(alloc: Global) -> Result<Tasks, Memory> {
     let mut tasks = Tasks::new(alloc);
-    for (digits, text) in TASKS {
+    for (digits, text) in &TASKS {
         let task = task_of(alloc, text)?;
-        let _ = tasks.insert(uuid_ending(digits), task)?;
+        let _ = tasks.insert(uuid_ending(*digits), task)?;
     }
     Ok(tasks)
 }
 
+fn place_of(digits: u8) -> Option<Uuid> {
+    if digits == 0 {
+        None
+    } else {
+        Some(uuid_ending(digits))
+    }
+}
+
 fn made_places(alloc: Global) -> Result<Vec<Option<Uuid>>, Memory> {
     let mut places = Vec::new(alloc);
-    for digits in PLACES {
-        let place = if digits == 0 {
-            None
-        } else {
-            Some(uuid_ending(digits))
-        };
-        places.push(place)?;
+    for digits in &PLACES {
+        places.push(place_of(*digits))?;
     }
     Ok(places)
 }
@@ -176,9 +179,9 @@ fn selected(
 // The last digits of the tasks for which a filter holds alone.
 fn digits_alone(alloc: Global, filter: &Filter, view: &View<'_>) -> Result<String, Fail> {
     let mut digits = String::new(alloc);
-    for (number, _) in TASKS {
-        if holds_alone(filter, view, uuid_ending(number)) {
-            digits.push(char::from_digit(u32::from(number), 10).ok_or("no digit")?)?;
+    for (number, _) in &TASKS {
+        if holds_alone(filter, view, uuid_ending(*number)) {
+            digits.push(char::from_digit(u32::from(*number), 10).ok_or("no digit")?)?;
         }
     }
     Ok(digits)
@@ -186,8 +189,8 @@ fn digits_alone(alloc: Global, filter: &Filter, view: &View<'_>) -> Result<Strin
 
 // Whether each task is among the chosen where the filter holds for it alone.
 fn are_those_alone(chosen: &BTreeSet<Uuid>, filter: &Filter, view: &View<'_>) -> bool {
-    for (number, _) in TASKS {
-        let uuid = uuid_ending(number);
+    for (number, _) in &TASKS {
+        let uuid = uuid_ending(*number);
         if holds_alone(filter, view, uuid) != chosen.contains(&uuid) {
             return false;
         }
@@ -330,17 +333,20 @@ fn nested(alloc: Global, depth: u64) -> Result<Vec<String>, Memory> {
     Ok(words)
 }
 
+fn push_words(alloc: Global, words: &mut Vec<String>, more: &[&str]) -> Result<(), Memory> {
+    for word in more {
+        words.push(String::from_str(alloc, word)?)?;
+    }
+    Ok(())
+}
+
 // Words of five thousand tasks that are not blocked, and these after them.
 fn many(alloc: Global, behind: &[&str]) -> Result<Vec<String>, Memory> {
     let mut words = Vec::new(alloc);
     for _ in 0..5_000 {
-        for word in ["!", "+BLOCKED"] {
-            words.push(String::from_str(alloc, word)?)?;
-        }
+        push_words(alloc, &mut words, &["!", "+BLOCKED"])?;
     }
-    for word in behind {
-        words.push(String::from_str(alloc, word)?)?;
-    }
+    push_words(alloc, &mut words, behind)?;
     Ok(words)
 }
 
@@ -367,20 +373,17 @@ fn is_long_answered(alloc: Global) -> Result<bool, Fail> {
     Ok(whole && broken)
 }
 
-// The first depth that is answered otherwise.
-fn other_depth(alloc: Global) -> Result<Option<u64>, Fail> {
-    for (depth, want) in [(1, "3"), (100, "3"), (101, "Bracket 100")] {
-        if !are_answered(alloc, &nested(alloc, depth)?, want)? {
-            return Ok(Some(depth));
-        }
-    }
-    Ok(None)
+// Whether so many brackets are answered so.
+fn is_nested_answered(alloc: Global, depth: u64, want: &str) -> Result<bool, Fail> {
+    let words = nested(alloc, depth)?;
+    are_answered(alloc, &words, want)
 }
 
 #[test]
 fn ten_thousand_words_and_a_hundred_brackets_are_read(rt: HostRuntime) -> Result<(), Fail> {
     let alloc = rt.alloc();
     assert!(rt; is_long_answered(alloc)?);
-    assert_eq!(rt; other_depth(alloc)?, None);
+    assert!(rt; is_nested_answered(alloc, 1, "3")? && is_nested_answered(alloc, 100, "3")?);
+    assert!(rt; is_nested_answered(alloc, 101, "Bracket 100")?);
     Ok(())
 }

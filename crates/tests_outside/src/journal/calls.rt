@@ -50,15 +50,21 @@ fn an_added_record_is_found_at_once_if_there_was_room(rt: HostRuntime) -> Result
     Ok(())
 }
 
+// A record whose body has so many of one byte.
+fn push_record(alloc: Global, out: &mut Vec<u8>, size: u32, fill: u8) -> Result<(), Fail> {
+    let body = vec![in alloc; fill; size as usize]?;
+    out.push(1)?;
+    out.extend_from_slice(&size.to_be_bytes())?;
+    out.extend_from_slice(&body)?;
+    Ok(())
+}
+
 // A file with a body of each of these sizes, filled with 1, with 2, and so on.
 fn file_of(alloc: Global, sizes: &[u32]) -> Result<Vec<u8>, Fail> {
     let mut content = ROW.to_vec(alloc)?;
     let mut fill = 1u8;
     for size in sizes {
-        content.push(1)?;
-        content.extend_from_slice(&size.to_be_bytes())?;
-        let body = vec![in alloc; fill; *size as usize]?;
-        content.extend_from_slice(&body)?;
+        push_record(alloc, &mut content, *size, fill)?;
         fill = fill.wrapping_add(1);
     }
     Ok(content)
@@ -177,19 +183,19 @@ fn reads_of_opening(alloc: Global, sizes: &[u32]) -> Result<(u64, u64), Fail> {
     Ok((disk.reads, disk.bytes))
 }
 
+// The same of so many bodies of one size.
+fn reads_of_alike(alloc: Global, size: u32, count: usize) -> Result<(u64, u64), Fail> {
+    let sizes = vec![in alloc; size; count]?;
+    reads_of_opening(alloc, sizes.as_slice())
+}
+
 // Behind a body of more than 4,096 bytes a head is read by a piece of 512. The first read is that of the form, of 29 bytes.
 #[test]
 fn long_bodies_are_leapt_over(rt: HostRuntime) -> Result<(), Fail> {
     let alloc = rt.alloc();
-    let table = [
-        ([4_096; 100].as_slice(), 8, 409_649),
-        ([4_097; 100].as_slice(), 86, 108_573),
-        ([16_384; 100].as_slice(), 98, 114_717),
-        ([80_000; 40].as_slice(), 41, 85_533),
-    ];
-    for (sizes, reads, bytes) in table {
-        let found = reads_of_opening(alloc, sizes)?;
-        assert_eq!(rt; found, (reads, bytes), "{} bodies", sizes.len());
-    }
+    assert!(rt; reads_of_alike(alloc, 4_096, 100)? == (8, 409_649));
+    assert!(rt; reads_of_alike(alloc, 4_097, 100)? == (86, 108_573));
+    assert!(rt; reads_of_alike(alloc, 16_384, 100)? == (98, 114_717));
+    assert!(rt; reads_of_alike(alloc, 80_000, 40)? == (41, 85_533));
     Ok(())
 }

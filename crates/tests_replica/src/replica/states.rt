@@ -44,6 +44,14 @@ fn put_tasks(out: &mut Vec<u8>, tasks: &[u8]) -> Result<(), Memory> {
     Ok(())
 }
 
+// A state at version 9 up to its pending operations.
+fn put_state(out: &mut Vec<u8>, places: &[Option<u8>], tasks: &[u8]) -> Result<(), Memory> {
+    out.push(5)?;
+    out.extend_from_slice(&[9; 16])?;
+    put_places(out, places)?;
+    put_tasks(out, tasks)
+}
+
 // The body of a state at version 9, with so many pending operations in these bytes.
 fn state(
     alloc: Global,
@@ -53,10 +61,7 @@ fn state(
     ops: &[u8],
 ) -> Result<Vec<u8>, Memory> {
     let mut body = Vec::new(alloc);
-    body.push(5)?;
-    body.extend_from_slice(&[9; 16])?;
-    put_places(&mut body, places)?;
-    put_tasks(&mut body, tasks)?;
+    put_state(&mut body, places, tasks)?;
     put_number(&mut body, count)?;
     body.extend_from_slice(ops)?;
     Ok(body)
@@ -98,44 +103,44 @@ fn a_state_takes_the_place_of_what_was_there(rt: HostRuntime) -> Result<(), Fail
     Ok(())
 }
 
-// Pending operations with their number behind places and tasks.
-type State = (&'static [Option<u8>], &'static [u8], usize, &'static [u8]);
-
-// Why a file is not opened that has this state behind its first record.
-fn refusal(alloc: Global, row: &State) -> Result<Option<OpenError>, Memory> {
-    let (places, tasks, count, ops) = *row;
+// Whether a file is damaged that has such a state behind its first record.
+fn is_damaged(
+    alloc: Global,
+    places: &[Option<u8>],
+    tasks: &[u8],
+    count: usize,
+    ops: &[u8],
+) -> Result<bool, Memory> {
     let body = state(alloc, places, tasks, count, ops)?;
     let mut disk = with_record(alloc, &ADDED[..13], &body)?;
-    Ok(Replica::open(alloc, &mut disk).err())
+    Ok(Replica::open(alloc, &mut disk).err() == Some(OpenError::Damaged { offset: 13 }))
 }
 
-// Whether none of these is opened, since it is damaged.
-fn are_damaged(alloc: Global, rows: &[State]) -> Result<bool, Memory> {
-    for row in rows {
-        if refusal(alloc, row)? != Some(OpenError::Damaged { offset: 13 }) {
-            return Ok(false);
-        }
-    }
-    Ok(true)
+// Pending operations that do not begin with an undo point, that do not fit, that are longer than their number, and shorter.
+fn are_operations_damaged(alloc: Global) -> Result<bool, Memory> {
+    let add = &ADDED[24..];
+    Ok(
+        is_damaged(alloc, &PLACES, &[8], 2, &ADDED[25..])?
+            && is_damaged(alloc, &[Some(7)], &[7], 2, &ADDED[24..42])?
+            && is_damaged(alloc, &PLACES, &[8], 2, add)?
+            && is_damaged(alloc, &PLACES, &[8], 4, add)?,
+    )
 }
 
-// Each row is places, tasks, and pending operations with their number: pending that does not begin with an undo point,
-// that does not fit, that is longer than it counts, and shorter; a uuid at two places, at the place of no task, an open
-// task without a place; tasks whose uuids fall, and one that stands twice.
+// A uuid at two places, at the place of no task, an open task without a place; tasks whose uuids fall, and one that stands twice.
+fn are_places_damaged(alloc: Global) -> Result<bool, Memory> {
+    Ok(
+        is_damaged(alloc, &[Some(8), Some(8)], &[8], 0, &[])?
+            && is_damaged(alloc, &[Some(8), Some(6)], &[8], 0, &[])?
+            && is_damaged(alloc, &[None], &[8], 0, &[])?
+            && is_damaged(alloc, &[Some(7), Some(8)], &[8, 7], 0, &[])?
+            && is_damaged(alloc, &[Some(8)], &[8, 8], 0, &[])?,
+    )
+}
+
 #[test]
 fn a_state_that_is_not_sound_is_damaged(rt: HostRuntime) -> Result<(), Fail> {
-    let (add, make) = (&ADDED[24..], &ADDED[24..42]);
-    let table: [State; 9] = [
-        (&PLACES, &[8], 2, &ADDED[25..]),
-        (&[Some(7)], &[7], 2, make),
-        (&PLACES, &[8], 2, add),
-        (&PLACES, &[8], 4, add),
-        (&[Some(8), Some(8)], &[8], 0, &[]),
-        (&[Some(8), Some(6)], &[8], 0, &[]),
-        (&[None], &[8], 0, &[]),
-        (&[Some(7), Some(8)], &[8, 7], 0, &[]),
-        (&[Some(8)], &[8, 8], 0, &[]),
-    ];
-    assert!(rt; are_damaged(rt.alloc(), &table)?);
+    assert!(rt; are_operations_damaged(rt.alloc())?);
+    assert!(rt; are_places_damaged(rt.alloc())?);
     Ok(())
 }

@@ -64,23 +64,23 @@ fn a_sync_in_place_writes_what_it_carried(rt: HostRuntime) -> Result<(), Fail> {
     Ok(())
 }
 
-// Whether none of these is opened over an empty replica, since it is damaged.
-fn are_damaged(alloc: Global, rows: &[&[u8]]) -> Result<bool, Memory> {
-    for records in rows {
-        if refusal(alloc, records)? != Some(OpenError::Damaged { offset: 13 }) {
-            return Ok(false);
-        }
-    }
-    Ok(true)
+// Whether these records are damaged over an empty replica.
+fn is_damaged(alloc: Global, records: &[u8]) -> Result<bool, Memory> {
+    Ok(refusal(alloc, records)? == Some(OpenError::Damaged { offset: 13 }))
+}
+
+// The same of the record that carried nothing, if it counts one operation.
+fn is_longer_damaged(alloc: Global) -> Result<bool, Memory> {
+    let mut record = Vec::new(alloc);
+    record.extend_from_slice(&NOTHING[..25])?;
+    record.push(1)?;
+    is_damaged(alloc, record.as_slice())
 }
 
 // What was carried that does not fit, and fewer operations than are counted.
 #[test]
 fn a_record_of_a_sync_that_does_not_fit_is_damaged(rt: HostRuntime) -> Result<(), Fail> {
-    let mut longer = NOTHING;
-    longer[25] = 1;
-    let table: [&[u8]; 2] = [&CARRIED, &longer];
-    assert!(rt; are_damaged(rt.alloc(), &table)?);
+    assert!(rt; is_damaged(rt.alloc(), &CARRIED)? && is_longer_damaged(rt.alloc())?);
     Ok(())
 }
 
@@ -157,53 +157,44 @@ fn a_sync_that_is_cut_short_keeps_what_is_pending(rt: HostRuntime) -> Result<(),
     Ok(())
 }
 
-// Operations with their number.
-type Row = (u8, &'static [u8], &'static [u8]);
-
-// Whether a record with each of these is damaged behind the added task.
-fn are_refused(alloc: Global, rows: &[Row]) -> Result<bool, Memory> {
-    for row in rows {
-        let (size, ops, pending) = *row;
-        let bytes = cut_short(alloc, size, ops, pending)?;
-        let mut disk = disk_of(alloc, bytes.as_slice())?;
-        if Replica::open(alloc, &mut disk).err() != Some(OpenError::Damaged { offset: 94 }) {
-            return Ok(false);
-        }
-    }
-    Ok(true)
+// Whether a record with these operations, carried and pending, is damaged behind the added task.
+fn is_refused(alloc: Global, size: u8, ops: &[u8], pending: &[u8]) -> Result<bool, Memory> {
+    let bytes = cut_short(alloc, size, ops, pending)?;
+    let mut disk = disk_of(alloc, bytes.as_slice())?;
+    Ok(Replica::open(alloc, &mut disk).err() == Some(OpenError::Damaged { offset: 94 }))
 }
 
-// Each row is what was carried, and what is pending: old values of before what was carried, no undo point first, a task that is
-// not there, a task carried that is there, a byte that is left over.
+// One operation, which creates a task that is not there, and the same after an undo point.
+const CREATED: [u8; 21] = [
+    0, 0, 0, 1, 1, 5, 5, 5, 5, 5, 5, 5, 5, 5, 5, 5, 5, 5, 5, 5, 5,
+];
+
+const AFTER_POINT: [u8; 22] = [
+    0, 0, 0, 2, 4, 1, 5, 5, 5, 5, 5, 5, 5, 5, 5, 5, 5, 5, 5, 5, 5, 5,
+];
+
+// One operation, which creates the added task.
+const AGAIN: [u8; 21] = [
+    0, 0, 0, 1, 1, 7, 7, 7, 7, 7, 7, 7, 7, 7, 7, 7, 7, 7, 7, 7, 7,
+];
+
+// Old values of before what was carried, a task carried that is there, a byte that is left over.
+fn are_carried_refused(alloc: Global) -> Result<bool, Memory> {
+    let pending = &ADDED[20..];
+    Ok(
+        is_refused(alloc, 146, &STATUS, pending)?
+            && is_refused(alloc, 112, &AGAIN, pending)?
+            && is_refused(alloc, 43, &OTHER, &[0, 0, 0, 0, 4])?,
+    )
+}
+
 #[test]
 fn pending_operations_that_do_not_lead_to_the_tasks_are_damaged(
     rt: HostRuntime,
 ) -> Result<(), Fail> {
-    let table: [Row; 5] = [
-        (146, &STATUS, &ADDED[20..]),
-        (
-            59,
-            &OTHER,
-            &[
-                0, 0, 0, 1, 1, 5, 5, 5, 5, 5, 5, 5, 5, 5, 5, 5, 5, 5, 5, 5, 5,
-            ],
-        ),
-        (
-            60,
-            &OTHER,
-            &[
-                0, 0, 0, 2, 4, 1, 5, 5, 5, 5, 5, 5, 5, 5, 5, 5, 5, 5, 5, 5, 5, 5,
-            ],
-        ),
-        (
-            112,
-            &[
-                0, 0, 0, 1, 1, 7, 7, 7, 7, 7, 7, 7, 7, 7, 7, 7, 7, 7, 7, 7, 7,
-            ],
-            &ADDED[20..],
-        ),
-        (43, &OTHER, &[0, 0, 0, 0, 4]),
-    ];
-    assert!(rt; are_refused(rt.alloc(), &table)?);
+    assert!(rt; are_carried_refused(rt.alloc())?);
+    // no undo point first, a task that is not there
+    assert!(rt; is_refused(rt.alloc(), 59, &OTHER, &CREATED)?);
+    assert!(rt; is_refused(rt.alloc(), 60, &OTHER, &AFTER_POINT)?);
     Ok(())
 }

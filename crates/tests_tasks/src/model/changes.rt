@@ -1,4 +1,4 @@
-use crate::model::{is_left, moment, task_of};
+use crate::model::{is_left, moment, put_new, task_of};
 use std::alloc::Global;
 use std::test::Fail;
 use tw_model::{Change, Op, Tasks, make};
@@ -24,19 +24,27 @@ fn change(alloc: Global, uuid: Uuid, pairs: Option<&[(&str, &str)]>) -> Result<C
     Ok(Change { uuid, task })
 }
 
+const COMPLETED: [(&str, &str); 2] = [("status", "completed"), ("wait", "2")];
+
+// Makes a change, and puts its operations behind the others.
+fn put(
+    alloc: Global,
+    tasks: &mut Tasks,
+    ops: &mut Vec<Op>,
+    uuid: Uuid,
+    pairs: Option<&[(&str, &str)]>,
+) -> Result<(), Memory> {
+    let change = change(alloc, uuid, pairs)?;
+    make(alloc, tasks, ops, change, moment())
+}
+
 // The operations of changes of two tasks, of which the first is there with a status and a project.
 fn changed(alloc: Global, tasks: &mut Tasks, here: Uuid, new: Uuid) -> Result<Vec<Op>, Memory> {
-    let rows: [(Uuid, Option<&[(&str, &str)]>); 4] = [
-        (new, Some(&[("status", "pending")])),
-        (here, Some(&[("status", "completed"), ("wait", "2")])),
-        (here, None),
-        (here, None),
-    ];
     let mut ops = Vec::new(alloc);
-    for (uuid, pairs) in rows {
-        let change = change(alloc, uuid, pairs)?;
-        make(alloc, tasks, &mut ops, change, moment())?;
-    }
+    put(alloc, tasks, &mut ops, new, Some(&[("status", "pending")]))?;
+    put(alloc, tasks, &mut ops, here, Some(&COMPLETED))?;
+    put(alloc, tasks, &mut ops, here, None)?;
+    put(alloc, tasks, &mut ops, here, None)?;
     Ok(ops)
 }
 
@@ -49,18 +57,29 @@ const DEEDS: [(&str, &str); 6] = [
     ("delete", ""),
 ];
 
+fn are_deeds(ops: &Vec<Op>) -> bool {
+    for (op, want) in ops.iter().zip(DEEDS.iter()) {
+        if deed(op) != *want {
+            return false;
+        }
+    }
+    ops.len() == DEEDS.len()
+}
+
+// A task with a status and a project.
+fn one_task(alloc: Global, here: Uuid) -> Result<Tasks, Fail> {
+    let mut tasks = Tasks::new(alloc);
+    let task = task_of(alloc, &[("status", "pending"), ("project", "Home")])?;
+    put_new(&mut tasks, here, task)?;
+    Ok(tasks)
+}
+
 #[test]
 fn a_change_puts_its_operations_after_the_others(rt: HostRuntime) -> Result<(), Fail> {
     let alloc = rt.alloc();
     let (here, new) = (Uuid::from_u128(7), Uuid::from_u128(8));
-    let mut tasks = Tasks::new(alloc);
-    let before = task_of(alloc, &[("status", "pending"), ("project", "Home")])?;
-    assert!(rt; tasks.insert(here, before)?);
-    let ops = changed(alloc, &mut tasks, here, new)?;
-    assert_eq!(rt; ops.len(), DEEDS.len());
-    for (op, want) in ops.iter().zip(DEEDS.iter()) {
-        assert_eq!(rt; deed(op), *want);
-    }
+    let mut tasks = one_task(alloc, here)?;
+    assert!(rt; are_deeds(&changed(alloc, &mut tasks, here, new)?));
     assert!(rt; is_left(&tasks, new, &Some(&[("status", "pending")])));
     Ok(())
 }

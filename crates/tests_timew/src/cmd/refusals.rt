@@ -28,11 +28,19 @@ fn is_bad(alloc: Global, words: &str, word: u64, kind: WordKind) -> Result<bool,
     }
 }
 
+// How many of the words are bad as wanted, up to the first that are not.
+fn bad_so_far(alloc: Global) -> Result<usize, Fail> {
+    for (number, (words, word, kind)) in BAD.iter().enumerate() {
+        if !is_bad(alloc, words, *word, *kind)? {
+            return Ok(number);
+        }
+    }
+    Ok(BAD.len())
+}
+
 #[test]
 fn the_first_wrong_word_is_named(rt: HostRuntime) -> Result<(), Fail> {
-    for (words, word, kind) in BAD {
-        assert!(rt; is_bad(rt.alloc(), words, word, kind)?, "{words}");
-    }
+    assert_eq!(rt; bad_so_far(rt.alloc())?, BAD.len());
     Ok(())
 }
 
@@ -53,17 +61,24 @@ const REFUSED: [(&str, &str, TimewError); 10] = [
     ("shorten @1 6s", CODE, TimewError::Range { word: 2 }),
 ];
 
-fn is_refused(alloc: Global, words: &str, before: &str, why: TimewError) -> Result<bool, Fail> {
+fn is_refused(alloc: Global, words: &str, before: &str, why: &TimewError) -> Result<bool, Fail> {
     match planned(alloc, words, before)? {
         Ok(_) => Ok(false),
-        Err(error) => Ok(error == why),
+        Err(error) => Ok(error == *why),
     }
+}
+
+fn refused_so_far(alloc: Global) -> Result<usize, Fail> {
+    for (number, (words, before, why)) in REFUSED.iter().enumerate() {
+        if !is_refused(alloc, words, before, why)? {
+            return Ok(number);
+        }
+    }
+    Ok(REFUSED.len())
 }
 
 #[test]
 fn each_refusal_comes_where_it_is_due(rt: HostRuntime) -> Result<(), Fail> {
-    for (words, before, why) in REFUSED {
-        assert!(rt; is_refused(rt.alloc(), words, before, why)?, "{words}");
-    }
+    assert_eq!(rt; refused_so_far(rt.alloc())?, REFUSED.len());
     Ok(())
 }

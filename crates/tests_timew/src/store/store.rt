@@ -159,15 +159,24 @@ const MONTHS: [(&str, &str, &str); 4] = [
     ("inc x", "inc y", "2026-01.data 1"),
 ];
 
+fn is_loaded<'x>(
+    alloc: Global,
+    january: &'x str,
+    february: &'x str,
+    want: &str,
+) -> Result<bool, Fail> {
+    let files = [
+        ("2026-02.data", february),
+        ("2026-01.data", january),
+        ("notes", "inc z"),
+    ];
+    let mut kept = keeping(alloc, &files, &[])?;
+    Ok(kept.loaded()?.as_str() == want)
+}
+
 fn are_loaded(alloc: Global) -> Result<bool, Fail> {
-    for (january, february, want) in MONTHS {
-        let files = [
-            ("2026-02.data", february),
-            ("2026-01.data", january),
-            ("notes", "inc z"),
-        ];
-        let mut kept = keeping(alloc, &files, &[])?;
-        if kept.loaded()?.as_str() != want {
+    for (january, february, want) in &MONTHS {
+        if !is_loaded(alloc, january, february, want)? {
             return Ok(false);
         }
     }

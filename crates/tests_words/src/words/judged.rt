@@ -167,9 +167,9 @@ fn has_parts(alloc: Global, words: &str, command: Command, want: &str) -> Result
 
 // The words of the first row that has other parts.
 fn other_parts(alloc: Global) -> Result<Option<&'static str>, Memory> {
-    for (words, command, want) in PARTS {
-        if !has_parts(alloc, words, command, want)? {
-            return Ok(Some(words));
+    for (words, command, want) in &PARTS {
+        if !has_parts(alloc, words, *command, want)? {
+            return Ok(Some(*words));
         }
     }
     Ok(None)

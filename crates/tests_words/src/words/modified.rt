@@ -49,9 +49,9 @@ fn has_kind(bad: Option<BadWord>) -> bool {
 // A task that has a project, a tag and a description.
 fn task(alloc: Global) -> Result<TaskMap, Memory> {
     let mut task = TaskMap::new(alloc);
-    for (property, value) in [("description", "old"), ("project", "Home"), ("tag_b", "")] {
-        task.set(alloc, property, Some(value))?;
-    }
+    task.set(alloc, "description", Some("old"))?;
+    task.set(alloc, "project", Some("Home"))?;
+    task.set(alloc, "tag_b", Some(""))?;
     Ok(task)
 }
 
@@ -77,9 +77,8 @@ fn made(alloc: Global, line: &Line, view: &View<'_>) -> Result<String, Memory> {
 
 fn two_tasks(alloc: Global) -> Result<Tasks, Memory> {
     let mut tasks = Tasks::new(alloc);
-    for number in [FIRST, TENTH] {
-        let _ = tasks.insert(Uuid::from_u128(number), TaskMap::new(alloc))?;
-    }
+    let _ = tasks.insert(Uuid::from_u128(FIRST), TaskMap::new(alloc))?;
+    let _ = tasks.insert(Uuid::from_u128(TENTH), TaskMap::new(alloc))?;
     Ok(tasks)
 }
 

@@ -302,9 +302,9 @@ fn folder(
 
 // The folder that is wanted of the first row with another.
 fn other_folder(alloc: Global) -> Result<Option<&'static str>, Memory> {
-    for (text, taskdata, home, want) in FOLDERS {
-        if folder(alloc, text, taskdata, home)?.as_str() != want {
-            return Ok(Some(want));
+    for (text, taskdata, home, want) in &FOLDERS {
+        if folder(alloc, text, *taskdata, *home)?.as_str() != *want {
+            return Ok(Some(*want));
         }
     }
     Ok(None)
