@@ -94,7 +94,9 @@ class Hours(run.Program):
             self.run(["delete", "@1"])
             return taken
         if command == "track":
-            return self.run(self.place(), wrapper)
+            taken = self.run(self.place(), wrapper)
+            self.number += 1
+            return taken
         if command == "tag":
             self.turn += 1
             return self.run(["tag", f"@{self.number}", f"tag{self.turn}"], wrapper)
