@@ -1,9 +1,13 @@
+ghost use Rattle.std.specs.Prelude.{IfOk};
+ghost use Rattle.timew_bridge.specs.Tail.{IsTailOf};
+
 use std::alloc::Global;
 use std::test::Fail;
-use timew_bridge::{Drivers, tail_of, track, track_tail};
-use timew_store::{Intervals, read_month, write_month};
+use timew_bridge::{Drivers, tail_of, track, track_tail, track_tail_by};
+use timew_interval::{Edit, Intervals, write_month};
+use timew_month::read_month;
 use tw_model::{TaskMap, Tasks};
-use tw_world::Moment;
+use tw_world::{Memory, Moment};
 use uuid::Uuid;
 
 // 2023-11-14T22:13:20Z
@@ -140,25 +144,41 @@ const DRIVEN: [(&[Task], u64, &str, &str); 10] = [
     (&[MILK], 130, LATE, LATE),
 ];
 
+// How many of the rows are driven as wanted, up to the first that is not.
+fn driven_so_far(alloc: Global) -> Result<usize, Fail> {
+    for (number, (tasks, seconds, before, after)) in DRIVEN.iter().enumerate() {
+        if !leads_to(alloc, tasks, *seconds, before, after)? {
+            return Ok(number);
+        }
+    }
+    Ok(DRIVEN.len())
+}
+
 #[test]
 fn intervals_follow_tasks(rt: HostRuntime) -> Result<(), Fail> {
-    for (tasks, seconds, before, after) in DRIVEN {
-        assert!(rt;
-            leads_to(rt.alloc(), tasks, seconds, before, after)?,
-            "{seconds} {after}"
-        );
-    }
+    assert_eq!(rt; driven_so_far(rt.alloc())?, DRIVEN.len());
     Ok(())
+}
+
+// The edit that the tasks before a command make, by what was asked of them, and then those after it.
+fn edit_by(
+    alloc: Global,
+    before: &Tasks,
+    after: &Tasks,
+    rows: &Intervals,
+    now: Moment,
+) -> Result<Edit, Memory>
+    ensures { IfOk result (IsTailOf rows.now) }
+{
+    let before = Drivers::of(alloc, before, now)?;
+    let edit = track_tail(alloc, &before, rows, tail_of(alloc, rows)?, now)?;
+    track_tail_by(alloc, after, rows, edit, now)
 }
 
 // Whether the tasks before and after a command make one edit.
 fn are_one_edit(alloc: Global, before: &Tasks, after: &Tasks) -> Result<bool, Fail> {
     let rows = read(alloc, OPEN)?;
-    let now = moment(160)?;
-    let before = Drivers::of(alloc, before, now)?;
-    let after = Drivers::of(alloc, after, now)?;
-    let edit = track_tail(alloc, &before, &rows, tail_of(alloc, &rows)?, now)?;
-    let edit = track_tail(alloc, &after, &rows, edit, now)?;
+    let edit = edit_by(alloc, before, after, &rows, moment(160)?)?;
     Ok(text_of(alloc, &rows.edited(edit)?)?.as_slice() == ENDED.as_bytes())
 }
 

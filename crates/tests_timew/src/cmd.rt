@@ -1,7 +1,9 @@
 use std::alloc::Global;
 use std::test::Fail;
-use timew_cmd::{Command, TimewError, WordsError, plan, read_words};
-use timew_store::{Intervals, read_month, write_month};
+use timew_cmd::{TimewError, plan};
+use timew_interval::{Intervals, write_month};
+use timew_month::read_month;
+use timew_words::{Command, WordsError, read_words};
 use tw_time::Zone;
 use tw_world::Moment;
 

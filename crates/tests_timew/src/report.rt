@@ -1,8 +1,9 @@
 use std::alloc::Global;
 use std::test::Fail;
-use timew_cmd::Range;
+use timew_interval::Intervals;
+use timew_month::read_month;
 use timew_report::{TimeReport, hours_of, time_text};
-use timew_store::{Intervals, read_month};
+use timew_words::Range;
 use tw_time::Zone;
 
 // 2026-01-05T10:00:00Z, a Monday.

@@ -1,6 +1,8 @@
 use std::alloc::Global;
 use std::test::Fail;
-use timew_store::{Intervals, LoadError, MonthError, Store, read_month, write_month};
+use timew_interval::{Intervals, write_month};
+use timew_month::{MonthError, read_month};
+use timew_store::{LoadError, Store};
 use tw_world::{Memory, MemoryDisk, MemoryFolder};
 
 mod store;

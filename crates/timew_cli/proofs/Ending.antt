@@ -12,25 +12,25 @@ use Rattle.timew_store.proofs.Prepares.{opens_here}
 use Rattle.timew_store.proofs.Undoes.{rest_read}
 use Rattle.tw_journal.specs.Journal.{is_closed}
 use Rattle.tw_journal.specs.declared.error.JournalError.TheVariants as fault
-use Rattle.timew_store.specs.Body.{Step, step_of, ◌>>=◌}
+use Rattle.timew_month.specs.Body.{Step, step_of, ◌>>=◌}
 use Rattle.timew_store.specs.History.{History, applied, stepped, replayed}
 use Rattle.timew_store.specs.Held.{Held, held_by}
-use Rattle.timew_store.specs.Changes.{changes_to}
-use Rattle.timew_store.specs.Rows.{rows_of}
+use Rattle.timew_month.specs.Changes.{changes_to}
+use Rattle.timew_month.specs.Rows.{rows_of}
 use Rattle.timew_store.specs.Store.{IsStoreOn, IsMovedTo, IsChangeBody, intervals_of, changed, change_bodies, ChangeRefused}
 use Rattle.timew_store.specs.StoreUndo.{undo_bodies, IsTakenBack, OpensToEitherOf, UndoRefused}
 use Rattle.timew_store.specs.Undo.{NoUndo, undone_held}
-use Rattle.timew_store.specs.Edit.{edited}
-use Rattle.timew_store.specs.declared.edit.Edit.{Edit}
-use Rattle.timew_store.specs.declared.interval.Interval.{Interval}
+use Rattle.timew_interval.specs.Edit.{edited}
+use Rattle.timew_interval.specs.declared.edit.Edit.{Edit}
+use Rattle.timew_interval.specs.declared.interval.Interval.{Interval}
 use Rattle.timew_store.specs.declared.store.Store.{Store}
 use Rattle.timew_store.specs.declared.error.StoreError.{StoreError}
 use Rattle.timew_store.specs.declared.error.StoreError.TheVariants as write
 use Rattle.timew_store.specs.declared.error.UndoError.{UndoError}
 use Rattle.timew_store.specs.declared.error.UndoError.TheVariants as undo
-use Rattle.timew_cmd.specs.declared.command.Command.{Command}
-use Rattle.timew_cmd.specs.declared.command.Command.TheVariants.{Show}
-use Rattle.timew_cmd.specs.declared.command.Showing.{Showing}
+use Rattle.timew_words.specs.declared.command.Command.{Command}
+use Rattle.timew_words.specs.declared.command.Command.TheVariants.{Show}
+use Rattle.timew_words.specs.declared.command.Showing.{Showing}
 use Rattle.timew_cmd.specs.declared.error.TimewError.{TimewError}
 use Rattle.timew_cmd.specs.declared.error.TimewError.TheVariants as plan
 use Rattle.timew_cmd.specs.Planned.{Fails}

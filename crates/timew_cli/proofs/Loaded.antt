@@ -16,13 +16,13 @@ use Rattle.tw_journal.proofs.Offsets.{still_open, open_records}
 use Rattle.tw_journal.specs.Open.{IsDamagedAt}
 use Rattle.tw_journal.specs.declared.error.JournalError.TheVariants as fault
 use Rattle.tw_journal.proofs.Unique.{one_records}
-use Rattle.timew_store.specs.Body.{FileChange, step_of}
+use Rattle.timew_month.specs.Body.{FileChange, step_of}
 use Rattle.timew_store.specs.History.{History, Stands, start}
 use Rattle.timew_store.specs.Held.{magic, Held, OpensTo, IsAtRest, held_by, finished}
 use Rattle.timew_store.specs.Loading.{OpensAlike, LeavesAlike, HoldsNoStep, Stays}
-use Rattle.timew_store.specs.Rows.{rows_of}
+use Rattle.timew_month.specs.Rows.{rows_of}
 use Rattle.timew_store.specs.Store.{IsStoreOn, IsLoadedStore, LoadRefused, IsLoadFault, LoadSparesDisk, intervals_of}
-use Rattle.timew_store.specs.declared.interval.Interval.{Interval}
+use Rattle.timew_interval.specs.declared.interval.Interval.{Interval}
 use Rattle.timew_store.specs.declared.store.Store.{Store}
 use Rattle.timew_store.specs.declared.error.LoadError.{LoadError}
 use Rattle.timew_store.specs.declared.error.LoadError.TheVariants as load
@@ -30,7 +30,7 @@ use Rattle.timew_store.proofs.AfterLoading.{same_last, all_finished}
 use Rattle.timew_store.proofs.Prepares.{opens_here}
 use Rattle.timew_store.proofs.Undoes.{rest_read}
 use Rattle.timew_store.proofs.Stays.{MayStay, DiskMayStay}
-use Rattle.timew_cmd.specs.declared.command.Command.{Command}
+use Rattle.timew_words.specs.declared.command.Command.{Command}
 use Rattle.timew_cli.specs.Cause.{load_cause, carry_cause}
 use Rattle.timew_cli.specs.Carried.{Carried, carried_by, carried_out, with_rows}
 use Rattle.timew_cli.specs.Run.{Outside, went, HasSize, HoldsNoStepAt, IsLeft, Opens, HoldsMore, Does, CarriedOut, Refused, PassesLimit, Because, NotCarried, CanBeCarriedOut, LeavesOf, LeavesStates}

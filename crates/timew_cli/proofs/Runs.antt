@@ -23,13 +23,13 @@ use Rattle.timew_cli.specs.Carried.{carried_out}
 use Rattle.timew_cli.proofs.Growth.{nothing_grown}
 use Rattle.timew_cli.proofs.Loaded.{still_among}
 use Rattle.tw_world.specs.Sink.{SinkModel}
-use Rattle.timew_cmd.specs.declared.command.Command.{Command}
-use Rattle.timew_cmd.specs.declared.error.BadWord.{BadWord}
+use Rattle.timew_words.specs.declared.command.Command.{Command}
+use Rattle.timew_words.specs.declared.error.BadWord.{BadWord}
 use Rattle.timew_cmd.specs.declared.error.TimewError.{TimewError}
 use Rattle.timew_cmd.specs.declared.error.TimewError.TheVariants as plan
-use Rattle.timew_cmd.specs.declared.error.WordsError.{WordsError}
-use Rattle.timew_cmd.specs.declared.error.WordsError.TheVariants as words
-use Rattle.timew_cmd.specs.Reading.{Refuses}
+use Rattle.timew_words.specs.declared.error.WordsError.{WordsError}
+use Rattle.timew_words.specs.declared.error.WordsError.TheVariants as words
+use Rattle.timew_words.specs.Reading.{Refuses}
 use Rattle.timew_cli.specs.Cause.{end_of, word_cause, words_cause, journal_cause, load_cause, plan_cause, change_cause, undo_cause, carry_cause}
 use Rattle.timew_cli.specs.Run.{Outside, went, CarriedOut, NotCarried, GivesBy, Gives, CanEnd, IsDoneOrWant, LeavesStates, GrowsByRecord, IsRun}
 use Rattle.timew_cli.specs.declared.carry.CarryError.{CarryError}

@@ -1,20 +1,20 @@
 -- What a command does to the intervals that a folder and a journal hold.
 use Rattle.std.specs.Prelude.{ℕ, List, [], length, Option, Some, None, Result, Ok, Err}
 use Rattle.tw_time.specs.Moments.{TimeZone}
-use Rattle.timew_store.specs.declared.interval.Interval.{Interval}
+use Rattle.timew_interval.specs.declared.interval.Interval.{Interval}
 use Rattle.timew_store.specs.Held.{Held}
-use Rattle.timew_store.specs.Changes.{changes_to}
-use Rattle.timew_store.specs.Rows.{rows_of}
+use Rattle.timew_month.specs.Changes.{changes_to}
+use Rattle.timew_month.specs.Rows.{rows_of}
 use Rattle.timew_store.specs.Store.{changed, change_bodies}
 use Rattle.timew_store.specs.StoreUndo.{undo_bodies}
 use Rattle.timew_store.specs.Undo.{NoUndo, undone_held}
-use Rattle.timew_cmd.specs.declared.command.Command.{Command}
-use Rattle.timew_cmd.specs.declared.command.Command.TheVariants.{Change, Undo, Show}
-use Rattle.timew_cmd.specs.declared.command.Showing.{Showing}
-use Rattle.timew_cmd.specs.declared.command.Showing.TheVariants.{Tracked, Export, Summary, Hours}
+use Rattle.timew_words.specs.declared.command.Command.{Command}
+use Rattle.timew_words.specs.declared.command.Command.TheVariants.{Change, Undo, Show}
+use Rattle.timew_words.specs.declared.command.Showing.{Showing}
+use Rattle.timew_words.specs.declared.command.Showing.TheVariants.{Tracked, Export, Summary, Hours}
 use Rattle.timew_cmd.specs.declared.error.TimewError.{TimewError}
 use Rattle.timew_cmd.specs.Planned.{planned}
-use Rattle.timew_cmd.specs.Ranges.{bounds}
+use Rattle.timew_words.specs.Ranges.{bounds}
 use Rattle.timew_cmd.specs.Texts.{stored}
 use Rattle.timew_cmd.specs.Commands.Export.{export}
 use Rattle.timew_cmd.specs.Commands.Show.{tracking}

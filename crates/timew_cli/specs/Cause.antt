@@ -11,9 +11,9 @@ use Rattle.timew_store.specs.declared.error.UndoError.{UndoError}
 use Rattle.timew_store.specs.declared.error.UndoError.TheVariants as undo
 use Rattle.timew_store.specs.Undo.{NoUndo}
 use Rattle.timew_store.specs.Undo.NoUndo.{Nothing, EditedFile, Bad}
-use Rattle.timew_cmd.specs.declared.error.BadWord.{BadWord}
-use Rattle.timew_cmd.specs.declared.error.WordsError.{WordsError}
-use Rattle.timew_cmd.specs.declared.error.WordsError.TheVariants as words
+use Rattle.timew_words.specs.declared.error.BadWord.{BadWord}
+use Rattle.timew_words.specs.declared.error.WordsError.{WordsError}
+use Rattle.timew_words.specs.declared.error.WordsError.TheVariants as words
 use Rattle.timew_cmd.specs.declared.error.TimewError.{TimewError}
 use Rattle.timew_cmd.specs.declared.error.TimewError.TheVariants as plan
 use Rattle.timew_cli.specs.declared.carry.CarryError.{CarryError}

@@ -12,8 +12,8 @@ use Rattle.tw_journal.specs.declared.journal.Journal.{Journal}
 use Rattle.timew_store.specs.History.{History}
 use Rattle.timew_store.specs.Held.{magic, Held, OpensTo, IsAtRest, held_by}
 use Rattle.timew_store.specs.Loading.{OpensAlike, LeavesAlike, Stays, IsNoStep}
-use Rattle.timew_cmd.specs.declared.command.Command.{Command}
-use Rattle.timew_cmd.specs.declared.error.BadWord.{BadWord}
+use Rattle.timew_words.specs.declared.command.Command.{Command}
+use Rattle.timew_words.specs.declared.error.BadWord.{BadWord}
 use Rattle.tw_ending.specs.Ending.{End, HasNotFailed}
 use Rattle.tw_ending.specs.Ending.End.{Well, Output, Failed}
 use Rattle.timew_cli.specs.Cause.{end_of, word_cause, carry_cause}

@@ -3,11 +3,11 @@ ghost use Rattle.std.specs.Prelude.{◌≡◌, ◌<◌, ◌^◌, length, option_
 ghost use Rattle.tw_world.specs.Disk as tells;
 ghost use Rattle.tw_world.specs.Crash.{FaultsRise};
 ghost use Rattle.tw_ending.specs.Ending.{EndsPrinting};
-ghost use Rattle.timew_store.specs.Interval.{limit};
+ghost use Rattle.timew_interval.specs.Interval.{limit};
 ghost use Rattle.timew_store.specs.Store.{intervals_of, is_store_closed, store_end};
 ghost use Rattle.timew_store.specs.Undo.{undone_held};
 ghost use Rattle.timew_store.specs.Growth.{JournalGrowsBy};
-ghost use Rattle.timew_cmd.specs.Given.{IsGiven, IsGivenChange};
+ghost use Rattle.timew_words.specs.Given.{IsGiven, IsGivenChange};
 ghost use Rattle.timew_cmd.specs.Planned.{planned};
 ghost use Rattle.timew_cmd.specs.Texts.{stored};
 ghost use Rattle.timew_cli.specs.Cause.{carry_cause};
@@ -19,11 +19,11 @@ use crate::cause::Cause;
 use crate::text::stored_text;
 use std::alloc::Global;
 use std::mem::forget;
-use timew_cmd::{
-    Changing, Command, Showing, TimewError, export_text, plan, summary_text, tracking_text,
-};
+use timew_cmd::{TimewError, export_text, plan, summary_text, tracking_text};
+use timew_interval::Intervals;
 use timew_report::{hours_of, time_text};
-use timew_store::{Intervals, LoadError, Store, StoreError, UndoError};
+use timew_store::{LoadError, Store, StoreError, UndoError};
+use timew_words::{Changing, Command, Showing};
 use tw_ending::print;
 use tw_time::Zone;
 use tw_world::{Disk, Folder, Memory, Sink};

@@ -4,8 +4,9 @@ ghost use Rattle.timew_cli.specs.Fault.{status_of};
 ghost use Rattle.timew_cli.specs.Cause.{words_cause, journal_cause, load_cause, change_cause, undo_cause, plan_cause, carry_cause};
 
 use crate::carry::CarryError;
-use timew_cmd::{BadWord, TimewError, WordKind, WordsError};
+use timew_cmd::TimewError;
 use timew_store::{LoadError, StoreError, UndoError};
+use timew_words::{BadWord, WordKind, WordsError};
 use tw_journal::JournalError;
 use tw_world::Text;
 

@@ -1,6 +1,6 @@
 //! The command line of `tw timew`, carried out over a folder of month files and a disk that holds their journal.
 //! `timew_run` promises for each end which record and which files are written, what was printed, and what a crash leaves.
-//! It uses the commands of `timew_cmd` and the store of `timew_store`, and on the folders, disks and sinks of `tw_world`.
+//! It uses the words of `timew_words`, the commands of `timew_cmd`, the store of `timew_store`, and the folders, disks and sinks of `tw_world`.
 #![tactic(auto)]
 
 mod carry;
@@ -11,4 +11,4 @@ mod text;
 
 pub use cause::{Cause, Outcome};
 pub use run::timew_run;
-pub use timew_cmd::WordKind;
+pub use timew_words::WordKind;

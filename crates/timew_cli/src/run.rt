@@ -2,7 +2,7 @@
 ghost use Rattle.std.specs.Prelude.{◌≡◌, map, string_bytes};
 ghost use Rattle.tw_world.specs.Disk as tells;
 ghost use Rattle.tw_world.specs.Crash.{FaultsRise};
-ghost use Rattle.timew_cmd.specs.Reading.{command_of};
+ghost use Rattle.timew_words.specs.Reading.{command_of};
 ghost use Rattle.timew_cli.specs.Fault.{GotFault, status_of};
 ghost use Rattle.timew_cli.specs.Run.{went, RunGives, EndsWell, RunLeaves, GrowsByRecord, IsRun};
 
@@ -10,7 +10,7 @@ use crate::carry::run_command;
 use crate::cause::{Cause, Outcome, status_of};
 use crate::fault::put_fault;
 use std::alloc::Global;
-use timew_cmd::read_words;
+use timew_words::read_words;
 use tw_time::Zone;
 use tw_world::{Disk, Folder, Moment, Sink};
 

@@ -2,9 +2,9 @@
 use Rattle.std.specs.Prelude.{cond, if◌then◌else◌}
 use Rattle.std.proofs.Common.{◌≡◌, ℕ, Bool, true, false, List, [], ◌∷◌, ◌++◌, Option, Some, None, refl, ap, ◌∙◌}
 use Rattle.std.specs.List.{flat_map}
-use Rattle.timew_store.specs.declared.interval.Interval.{Interval}
-use Rattle.timew_store.specs.Interval.{overlaps}
-use Rattle.timew_store.specs.Placing.{front_of, back_of, left_outside, inserted, placed}
+use Rattle.timew_interval.specs.declared.interval.Interval.{Interval}
+use Rattle.timew_interval.specs.Interval.{overlaps}
+use Rattle.timew_interval.specs.Placing.{front_of, back_of, left_outside, inserted, placed}
 use Rattle.timew_cmd.specs.Numbers.{Numbered, rows_in}
 use Rattle.timew_cmd.specs.Placing.{later_of, overlapped}
 

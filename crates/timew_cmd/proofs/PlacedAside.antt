@@ -5,18 +5,17 @@ use Rattle.std.proofs.Math.Seq.{take-append_seam, drop-append-add}
 use Rattle.std.proofs.lemmas.List.{take-append-drop, take-take, drop_all, drop_more}
 use Rattle.std.specs.List.{flat_map}
 use Rattle.std.proofs.lemmas.List.Concat.{flat_map-append}
-use Rattle.timew_store.specs.declared.interval.Interval.{Interval}
-use Rattle.timew_store.specs.Edit.{spliced}
-use Rattle.timew_store.specs.Interval.{overlaps}
-use Rattle.timew_store.specs.Placing.{front_of, back_of, left_outside, is_not_after, inserted, placed}
+use Rattle.timew_interval.specs.declared.interval.Interval.{Interval}
+use Rattle.timew_interval.specs.Edit.{spliced}
+use Rattle.timew_interval.specs.Interval.{overlaps}
+use Rattle.timew_interval.specs.Placing.{front_of, back_of, left_outside, is_not_after, inserted, placed}
 use Rattle.timew_cmd.specs.declared.error.TimewError.{TimewError}
 use Rattle.timew_cmd.specs.declared.error.TimewError.TheVariants as plan
-use Rattle.timew_cmd.specs.Placing.{stands_before, stands_behind, AllBefore, AllBehind}
+use Rattle.timew_cmd.specs.Placing.{stands_before, stands_behind, AllBefore, AllBehind, overlapped, later_of, unless_overlapped, place}
 use Rattle.timew_cmd.specs.Numbers.{numbered, without, rows_in}
-use Rattle.timew_cmd.specs.Placing.{overlapped, later_of, unless_overlapped, place}
 use Rattle.timew_cmd.specs.Planned.{Fails}
 use Rattle.timew_cmd.proofs.AllRows.{all_rows}
-use Rattle.timew_store.proofs.MonthTexts.{all_take_more}
+use Rattle.timew_interval.proofs.RowsByIndex.{all_take_more}
 
 -- the two tests of one on a side
 both : (a b : Bool) → (not a && b) ≡ true → (a ≡ false) × (b ≡ true)

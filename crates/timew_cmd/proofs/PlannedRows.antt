@@ -3,18 +3,18 @@ use Rattle.std.specs.Prelude.{max, min, nat_lt, nat_le, ◌&&◌, slice_get, IfS
 use Rattle.std.proofs.Common.{◌≡◌, ℕ, zero, suc, ◌+◌, ◌-◌, ◌<◌, ◌≤◌, Bool, true, false, cond, List, [], ◌∷◌, ◌++◌, length, Option, Some, None, Result, Ok, Err, refl, ap, subst, arith}
 use Rattle.std.proofs.lemmas.Bool.{ltb-true, ltb-false, leb-true}
 use Rattle.tw_time.specs.declared.length.Length.{Length}
-use Rattle.timew_store.specs.declared.edit.Edit.{Edit}
-use Rattle.timew_store.specs.declared.interval.Interval.{Interval}
-use Rattle.timew_store.specs.Edit.{edited, IsEditOf}
-use Rattle.timew_store.specs.Interval.{limit, IsRow, IsEnd, IsBefore, AreRows, is_printable}
-use Rattle.timew_store.proofs.Placed.{own_start}
-use Rattle.timew_store.specs.Placing.{spanning}
-use Rattle.timew_cmd.specs.declared.command.Changing.{Changing}
-use Rattle.timew_cmd.specs.declared.command.Changing.TheVariants.{Start, Stop, Cancel, Continue, Track, Tag, Untag, Annotate, Delete, Split, Join, Move, Lengthen, Shorten}
+use Rattle.timew_interval.specs.declared.edit.Edit.{Edit}
+use Rattle.timew_interval.specs.declared.interval.Interval.{Interval}
+use Rattle.timew_interval.specs.Edit.{edited, IsEditOf}
+use Rattle.timew_interval.specs.Interval.{limit, IsRow, IsEnd, IsBefore, AreRows, is_printable}
+use Rattle.timew_interval.proofs.Placed.{own_start}
+use Rattle.timew_interval.specs.Placing.{spanning}
+use Rattle.timew_words.specs.declared.command.Changing.{Changing}
+use Rattle.timew_words.specs.declared.command.Changing.TheVariants.{Start, Stop, Cancel, Continue, Track, Tag, Untag, Annotate, Delete, Split, Join, Move, Lengthen, Shorten}
 use Rattle.timew_cmd.specs.declared.error.TimewError.{TimewError}
 use Rattle.timew_cmd.specs.declared.error.TimewError.TheVariants.{Range}
-use Rattle.timew_cmd.specs.Given.{AreTags, IsGivenChange}
-use Rattle.timew_cmd.specs.Results.{◌>>=◌}
+use Rattle.timew_words.specs.Given.{AreTags, IsGivenChange}
+use Rattle.timew_words.specs.Results.{◌>>=◌}
 use Rattle.timew_cmd.specs.Planned.{planned, Answers}
 use Rattle.timew_cmd.specs.Commands.Start.{begun, open_from, is_past, begins_after}
 use Rattle.timew_cmd.specs.Commands.Stop.{stopped}

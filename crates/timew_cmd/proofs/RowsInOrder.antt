@@ -6,19 +6,18 @@ use Rattle.std.specs.List.{list_all, list_any, flat_map}
 use Rattle.std.specs.Ordering.{is_lt}
 use Rattle.std.specs.declared.cmp.Ordering.{Ordering}
 use Rattle.std.specs.declared.cmp.Ordering.TheVariants.{Less, Equal, Greater}
-use Rattle.tw_world.specs.Folder.{bytes_cmp, same_bytes}
-use Rattle.tw_world.specs.Folder.{add_name as add_tag}
-use Rattle.timew_store.specs.declared.interval.Interval.{Interval}
-use Rattle.timew_store.specs.Interval.{limit, IsRow, IsEnd, EndsBy, IsBefore, AreRows, is_tag, is_printable, tags_rise, tags_rise_from}
-use Rattle.timew_store.specs.Placing.{spanning, placed}
-use Rattle.timew_store.proofs.Placed.{are_rows-placed}
-use Rattle.timew_store.proofs.ReadRows.{tags_added}
+use Rattle.tw_world.specs.Folder.{bytes_cmp, same_bytes, add_name as add_tag}
+use Rattle.timew_interval.specs.declared.interval.Interval.{Interval}
+use Rattle.timew_interval.specs.Interval.{limit, IsRow, IsEnd, EndsBy, IsBefore, AreRows, is_tag, is_printable, tags_rise, tags_rise_from}
+use Rattle.timew_interval.specs.Placing.{spanning, placed}
+use Rattle.timew_interval.proofs.Placed.{are_rows-placed}
+use Rattle.timew_interval.proofs.InOrder.{tags_added}
 use Rattle.timew_cmd.specs.Numbers.{Numbered, numbered, is_among, without, rows_in}
 use Rattle.timew_cmd.specs.Open.{open_of, open_or, in_front, moment_or}
 use Rattle.timew_cmd.specs.Labels.{each_from, each_of, with_tags, without_tags, with_annotation}
 use Rattle.timew_cmd.specs.Commands.Split.{halves, some_ahead, split}
 use Rattle.timew_cmd.specs.Placing.{place, unless_overlapped, overlapped}
-use Rattle.timew_cmd.specs.Given.{AreTags}
+use Rattle.timew_words.specs.Given.{AreTags}
 use Rattle.timew_cmd.specs.declared.error.TimewError.{TimewError}
 use Rattle.timew_cmd.specs.declared.error.TimewError.TheVariants.{Range}
 

@@ -4,10 +4,10 @@ use Rattle.std.proofs.Common.{◌≡◌, ℕ, zero, suc, ◌+◌, ◌-◌, ◌�
 use Rattle.std.proofs.lemmas.Bool.{leb-true, ltb-false}
 use Rattle.std.proofs.lemmas.Bool.Decides.{nat_tests}
 use Rattle.tw_time.specs.declared.length.Length.{Length}
-use Rattle.timew_store.specs.declared.interval.Interval.{Interval}
-use Rattle.timew_store.specs.Interval.{Content, content, goes_past, has, at, IsEnd, EndsBy, IsBefore, AreRows}
-use Rattle.timew_store.specs.Placing.{placed, spanning}
-use Rattle.timew_store.proofs.Placed.{at-append, at-placed}
+use Rattle.timew_interval.specs.declared.interval.Interval.{Interval}
+use Rattle.timew_interval.specs.Interval.{Content, content, goes_past, has, at, IsEnd, EndsBy, IsBefore, AreRows}
+use Rattle.timew_interval.specs.Placing.{placed, spanning}
+use Rattle.timew_interval.proofs.Placed.{at-append, at-placed}
 use Rattle.timew_cmd.specs.declared.error.TimewError.{TimewError}
 use Rattle.timew_cmd.specs.declared.error.TimewError.TheVariants.{Range}
 use Rattle.timew_cmd.specs.Commands.Cancel.{cancelled}
@@ -23,7 +23,7 @@ use Rattle.timew_cmd.specs.Numbers.{numbered, is_among, without, rows_in, row_at
 use Rattle.timew_cmd.specs.Open.{open_of, open_or, open_from_rows, moment_or, with_ended}
 use Rattle.timew_cmd.specs.Placing.{place, overlapped, unless_overlapped}
 use Rattle.timew_cmd.specs.Replacing.{replaced, is_in_range, closed_end, seconds_of}
-use Rattle.timew_cmd.specs.Results.{◌>>=◌}
+use Rattle.timew_words.specs.Results.{◌>>=◌}
 use Rattle.timew_cmd.specs.Seconds.{Takes, Moves, BeginsAt, EndsAt}
 use Rattle.timew_cmd.proofs.AllRows.{all_rows}
 use Rattle.timew_cmd.proofs.OpenRow.{open_last}

@@ -4,9 +4,9 @@ use Rattle.std.proofs.Common.{◌≡◌, ℕ, ◌+◌, ◌*◌, ◌<◌, Bool, f
 use Rattle.std.proofs.lemmas.Bool.{cond-false, cases_lt}
 use Rattle.std.proofs.lemmas.Bool.Decides.{nat_tests}
 use Rattle.tw_time.specs.declared.length.Length.{Length}
-use Rattle.timew_store.specs.declared.interval.Interval.{Interval}
-use Rattle.timew_store.specs.Interval.{limit}
-use Rattle.timew_store.specs.Placing.{spanning}
+use Rattle.timew_interval.specs.declared.interval.Interval.{Interval}
+use Rattle.timew_interval.specs.Interval.{limit}
+use Rattle.timew_interval.specs.Placing.{spanning}
 use Rattle.timew_cmd.specs.declared.error.TimewError.TheVariants.{Range}
 use Rattle.timew_cmd.specs.Replacing.{replaced, closed_end, seconds_of}
 use Rattle.timew_cmd.specs.Numbers.{row_at}

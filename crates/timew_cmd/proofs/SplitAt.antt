@@ -3,8 +3,8 @@ use Rattle.std.specs.Prelude.{nat_le, nat_lt}
 use Rattle.std.proofs.Common.{◌≡◌, ℕ, ◌+◌, ◌-◌, ◌/◌, ◌≤◌, Bool, true, false, cond, ◌&&◌, ◌||◌, List, [], ◌∷◌, ◌++◌, Option, Some, None, Ok, Err, refl, sym, ap, subst, ◌∙◌, arith}
 use Rattle.std.proofs.lemmas.Bool.Decides.{nat_tests}
 use Rattle.std.specs.List.{flat_map}
-use Rattle.timew_store.specs.declared.interval.Interval.{Interval}
-use Rattle.timew_store.specs.Interval.{Content, content, goes_past, has, at, IsEnd, AreRows}
+use Rattle.timew_interval.specs.declared.interval.Interval.{Interval}
+use Rattle.timew_interval.specs.Interval.{Content, content, goes_past, has, at, IsEnd, AreRows}
 use Rattle.timew_cmd.specs.declared.error.TimewError.TheVariants.{Range}
 use Rattle.timew_cmd.specs.Numbers.{Numbered, numbered, is_among, rows_in}
 use Rattle.timew_cmd.specs.Commands.Split.{split, some_ahead, halves, middle}

@@ -4,8 +4,8 @@ use Rattle.std.proofs.Common.{◌≡◌, ℕ, zero, suc, ◌+◌, ◌-◌, ◌<�
 use Rattle.std.proofs.lemmas.Bool.{and_parts}
 use Rattle.std.proofs.lemmas.List.{drop_more}
 use Rattle.std.proofs.lemmas.List.Sums.{sum_by-cons}
-use Rattle.timew_store.specs.declared.interval.Interval.{Interval}
-use Rattle.timew_store.specs.Interval.{limit, IsRow, IsEnd, IsBefore, StartsFrom, AreRows}
+use Rattle.timew_interval.specs.declared.interval.Interval.{Interval}
+use Rattle.timew_interval.specs.Interval.{limit, IsRow, IsEnd, IsBefore, StartsFrom, AreRows}
 use Rattle.timew_cmd.specs.Open.{open_of}
 use Rattle.timew_cmd.proofs.RowsInOrder.{open_is, last_row}
 use Rattle.timew_cmd.specs.Ranges.{measured, is_within, seconds_within, total}

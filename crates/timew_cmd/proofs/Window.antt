@@ -3,9 +3,9 @@ use Rattle.std.specs.Prelude.{not}
 use Rattle.std.specs.List.{flat_map}
 use Rattle.std.proofs.Common.{◌≡◌, ℕ, zero, suc, ◌+◌, ◌-◌, ◌<◌, Bool, true, false, cond, get_or, append_assoc, List, [], ◌∷◌, ◌++◌, length, take, drop, length-drop, refl, sym, ap, subst, ◌∙◌, arith}
 use Rattle.std.proofs.lemmas.List.{drop-drop, drop_more}
-use Rattle.timew_store.specs.declared.interval.Interval.{Interval}
-use Rattle.timew_store.specs.Edit.{spliced}
-use Rattle.timew_store.specs.Placing.{placed}
+use Rattle.timew_interval.specs.declared.interval.Interval.{Interval}
+use Rattle.timew_interval.specs.Edit.{spliced}
+use Rattle.timew_interval.specs.Placing.{placed}
 use Rattle.timew_cmd.specs.Commands.Split.{halves, halved}
 use Rattle.timew_cmd.specs.Labels.{each_from, each_of}
 use Rattle.timew_cmd.specs.Numbers.{numbered, is_among, NoneAmong, IsWindow, without, rows_in}

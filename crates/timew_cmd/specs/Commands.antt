@@ -1,10 +1,9 @@
--- Each command: what its words are, and what it makes of the intervals.
+-- What each command makes of the intervals.
 pub mod Annotate
 pub mod Cancel
 pub mod Continue
 pub mod Delete
 pub mod Export
-pub mod Hours
 pub mod Join
 pub mod Lengthen
 pub mod Move

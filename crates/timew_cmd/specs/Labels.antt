@@ -1,25 +1,15 @@
 -- Tags and annotations of intervals.
 use Rattle.std.specs.List.{list_any}
-use Rattle.std.specs.Prelude.{ℕ, List, [], ◌∷◌, Option, Some, None, Result, Ok, Err, filter, not, drop, length, cond, take, fold}
+use Rattle.std.specs.Prelude.{ℕ, List, [], ◌∷◌, Option, Some, None, Result, Ok, Err, filter, not, length, cond, fold}
 use Rattle.tw_world.specs.Folder.{same_bytes, add_name as add_tag}
-use Rattle.timew_store.specs.declared.interval.Interval.{Interval}
+use Rattle.timew_interval.specs.declared.interval.Interval.{Interval}
 use Rattle.timew_cmd.specs.Numbers.{Numbered, numbered, is_among, checked}
 use Rattle.timew_cmd.specs.Open.{open_of}
-use Rattle.timew_cmd.specs.Parts.{Words, ids_with, leading_ids, some_tags}
-use Rattle.timew_cmd.specs.Results.{◌>>=◌}
-use Rattle.timew_cmd.specs.declared.command.Tagging.{Tagging}
-use Rattle.timew_cmd.specs.declared.error.BadWord.{BadWord}
+use Rattle.timew_words.specs.Results.{◌>>=◌}
 use Rattle.timew_cmd.specs.declared.error.TimewError.{TimewError}
 use Rattle.timew_cmd.specs.declared.error.TimewError.TheVariants.{NoOpen}
 use Rattle.timew_cmd.specs.declared.labels.Label.{Label}
 use Rattle.timew_cmd.specs.declared.labels.Label.TheVariants.{Add, Remove, Annotation}
-
--- the ids that words begin with, and one tag or more after them
-abbrev pub tagging_in : Words → Result Tagging BadWord
-tagging_in words = do
-  ids ← ids_with [] (take (leading_ids words) words)
-  tags ← some_tags (drop (leading_ids words) words)
-  Ok (record { ids = ids; tags = tags })
 
 -- the numbers that a command is about: those given, or the open one's
 abbrev pub targets : List ℕ → List Interval → Result (List ℕ) TimewError

@@ -1,9 +1,4 @@
-pub mod Results
-pub mod Names
-pub mod Parts
-pub mod Stretch
 pub mod Ranges
-pub mod Given
 pub mod Numbers
 pub mod Open
 pub mod Placing
@@ -12,5 +7,4 @@ pub mod Labels
 pub mod Commands
 pub mod Planned
 pub mod Seconds
-pub mod Reading
 pub mod Texts

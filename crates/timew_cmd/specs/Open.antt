@@ -1,7 +1,7 @@
 -- The open interval, and the moment at which it ends.
 use Rattle.std.specs.Prelude.{ℕ, List, [], ◌∷◌, Option, Some, None, if◌then◌else◌, ◌++◌, nat_le}
-use Rattle.timew_store.specs.Placing.{spanning}
-use Rattle.timew_store.specs.declared.interval.Interval.{Interval}
+use Rattle.timew_interval.specs.Placing.{spanning}
+use Rattle.timew_interval.specs.declared.interval.Interval.{Interval}
 
 -- the rows before the open one, and it
 abbrev pub in_front : Interval → Option (List Interval × Interval) → Option (List Interval × Interval)

@@ -1,9 +1,9 @@
 -- Placing an interval among others.
 use Rattle.std.specs.List.{AllByRecursion}
 use Rattle.std.specs.Prelude.{ℕ, List, [], ◌∷◌, Bool, true, false, Option, Some, None, Result, Ok, Err, if◌then◌else◌, not, ◌≡◌, ◌&&◌}
-use Rattle.timew_store.specs.Interval.{overlaps}
-use Rattle.timew_store.specs.Placing.{is_not_after, placed}
-use Rattle.timew_store.specs.declared.interval.Interval.{Interval}
+use Rattle.timew_interval.specs.Interval.{overlaps}
+use Rattle.timew_interval.specs.Placing.{is_not_after, placed}
+use Rattle.timew_interval.specs.declared.interval.Interval.{Interval}
 use Rattle.timew_cmd.specs.Numbers.{Numbered, numbered, without, rows_in}
 use Rattle.timew_cmd.specs.declared.error.TimewError.{TimewError}
 use Rattle.timew_cmd.specs.declared.error.TimewError.TheVariants.{Overlap}

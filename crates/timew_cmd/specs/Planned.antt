@@ -1,6 +1,6 @@
 -- The intervals after a command.
 use Rattle.std.specs.Prelude.{ℕ, List, Result, Ok, Err, ◌≡◌}
-use Rattle.timew_store.specs.declared.interval.Interval.{Interval}
+use Rattle.timew_interval.specs.declared.interval.Interval.{Interval}
 use Rattle.timew_cmd.specs.Commands.Annotate.{as_ids, annotated}
 use Rattle.timew_cmd.specs.Commands.Cancel.{cancelled}
 use Rattle.timew_cmd.specs.Commands.Continue.{continued}
@@ -16,9 +16,8 @@ use Rattle.timew_cmd.specs.Commands.Tag.{tagged}
 use Rattle.timew_cmd.specs.Commands.Track.{tracked}
 use Rattle.timew_cmd.specs.Commands.Untag.{untagged}
 use Rattle.timew_cmd.specs.Open.{open_of, moment_or}
-use Rattle.timew_cmd.specs.declared.command.Changing.{Changing}
-use Rattle.timew_cmd.specs.declared.command.Changing.TheVariants.{Cancel, Start, Stop, Continue, Track, Tag, Untag, Annotate, Delete, Split, Join, Move}
-use Rattle.timew_cmd.specs.declared.command.Changing.TheVariants.{Lengthen, Shorten}
+use Rattle.timew_words.specs.declared.command.Changing.{Changing}
+use Rattle.timew_words.specs.declared.command.Changing.TheVariants.{Cancel, Start, Stop, Continue, Track, Tag, Untag, Annotate, Delete, Split, Join, Move, Lengthen, Shorten}
 use Rattle.timew_cmd.specs.declared.error.TimewError.{TimewError}
 use Rattle.timew_cmd.specs.declared.error.TimewError.TheVariants.{Memory as NoMemory}
 

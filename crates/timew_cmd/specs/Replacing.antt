@@ -1,8 +1,8 @@
 -- Placing an interval in the stead of one with a number.
 use Rattle.std.specs.Prelude.{ℕ, List, [], ◌∷◌, Bool, true, Option, Some, None, ◌+◌, ◌==◌, Result, Ok, Err, if◌then◌else◌, ◌*◌, nat_lt}
 use Rattle.tw_time.specs.declared.length.Length.{Length}
-use Rattle.timew_store.specs.Interval.{limit}
-use Rattle.timew_store.specs.declared.interval.Interval.{Interval}
+use Rattle.timew_interval.specs.Interval.{limit}
+use Rattle.timew_interval.specs.declared.interval.Interval.{Interval}
 use Rattle.timew_cmd.specs.Placing.{place}
 use Rattle.timew_cmd.specs.declared.error.TimewError.{TimewError}
 use Rattle.timew_cmd.specs.declared.error.TimewError.TheVariants.{Range}

@@ -1,22 +1,22 @@
 -- What commands make of seconds: which tags and annotation each has.
 use Rattle.std.specs.Prelude.{ℕ, List, [], ◌∷◌, max, min, Option, Some, None, Result, Ok, if◌then◌else◌, ◌≡◌, ◌+◌, ◌-◌, ◌*◌, nat_le, unwrap_or}
 use Rattle.tw_time.specs.declared.length.Length.{Length}
-use Rattle.timew_store.specs.Interval.{Content, content, has, at, AreRows}
-use Rattle.timew_store.specs.Placing.{spanning}
-use Rattle.timew_store.specs.declared.interval.Interval.{Interval}
+use Rattle.timew_interval.specs.Interval.{Content, content, has, at, AreRows}
+use Rattle.timew_interval.specs.Placing.{spanning}
+use Rattle.timew_interval.specs.declared.interval.Interval.{Interval}
 use Rattle.timew_cmd.specs.Commands.Join.{joined}
 use Rattle.timew_cmd.specs.Commands.Move.{moved_end}
 use Rattle.timew_cmd.specs.Numbers.{numbered, without, rows_in, row_at}
 use Rattle.timew_cmd.specs.Open.{open_of, moment_or}
 use Rattle.timew_cmd.specs.Planned.{planned}
-use Rattle.timew_cmd.specs.declared.command.Changing.TheVariants.{Start, Stop, Cancel, Continue, Track, Join, Move, Lengthen, Shorten}
-use Rattle.timew_cmd.specs.declared.command.Continue.{Continue as ContinueParts}
-use Rattle.timew_cmd.specs.declared.command.Join.{Join as JoinParts}
-use Rattle.timew_cmd.specs.declared.command.Move.{Move as MoveParts}
-use Rattle.timew_cmd.specs.declared.command.Resize.{Resize as ResizeParts}
-use Rattle.timew_cmd.specs.declared.command.Start.{Start as StartParts}
-use Rattle.timew_cmd.specs.declared.command.Stop.{Stop as StopParts}
-use Rattle.timew_cmd.specs.declared.command.Track.{Track as TrackParts}
+use Rattle.timew_words.specs.declared.command.Changing.TheVariants.{Start, Stop, Cancel, Continue, Track, Join, Move, Lengthen, Shorten}
+use Rattle.timew_words.specs.declared.command.Continue.{Continue as ContinueParts}
+use Rattle.timew_words.specs.declared.command.Join.{Join as JoinParts}
+use Rattle.timew_words.specs.declared.command.Move.{Move as MoveParts}
+use Rattle.timew_words.specs.declared.command.Resize.{Resize as ResizeParts}
+use Rattle.timew_words.specs.declared.command.Start.{Start as StartParts}
+use Rattle.timew_words.specs.declared.command.Stop.{Stop as StopParts}
+use Rattle.timew_words.specs.declared.command.Track.{Track as TrackParts}
 
 -- the seconds of an interval have what it says, and every other second has what it had
 abbrev pub Takes : Interval → (rows next : List Interval) → Type 0

@@ -1,10 +1,9 @@
-// Each command: what its words are, and what it makes of the intervals.
+// What each command makes of the intervals.
 pub mod annotate;
 pub mod cancel;
 pub mod continue_;
 pub mod delete;
 pub mod export;
-pub mod hours;
 pub mod join;
 pub mod lengthen;
 pub mod move_to;

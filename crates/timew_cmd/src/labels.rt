@@ -1,22 +1,16 @@
 // Tags and annotations of intervals.
 ghost use Rattle.std.specs.Prelude.{[], ◌∷◌, ◌++◌, ◌+◌, ◌≤◌, length, drop, Ok, ◌≡◌, IfOk};
-ghost use Rattle.timew_store.specs.Edit.{edited};
-ghost use Rattle.timew_cmd.specs.Given.{AreTags};
-ghost use Rattle.timew_cmd.specs.Labels.{tagging_in, targets, each_of, with_tags, without_tags, with_annotation, with_label, labelled};
-ghost use Rattle.timew_cmd.specs.Parts.{words_of};
+ghost use Rattle.timew_interval.specs.Edit.{edited};
+ghost use Rattle.timew_cmd.specs.Labels.{targets, each_of, with_tags, without_tags, with_annotation, with_label, labelled};
 ghost use Rattle.timew_cmd.specs.Planned.{Answers};
-ghost use Rattle.timew_cmd.specs.Reading.{Gives};
 
 use crate::chosen::Chosen;
-use crate::command::Tagging;
-use crate::error::{TimewError, WordsError};
+use crate::error::TimewError;
 use crate::numbers::checked;
 use crate::open::open_of;
-use crate::parts::{ids_in, leading_ids, some_tags};
 use crate::rows::copy_row;
-use crate::word::Word;
 use std::alloc::Global;
-use timew_store::{Edit, Interval, Texts};
+use timew_interval::{Edit, Interval, Texts};
 use tw_world::{Memory, Text};
 
 /// What becomes of the tags or the annotation of an interval.
@@ -25,17 +19,6 @@ pub enum Label<'a> {
     Add(&'a Texts),
     Remove(&'a Texts),
     Annotation(&'a Text),
-}
-
-/// The ids that words begin with, and one tag or more after them.
-pub fn tagging_in(alloc: Global, words: &[Word]) -> Result<Tagging, WordsError>
-    ensures value { Gives (λ parts. parts) result (tagging_in (words_of words.now)) }
-    ensures good { IfOk result (λ parts. AreTags parts.tags) }
-{
-    let (first, rest) = words.split_at(leading_ids(words));
-    let ids = ids_in(alloc, first)?;
-    let tags = some_tags(alloc, rest)?;
-    Ok(Tagging { ids, tags })
 }
 
 // The numbers that a command is about: those given, or the open one's.

@@ -1,7 +1,7 @@
 //! What follows from the definitions, as contracts of functions that do nothing.
 ghost use Rattle.std.specs.Prelude.{ℕ, List, Some, Ok, ◌≡◌, ◌≤◌};
-ghost use Rattle.timew_store.specs.Interval.{AreRows};
-ghost use Rattle.timew_store.specs.declared.interval.Interval.{Interval};
+ghost use Rattle.timew_interval.specs.Interval.{AreRows};
+ghost use Rattle.timew_interval.specs.declared.interval.Interval.{Interval};
 ghost use Rattle.timew_cmd.specs.Commands.Split.{middle, split, SameSeconds, IsHalved};
 ghost use Rattle.timew_cmd.specs.Seconds.{TrackGivesTags, StartGivesTags, ContinueGivesTags, StopFrees, CancelFrees};
 ghost use Rattle.timew_cmd.specs.Seconds.{MoveMoves, LengthenMoves, ShortenMoves, JoinTakes};

@@ -5,7 +5,7 @@ ghost use Rattle.timew_cmd.specs.Placing.{stands_before, stands_behind, AllBefor
 
 use crate::chosen::Chosen;
 use crate::rows::overlaps;
-use timew_store::{Interval, is_not_after};
+use timew_interval::{Interval, is_not_after};
 
 fn stands_before(new: &Interval, row: &Interval) -> bool
     ensures { result ≡ stands_before new.now row.now }

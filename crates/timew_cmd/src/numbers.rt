@@ -1,6 +1,6 @@
 // Rows by their numbers, which count from the last one, from 1.
 ghost use Rattle.std.specs.Prelude.{◌++◌, ◌+◌, ◌≡◌, ◌≤◌, length, drop, IfOk};
-ghost use Rattle.timew_store.specs.Edit.{edited};
+ghost use Rattle.timew_interval.specs.Edit.{edited};
 ghost use Rattle.timew_cmd.specs.Numbers.{numbered, without, rows_in, checked, row_at};
 ghost use Rattle.timew_cmd.specs.Planned.{Answers};
 
@@ -8,7 +8,7 @@ use crate::chosen::Chosen;
 use crate::error::TimewError;
 use crate::rows::copy_row;
 use std::alloc::Global;
-use timew_store::{Edit, Interval};
+use timew_interval::{Edit, Interval};
 use tw_world::Memory;
 
 /// The rows from an index up to another without those of these numbers.

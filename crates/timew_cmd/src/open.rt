@@ -1,12 +1,12 @@
 // The open interval, and the moment at which it ends.
 ghost use Rattle.std.specs.Prelude.{[], ◌∷◌, Some, length, ◌++◌, ◌≡◌, take, IfSome, option_map, IfOk, ◌≤◌};
 ghost use Rattle.tw_time.specs.Moments.{moment};
-ghost use Rattle.timew_store.specs.Placing.{spanning};
+ghost use Rattle.timew_interval.specs.Placing.{spanning};
 ghost use Rattle.timew_cmd.specs.Open.{open_of, moment_or, with_ended};
 
 use crate::rows::spanning;
 use std::alloc::Global;
-use timew_store::Interval;
+use timew_interval::Interval;
 use tw_world::Memory;
 
 /// The rows before the open one, and it.

@@ -1,11 +1,11 @@
 // What of intervals lies outside one that is placed.
 ghost use Rattle.std.specs.List.{flat_map};
 ghost use Rattle.std.specs.Prelude.{◌++◌, ◌≡◌, IfOk, OnOk};
-ghost use Rattle.timew_store.specs.Placing.{front_of, back_of, left_outside};
+ghost use Rattle.timew_interval.specs.Placing.{front_of, back_of, left_outside};
 
 use crate::rows::{overlaps, spanning};
 use std::alloc::Global;
-use timew_store::{Interval, goes_past};
+use timew_interval::{Interval, goes_past};
 use tw_world::Memory;
 
 fn push_front(

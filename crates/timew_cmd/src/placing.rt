@@ -1,8 +1,8 @@
 // Placing an interval among others.
 ghost use Rattle.std.specs.List.{insert as insert_at};
 ghost use Rattle.std.specs.Prelude.{[], ◌+◌, length, ◌++◌, ◌≡◌, take, IfOk, ◌≤◌};
-ghost use Rattle.timew_store.specs.Edit.{edited};
-ghost use Rattle.timew_store.specs.Placing.{placed, inserted};
+ghost use Rattle.timew_interval.specs.Edit.{edited};
+ghost use Rattle.timew_interval.specs.Placing.{placed, inserted};
 ghost use Rattle.timew_cmd.specs.Numbers.{numbered, without, rows_in};
 ghost use Rattle.timew_cmd.specs.Placing.{AllBefore, overlapped, place};
 ghost use Rattle.timew_cmd.specs.Planned.{Answers};
@@ -14,7 +14,7 @@ use crate::numbers::others_within;
 use crate::outside::all_outside;
 use crate::rows::{copy_rows, overlaps};
 use std::alloc::Global;
-use timew_store::{Edit, Interval, is_not_after};
+use timew_interval::{Edit, Interval, is_not_after};
 use tw_world::Memory;
 
 // How many rows are before an interval once it is inserted.

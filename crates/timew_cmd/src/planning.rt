@@ -1,11 +1,10 @@
 // The intervals after a command.
 ghost use Rattle.std.specs.Prelude.{◌+◌, length, ◌<◌, IfOk, ◌≤◌};
-ghost use Rattle.timew_store.specs.Edit.{edited, IsEditOf};
-ghost use Rattle.timew_store.specs.Interval.{limit, AreRows};
-ghost use Rattle.timew_cmd.specs.Given.{IsGivenChange};
+ghost use Rattle.timew_interval.specs.Edit.{edited, IsEditOf};
+ghost use Rattle.timew_interval.specs.Interval.{limit, AreRows};
+ghost use Rattle.timew_words.specs.Given.{IsGivenChange};
 ghost use Rattle.timew_cmd.specs.Planned.{planned, Answers};
 
-use crate::command::Changing;
 use crate::commands::annotate::annotate;
 use crate::commands::cancel::cancel;
 use crate::commands::continue_::go_on;
@@ -23,7 +22,8 @@ use crate::commands::untag::untag;
 use crate::error::TimewError;
 use crate::open::moment_or;
 use std::alloc::Global;
-use timew_store::{Edit, Interval, Intervals};
+use timew_interval::{Edit, Interval, Intervals};
+use timew_words::Changing;
 
 /// The edit by which a command leads to other intervals at a moment, in seconds since 1970. A refusal changes nothing.
 pub fn plan(

@@ -1,13 +1,13 @@
 // Placing an interval in the stead of one with a number.
 ghost use Rattle.std.specs.Prelude.{◌+◌, ◌≤◌, Err, ◌*◌, length, ◌≡◌, min, IfOk, IfErr};
-ghost use Rattle.timew_store.specs.Edit.{edited};
+ghost use Rattle.timew_interval.specs.Edit.{edited};
 ghost use Rattle.timew_cmd.specs.Planned.{Answers};
 ghost use Rattle.timew_cmd.specs.Replacing.{is_in_range, replaced, seconds_of, closed_end};
 
 use crate::error::TimewError;
 use crate::placing::place;
 use std::alloc::Global;
-use timew_store::{Edit, Interval};
+use timew_interval::{Edit, Interval};
 use tw_time::Length;
 use tw_world::MOMENT_LIMIT;
 

@@ -1,10 +1,10 @@
 // Intervals: copies of them, and whether they overlap.
 ghost use Rattle.std.specs.Prelude.{[], ◌≡◌, IfOk};
-ghost use Rattle.timew_store.specs.Interval.{overlaps};
-ghost use Rattle.timew_store.specs.Placing.{spanning};
+ghost use Rattle.timew_interval.specs.Interval.{overlaps};
+ghost use Rattle.timew_interval.specs.Placing.{spanning};
 
 use std::alloc::Global;
-use timew_store::{Interval, Texts, goes_past};
+use timew_interval::{Interval, Texts, goes_past};
 use tw_world::{Memory, Text};
 
 /// An interval from a start to an end, with the tags and the annotation of another.

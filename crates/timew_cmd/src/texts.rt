@@ -5,7 +5,7 @@ ghost use Rattle.timew_cmd.specs.Texts.{tags_text, two_digits, clock_text, shown
 
 use std::alloc::Global;
 use std::str;
-use timew_store::Texts;
+use timew_interval::Texts;
 use tw_time::{Clock, Zone, clock_of, print_day};
 use tw_world::Memory;
 

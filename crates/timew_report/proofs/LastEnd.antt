@@ -1,7 +1,7 @@
 -- The end of the last interval.
 use Rattle.std.proofs.Common.{◌≡◌, ℕ, ◌<◌, List, [], ◌∷◌, ◌++◌, refl, arith}
-use Rattle.timew_store.specs.declared.interval.Interval.{Interval}
-use Rattle.timew_store.specs.Interval.{limit, AreRows}
+use Rattle.timew_interval.specs.declared.interval.Interval.{Interval}
+use Rattle.timew_interval.specs.Interval.{limit, AreRows}
 use Rattle.timew_cmd.specs.Ranges.{measured}
 use Rattle.timew_cmd.proofs.RowsInOrder.{last_row}
 use Rattle.timew_cmd.proofs.Totals.{within_ends}

@@ -4,8 +4,8 @@ use Rattle.std.proofs.Common.{◌≡◌, ◌⊎◌, inl, inr, ℕ, zero, suc, �
 use Rattle.std.proofs.lemmas.Bool.{ltb-true, ltb-false, lt-leb, le-leb, le-ltb, cases_lt}
 use Rattle.std.proofs.lemmas.List.{drop_all}
 use Rattle.std.proofs.lemmas.List.Sums.{sum_by-cons}
-use Rattle.timew_store.specs.declared.interval.Interval.{Interval}
-use Rattle.timew_store.specs.Interval.{Content, content, at, IsRow, IsEnd, IsBefore, StartsFrom, AreRows}
+use Rattle.timew_interval.specs.declared.interval.Interval.{Interval}
+use Rattle.timew_interval.specs.Interval.{Content, content, at, IsRow, IsEnd, IsBefore, StartsFrom, AreRows}
 use Rattle.timew_cmd.specs.Ranges.{measured, seconds_within, total}
 use Rattle.timew_report.specs.Time.{one_if, count, at_now, is_tracked, time}
 use Rattle.timew_report.specs.Walk.{has_more, AreSpent, IsNext}

@@ -6,8 +6,8 @@ use Rattle.std.specs.List.{list_any, flat_map}
 use Rattle.std.specs.FinMap.{get, get-empty}
 use Rattle.tw_world.specs.Folder.{bytes_cmp, same_bytes}
 use Rattle.tw_model.proofs.Maps.{same_bytes_exact, get-set_at, same_maps}
-use Rattle.timew_store.specs.declared.interval.Interval.{Interval}
-use Rattle.timew_store.specs.Interval.{content}
+use Rattle.timew_interval.specs.declared.interval.Interval.{Interval}
+use Rattle.timew_interval.specs.Interval.{content}
 use Rattle.timew_cmd.specs.Ranges.{measured}
 use Rattle.timew_report.specs.Time.{says_tag, at_now, tag_time}
 use Rattle.timew_report.specs.Totals.{Times, unless_zero, times_of, totals, AreTotals}

@@ -12,8 +12,8 @@ use Rattle.std.specs.declared.cmp.Ordering.TheVariants.{Less, Equal, Greater}
 use Rattle.std.specs.FinMap.{get, insert}
 use Rattle.tw_world.specs.Folder.{bytes_cmp, same_bytes}
 use Rattle.tw_model.proofs.Maps.{same_bytes_exact, get-set_at}
-use Rattle.timew_store.specs.declared.interval.Interval.{Interval}
-use Rattle.timew_store.specs.Interval.{Content, content, tags_rise, tags_rise_from, AreRows}
+use Rattle.timew_interval.specs.declared.interval.Interval.{Interval}
+use Rattle.timew_interval.specs.Interval.{Content, content, tags_rise, tags_rise_from, AreRows}
 use Rattle.timew_cmd.specs.Ranges.{seconds_within}
 use Rattle.timew_report.specs.Time.{says_tag, at_now, tag_time}
 use Rattle.timew_report.specs.Totals.{Times, unless_zero}

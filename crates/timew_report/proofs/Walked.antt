@@ -4,7 +4,7 @@ use Rattle.std.proofs.Common.{◌≡◌, ℕ, ◌-◌, ◌<◌, List, [], ◌∷
 use Rattle.std.proofs.lemmas.List.{map-append}
 use Rattle.std.specs.List.{AllByRecursion, flat_map}
 use Rattle.tw_time.specs.Moments.{TimeZone}
-use Rattle.timew_store.specs.declared.interval.Interval.{Interval}
+use Rattle.timew_interval.specs.declared.interval.Interval.{Interval}
 use Rattle.timew_report.specs.declared.days.Day.{Day}
 use Rattle.timew_report.specs.declared.days.Span.{Span}
 use Rattle.timew_report.specs.Time.{is_tracked, time}

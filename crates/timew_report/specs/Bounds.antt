@@ -1,11 +1,12 @@
 -- From which second on a report of hours is, and up to which.
 use Rattle.std.specs.Prelude.{ℕ, ◌-◌, List, [], ◌∷◌, min}
 use Rattle.tw_time.specs.Moments.{TimeZone}
-use Rattle.timew_store.specs.declared.interval.Interval.{Interval}
-use Rattle.timew_store.specs.Interval.{limit}
-use Rattle.timew_cmd.specs.Ranges.{bounds, measured}
-use Rattle.timew_cmd.specs.declared.range.Range.{Range}
-use Rattle.timew_cmd.specs.declared.range.Range.TheVariants.{All}
+use Rattle.timew_interval.specs.declared.interval.Interval.{Interval}
+use Rattle.timew_interval.specs.Interval.{limit}
+use Rattle.timew_words.specs.Ranges.{bounds}
+use Rattle.timew_cmd.specs.Ranges.{measured}
+use Rattle.timew_words.specs.declared.range.Range.{Range}
+use Rattle.timew_words.specs.declared.range.Range.TheVariants.{All}
 
 abbrev pub first_start : List Interval → ℕ
 first_start [] = 0

@@ -1,9 +1,9 @@
 -- The days and the weeks of a range in which something is tracked.
 use Rattle.std.specs.Prelude.{ℕ, zero, suc, ◌+◌, ◌-◌, Bool, cond, ◌&&◌, nat_lt, nat_le, List, [], ◌∷◌, codes}
 use Rattle.tw_time.specs.Moments.{TimeZone, moment}
-use Rattle.timew_store.specs.declared.interval.Interval.{Interval}
-use Rattle.timew_store.specs.Interval.{limit}
-use Rattle.timew_cmd.specs.Ranges.{or_else}
+use Rattle.timew_interval.specs.declared.interval.Interval.{Interval}
+use Rattle.timew_interval.specs.Interval.{limit}
+use Rattle.timew_words.specs.Ranges.{or_else}
 use Rattle.timew_report.specs.Time.{is_tracked}
 use Rattle.timew_report.specs.declared.days.Span.{Span}
 use Rattle.timew_report.specs.declared.days.Span.TheVariants.{Day, Week}

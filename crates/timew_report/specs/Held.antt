@@ -1,7 +1,7 @@
 -- Stretches, days and times as they are held.
 use Rattle.std.specs.Prelude.{◌≡◌, ℕ, ◌<◌, ◌≤◌, ◌+◌, Bool, cond, nat_lt, List, [], ◌∷◌, Some, min, max, unwrap_or}
 use Rattle.std.specs.FinMap.{get, insert}
-use Rattle.timew_store.specs.declared.interval.Interval.{Interval}
+use Rattle.timew_interval.specs.declared.interval.Interval.{Interval}
 use Rattle.timew_cmd.specs.Ranges.{measured}
 use Rattle.tw_time.specs.Moments.{TimeZone}
 use Rattle.timew_report.specs.declared.gaps.Stretch.{Stretch as HeldStretch}

@@ -6,11 +6,11 @@ use Rattle.tw_text.specs.Columns.{cell_text}
 use Rattle.tw_text.specs.Table.{Layout, table}
 use Rattle.tw_time.specs.Moments.{TimeZone, moment}
 use Rattle.tw_time.specs.Shown.{shown_day_text}
-use Rattle.timew_store.specs.declared.interval.Interval.{Interval}
-use Rattle.timew_cmd.specs.Ranges.{or_else}
+use Rattle.timew_interval.specs.declared.interval.Interval.{Interval}
+use Rattle.timew_words.specs.Ranges.{or_else}
 use Rattle.timew_cmd.specs.Texts.{shown_text, length_text}
-use Rattle.timew_cmd.specs.declared.command.TimeReport.{TimeReport}
-use Rattle.timew_cmd.specs.declared.command.TimeReport.TheVariants.{Gaps, Days, Weeks, Totals}
+use Rattle.timew_words.specs.declared.command.TimeReport.{TimeReport}
+use Rattle.timew_words.specs.declared.command.TimeReport.TheVariants.{Gaps, Days, Weeks, Totals}
 use Rattle.timew_report.specs.declared.days.Span.{Span}
 use Rattle.timew_report.specs.declared.days.Span.TheVariants.{Day, Week}
 use Rattle.timew_report.specs.Time.{count, time}

@@ -2,9 +2,9 @@
 use Rattle.std.specs.Prelude.{ℕ, zero, suc, ◌+◌, ◌-◌, Bool, true, false, List, map, Option, Some, None, is_some}
 use Rattle.std.specs.List.{list_any}
 use Rattle.tw_world.specs.Folder.{same_bytes}
-use Rattle.timew_store.specs.declared.interval.Interval.{Interval}
-use Rattle.timew_store.specs.Interval.{Content, at}
-use Rattle.timew_store.specs.Placing.{spanning}
+use Rattle.timew_interval.specs.declared.interval.Interval.{Interval}
+use Rattle.timew_interval.specs.Interval.{Content, at}
+use Rattle.timew_interval.specs.Placing.{spanning}
 use Rattle.timew_cmd.specs.Ranges.{measured}
 
 abbrev pub one_if : Bool → ℕ

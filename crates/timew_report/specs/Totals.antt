@@ -4,7 +4,7 @@ use Rattle.std.specs.FinMap.{FinMap, get, empty}
 use Rattle.std.specs.List.{flat_map}
 use Rattle.tw_world.specs.Folder.{bytes_cmp}
 use Rattle.tw_model.specs.Maps.{set_at}
-use Rattle.timew_store.specs.declared.interval.Interval.{Interval}
+use Rattle.timew_interval.specs.declared.interval.Interval.{Interval}
 use Rattle.timew_report.specs.Time.{tag_time}
 
 -- from a tag to seconds

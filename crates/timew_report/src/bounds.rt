@@ -1,10 +1,11 @@
 // From which second on a report of hours is, and up to which.
 ghost use Rattle.std.specs.Prelude.{◌≡◌, ◌<◌};
-ghost use Rattle.timew_store.specs.Interval.{limit, AreRows};
+ghost use Rattle.timew_interval.specs.Interval.{limit, AreRows};
 ghost use Rattle.timew_report.specs.Bounds.{first_start, last_end, hours_of};
 
-use timew_cmd::{Range, measured};
-use timew_store::{Interval, Intervals};
+use timew_cmd::measured;
+use timew_interval::{Interval, Intervals};
+use timew_words::Range;
 use tw_time::Zone;
 use tw_world::MOMENT_LIMIT;
 

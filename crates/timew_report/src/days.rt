@@ -1,7 +1,7 @@
 // The time of each day, or of each week.
 ghost use Rattle.std.specs.Prelude.{◌≡◌, ◌<◌, ◌++◌, map, IfOk, OnOk};
 ghost use Rattle.std.specs.List.{AllByRecursion, flat_map};
-ghost use Rattle.timew_store.specs.Interval.{limit, AreRows};
+ghost use Rattle.timew_interval.specs.Interval.{limit, AreRows};
 ghost use Rattle.timew_report.specs.Days.{end_of, days};
 ghost use Rattle.timew_report.specs.Held.{IsDay};
 ghost use Rattle.timew_report.specs.Texts.{name_of, line_text, day_line, days_text};
@@ -9,8 +9,8 @@ ghost use Rattle.timew_report.specs.Texts.{name_of, line_text, day_line, days_te
 use crate::hours::{next_tracked, time_after, time_of};
 use crate::lines::{push_line, push_sum};
 use std::alloc::Global;
-use timew_cmd::word_or;
-use timew_store::Interval;
+use timew_interval::Interval;
+use timew_words::word_or;
 use tw_time::{Zone, print_day};
 use tw_world::{MOMENT_LIMIT, Memory};
 

@@ -2,7 +2,7 @@
 ghost use Rattle.std.specs.Prelude.{◌≡◌, ◌<◌, ◌++◌, map, IfOk, OnOk};
 ghost use Rattle.std.specs.List.{AllByRecursion};
 ghost use Rattle.tw_text.specs.Table.{row_texts, table};
-ghost use Rattle.timew_store.specs.Interval.{limit, AreRows};
+ghost use Rattle.timew_interval.specs.Interval.{limit, AreRows};
 ghost use Rattle.timew_report.specs.Time.{count, time};
 ghost use Rattle.timew_report.specs.Gaps.{gaps, is_free};
 ghost use Rattle.timew_report.specs.Texts.{columns, gap_cells, gaps_text};
@@ -12,7 +12,7 @@ use crate::hours::time_of;
 use crate::lines::push_sum;
 use std::alloc::Global;
 use timew_cmd::{length_text, measured, shown_text};
-use timew_store::Interval;
+use timew_interval::Interval;
 use tw_text::{Column, table_text};
 use tw_time::Zone;
 use tw_world::Memory;

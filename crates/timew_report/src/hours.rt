@@ -1,12 +1,12 @@
 // How many seconds are tracked.
 ghost use Rattle.std.specs.Prelude.{◌≡◌, ◌<◌, ◌≤◌, length, take, drop, None, IfSome};
-ghost use Rattle.timew_store.specs.Interval.{limit, AreRows};
+ghost use Rattle.timew_interval.specs.Interval.{limit, AreRows};
 ghost use Rattle.timew_report.specs.Time.{time};
 ghost use Rattle.timew_cmd.specs.Ranges.{total};
 ghost use Rattle.timew_report.specs.Walk.{has_more, AreSpent, IsNext, IsFirst, NoneFrom};
 
 use timew_cmd::{measured, seconds_within, total};
-use timew_store::Interval;
+use timew_interval::Interval;
 
 /// The tracked seconds of a range.
 pub fn time_of(rows: &[Interval], from: u64, to: u64, now: u64) -> u64

@@ -1,7 +1,7 @@
 //! What follows from the definitions, as contracts of functions that do nothing.
 ghost use Rattle.std.specs.Prelude.{◌≡◌, ◌-◌, ◌+◌, ℕ, List};
-ghost use Rattle.timew_store.specs.declared.interval.Interval.{Interval};
-ghost use Rattle.timew_store.specs.Interval.{AreRows};
+ghost use Rattle.timew_interval.specs.declared.interval.Interval.{Interval};
+ghost use Rattle.timew_interval.specs.Interval.{AreRows};
 ghost use Rattle.timew_cmd.specs.Ranges.{total};
 ghost use Rattle.timew_report.specs.Time.{count, time};
 ghost use Rattle.timew_report.specs.Gaps.{is_free};

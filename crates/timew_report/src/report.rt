@@ -1,14 +1,14 @@
 // The text of a report of hours.
 ghost use Rattle.std.specs.Prelude.{◌≡◌, ◌<◌, IfOk};
-ghost use Rattle.timew_store.specs.Interval.{limit};
+ghost use Rattle.timew_interval.specs.Interval.{limit};
 ghost use Rattle.timew_report.specs.Texts.{time_text};
 
 use crate::days::{Span, days_text};
 use crate::gaps::gaps_text;
 use crate::totals::totals_text;
 use std::alloc::Global;
-use timew_cmd::TimeReport;
-use timew_store::Intervals;
+use timew_interval::Intervals;
+use timew_words::TimeReport;
 use tw_time::Zone;
 use tw_world::Memory;
 

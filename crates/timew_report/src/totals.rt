@@ -4,7 +4,7 @@ ghost use Rattle.std.specs.List.{flat_map, list_any};
 ghost use Rattle.std.specs.FinMap as map;
 ghost use Rattle.tw_world.specs.Folder.{bytes_cmp, same_bytes};
 ghost use Rattle.timew_cmd.specs.Ranges.{seconds_within};
-ghost use Rattle.timew_store.specs.Interval.{limit, AreRows, tags_rise};
+ghost use Rattle.timew_interval.specs.Interval.{limit, AreRows, tags_rise};
 ghost use Rattle.timew_report.specs.Held.{with_more, AreMore};
 ghost use Rattle.timew_report.specs.Totals.{AreTotals};
 ghost use Rattle.timew_report.specs.Texts.{tag_line, totals_text};
@@ -15,7 +15,7 @@ use std::alloc::Global;
 use std::collections::BTreeMap;
 use std::marker::Model;
 use timew_cmd::seconds_within;
-use timew_store::{Interval, Texts};
+use timew_interval::{Interval, Texts};
 use tw_text::cell;
 use tw_world::{Memory, Text};
 

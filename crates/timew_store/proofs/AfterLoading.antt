@@ -19,14 +19,17 @@ use Rattle.tw_journal.specs.Open.{Records, SameRecords, IsImageThen}
 use Rattle.tw_journal.specs.Journal.{IsOpenOn}
 use Rattle.tw_journal.specs.declared.journal.Journal.{Journal}
 use Rattle.tw_journal.proofs.Unique.{one_records}
-use Rattle.timew_store.specs.Body.{FileChange, Step, step_of, ◌>>=◌, rises_from, names_rise}
-use Rattle.timew_store.specs.Body.Step.{Change, Undo}
+use Rattle.timew_month.specs.Body.{FileChange, Step, step_of, ◌>>=◌, rises_from, names_rise}
+use Rattle.timew_month.specs.Body.Step.{Change, Undo}
 use Rattle.timew_store.specs.History.{History, Stands, start, stepped, applied, replayed, with_change, undone, exchanged, same_files}
-use Rattle.timew_store.specs.Held.{magic, bytes_of, with_new, finished, finished_file, Held, OpensTo, IsApart, AreApart}
+use Rattle.timew_store.specs.Held.{magic, finished, finished_file, Held, OpensTo, IsApart, AreApart}
+use Rattle.timew_month.specs.Files.{bytes_of, with_new}
 use Rattle.timew_store.specs.Loading.{IsFinishedTo, OpensAlike, IsLoaded, StandAsBefore, files_in, files_or, last_of}
-use Rattle.timew_store.proofs.FinishedFiles.{same_bytes_back, get-new-apart, get-new-here, apart_take, one_new}
+use Rattle.timew_interval.proofs.SameBytes.{same_bytes_back}
+use Rattle.timew_month.proofs.ReplacedFiles.{get-new-apart, get-new-here}
+use Rattle.timew_store.proofs.FinishedFiles.{apart_take, one_new}
 use Rattle.timew_store.proofs.CrashOfChange.{open_records}
-use Rattle.timew_store.proofs.Tests.{both, is_less}
+use Rattle.timew_interval.proofs.Tests.{both, is_less}
 
 either_case : {X : Type 0} (b : Bool) (x y : X) (P : X → Type 0) → P x → P y → P (cond b x y)
 either_case true x y P px py = px

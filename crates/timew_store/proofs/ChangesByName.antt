@@ -9,18 +9,19 @@ use Rattle.std.specs.FinMap.Entries.{by_order}
 use Rattle.std.specs.declared.cmp.Ordering.{Ordering}
 use Rattle.std.specs.declared.cmp.Ordering.TheVariants.{Less, Equal, Greater}
 use Rattle.tw_world.specs.Folder.{Files, bytes_cmp, same_bytes, add_name}
-use Rattle.timew_store.specs.declared.interval.Interval.{Interval}
-use Rattle.timew_store.specs.Body.{FileChange, is_month_name}
-use Rattle.timew_store.specs.Gathered.{NamedBytes, months_in}
-use Rattle.timew_store.specs.Held.{bytes_of}
-use Rattle.timew_store.specs.NamedFiles.{bytes_in, text_in, names_in, with_names, one_change}
-use Rattle.timew_store.specs.Line.{after}
-use Rattle.timew_store.specs.Changes.{month_text, month_change, changes_to}
-use Rattle.timew_store.specs.Rows.{month_names}
+use Rattle.timew_interval.specs.declared.interval.Interval.{Interval}
+use Rattle.timew_month.specs.Body.{FileChange}
+use Rattle.timew_interval.specs.MonthName.{is_month_name, month_text}
+use Rattle.timew_month.specs.Gathered.{NamedBytes, months_in}
+use Rattle.timew_month.specs.Files.{bytes_of}
+use Rattle.timew_month.specs.NamedFiles.{bytes_in, text_in, names_in, with_names, one_change}
+use Rattle.timew_month.specs.Line.{after}
+use Rattle.timew_month.specs.Changes.{month_change, changes_to}
+use Rattle.timew_month.specs.Rows.{month_names}
 use Rattle.timew_store.specs.MonthTexts.{HaveNames, AddTexts}
-use Rattle.timew_store.proofs.ExactLine.{after_is}
-use Rattle.timew_store.proofs.FinishedFiles.{same_bytes_exact, same_bytes_back, same_bytes_itself}
-use Rattle.timew_store.proofs.ChangedFiles.{any_keys, any_filter}
+use Rattle.timew_month.proofs.ExactLine.{after_is}
+use Rattle.timew_interval.proofs.SameBytes.{same_bytes_exact, same_bytes_back, same_bytes_itself}
+use Rattle.timew_month.proofs.ChangedFiles.{any_keys, any_filter}
 
 -- ---- names of months
 

@@ -14,9 +14,10 @@ use Rattle.tw_journal.proofs.Offsets.{left_records}
 use Rattle.tw_journal.specs.Open.{Records}
 use Rattle.tw_journal.specs.Journal.{IsOpenOn, RecordsOrMore}
 use Rattle.tw_journal.specs.declared.journal.Journal.{Journal}
-use Rattle.timew_store.specs.Body.{FileChange, ◌>>=◌}
+use Rattle.timew_month.specs.Body.{FileChange, ◌>>=◌}
 use Rattle.timew_store.specs.History.{History, start, stepped, replayed, Stands}
-use Rattle.timew_store.specs.Held.{magic, replaced, finished, Held, OpensTo, OpensToEither, IsPartly, IsAtRest, held_by}
+use Rattle.timew_store.specs.Held.{magic, finished, Held, OpensTo, OpensToEither, IsPartly, IsAtRest, held_by}
+use Rattle.timew_month.specs.Files.{replaced}
 use Rattle.timew_store.specs.Writing.{IsReadyFor}
 use Rattle.timew_store.proofs.FinishedFiles.{finished_partly}
 use Rattle.timew_store.proofs.BodyLength.{last_length, short_body}

@@ -5,12 +5,12 @@ use Rattle.std.proofs.lemmas.List.Concat.{flat_map-cons}
 use Rattle.std.specs.List.{AllByRecursion}
 use Rattle.tw_world.specs.Folder.{Files, FolderModel}
 use Rattle.tw_world.specs.Crash.{Tells, Reads}
-use Rattle.timew_store.specs.declared.months.MonthFile.{MonthFile}
-use Rattle.timew_store.specs.Gathered.{NamedBytes, file_of, files_of, months_in, lines_in}
-use Rattle.timew_store.specs.Held.{bytes_of}
-use Rattle.timew_store.specs.NamedFiles.{are_named}
-use Rattle.timew_store.specs.Month.{lines}
-use Rattle.timew_store.specs.Rows.{Found, found_from, found_in, month_names, judged, rows_of}
+use Rattle.timew_month.specs.declared.months.MonthFile.{MonthFile}
+use Rattle.timew_month.specs.Gathered.{NamedBytes, file_of, files_of, months_in, lines_in}
+use Rattle.timew_month.specs.Files.{bytes_of}
+use Rattle.timew_month.specs.NamedFiles.{are_named}
+use Rattle.timew_month.specs.Month.{lines}
+use Rattle.timew_month.specs.Rows.{Found, found_from, found_in, month_names, judged, rows_of}
 
 abbrev pub named_bytes : Files → List (List ℕ) → List NamedBytes
 named_bytes files names = map (λ name. (name, bytes_of files name)) names

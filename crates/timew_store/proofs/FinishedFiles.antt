@@ -1,44 +1,14 @@
 -- What finishing a change makes of files of which some were replaced.
 use Rattle.std.specs.Prelude.{unwrap_or, cond}
 use Rattle.std.proofs.Common.{◌≡◌, ℕ, zero, suc, Bool, true, false, List, [], ◌∷◌, take, Some, refl, sym, ap, ◌∙◌}
-use Rattle.std.specs.FinMap.{get, insert, get-insert, same_map, IsAntisymmetric, slice_cmp-IsAntisymmetric, nat_cmp-IsAntisymmetric}
-use Rattle.std.specs.Cmp.Lexicographic.{nat_list_cmp_total, texts_ties}
-use Rattle.std.proofs.lemmas.Cmp.{nat_list_eq_equiv}
-use Rattle.std.specs.Ordering.{is_eq}
-use Rattle.std.specs.declared.cmp.Ordering.{Ordering}
-use Rattle.std.specs.declared.cmp.Ordering.TheVariants.{Less, Equal, Greater}
-use Rattle.tw_world.specs.Folder.{Files, bytes_cmp, same_bytes}
-use Rattle.timew_store.specs.Body.{FileChange}
-use Rattle.timew_store.specs.Held.{bytes_of, with_new, replaced, finished_file, finished, HasOld, IsApart, AreApart}
-
-pub bytes_exact : IsAntisymmetric bytes_cmp
-bytes_exact = slice_cmp-IsAntisymmetric nat_cmp-IsAntisymmetric
-
-pub tied : (r : Ordering) → is_eq r ≡ true → r ≡ Equal
-tied Less e = cc
-tied Equal e = refl
-tied Greater e = cc
-
-pub same_bytes_exact : (a b : List ℕ) → same_bytes a b ≡ true → a ≡ b
-same_bytes_exact a b e = bytes_exact a b (tied (bytes_cmp a b) (sym (texts_ties a b) ∙ e))
-
-pub same_bytes_itself : (k : List ℕ) → same_bytes k k ≡ true
-same_bytes_itself k = nat_list_eq_equiv.refl k
-
-pub same_bytes_back : (a b : List ℕ) → same_bytes a b ≡ same_bytes b a
-same_bytes_back a b = nat_list_eq_equiv.symm a b
-
-pub get-put : (files : Files) (name bytes q : List ℕ) → get (insert files name bytes) q ≡ cond (same_bytes q name) (Some bytes) (get files q)
-get-put files name bytes q = get-insert nat_list_cmp_total files name bytes q ∙ ap (λ b. cond b (Some bytes) (get files q)) (sym (texts_ties q name))
-
-pub get-new : (files : Files) (f : FileChange) (q : List ℕ) → get (with_new files f) q ≡ cond (same_bytes q f.name) (Some f.new) (get files q)
-get-new files f q = get-put files f.name f.new q
-
-pub get-new-here : (files : Files) (f : FileChange) → get (with_new files f) f.name ≡ Some f.new
-get-new-here files f = get-new files f f.name ∙ ap (λ b. cond b (Some f.new) (get files f.name)) (same_bytes_itself f.name)
-
-pub get-new-apart : (files : Files) (f : FileChange) (q : List ℕ) → same_bytes q f.name ≡ false → get (with_new files f) q ≡ get files q
-get-new-apart files f q apart = get-new files f q ∙ ap (λ b. cond b (Some f.new) (get files q)) apart
+use Rattle.std.specs.FinMap.{get, same_map}
+use Rattle.std.specs.Cmp.Lexicographic.{nat_list_cmp_total}
+use Rattle.tw_world.specs.Folder.{Files, same_bytes}
+use Rattle.timew_month.specs.Body.{FileChange}
+use Rattle.timew_month.specs.Files.{bytes_of, with_new, replaced}
+use Rattle.timew_store.specs.Held.{finished_file, finished, HasOld, IsApart, AreApart}
+use Rattle.timew_interval.proofs.SameBytes.{bytes_exact, same_bytes_exact, same_bytes_itself, same_bytes_back}
+use Rattle.timew_month.proofs.ReplacedFiles.{get-new, get-new-here, get-new-apart}
 
 either : {X : Type 0} (b : Bool) (x y : X) → (b ≡ true → x ≡ y) → cond b x y ≡ y
 either true x y e = e refl

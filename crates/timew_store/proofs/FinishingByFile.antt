@@ -4,11 +4,11 @@ use Rattle.std.proofs.lemmas.List.{take_more, length-map, get_or-map}
 use Rattle.tw_world.specs.Crash.{Tells, IsStable, LeavesOnly, FaultsRise}
 use Rattle.tw_world.specs.Folder.{Files, FolderModel}
 use Rattle.tw_world.proofs.Crashes.{OnlyNow, started, joined, weaker}
-use Rattle.timew_store.specs.Body.{FileChange}
+use Rattle.timew_month.specs.Body.{FileChange}
 use Rattle.timew_store.specs.Held.{finished, finished_file}
 use Rattle.timew_store.specs.Loading.{IsFinishedTo, Finishing}
-use Rattle.timew_store.specs.Writing.{change_of, changes_of}
-use Rattle.timew_store.specs.declared.write.change.NewFile.{NewFile}
+use Rattle.timew_month.specs.Records.{change_of, changes_of}
+use Rattle.timew_month.specs.declared.months.NewFile.{NewFile}
 
 finished-push : (changes : List FileChange) (files : Files) (f : FileChange) → finished files (changes ++ f ∷ []) ≡ finished_file (finished files changes) f
 finished-push [] files f = refl

@@ -11,13 +11,13 @@ use Rattle.tw_journal.specs.Journal.{AppendRefused}
 use Rattle.tw_journal.specs.declared.journal.Journal.{Journal}
 use Rattle.tw_journal.specs.declared.error.AppendError.{AppendError}
 use Rattle.tw_journal.specs.declared.error.AppendError.TheVariants as appends
-use Rattle.timew_store.specs.Body.{FileChange, body_of}
-use Rattle.timew_store.specs.Body.Step.{Change, Undo}
-use Rattle.timew_store.specs.Changes.{changes_to}
+use Rattle.timew_month.specs.Body.{FileChange, body_of}
+use Rattle.timew_month.specs.Body.Step.{Change, Undo}
+use Rattle.timew_month.specs.Changes.{changes_to}
 use Rattle.timew_store.specs.History.{exchanged}
 use Rattle.timew_store.specs.Store.{change_bodies}
 use Rattle.timew_store.specs.StoreUndo.{undo_bodies}
-use Rattle.timew_store.specs.declared.interval.Interval.{Interval}
+use Rattle.timew_interval.specs.declared.interval.Interval.{Interval}
 use Rattle.timew_store.proofs.Undoes.{top_of}
 
 one_size : (body : List ℕ) → length (rows (body ∷ [])) ≡ length body + 5

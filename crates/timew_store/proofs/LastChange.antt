@@ -7,14 +7,14 @@ use Rattle.tw_world.specs.Disk as disk
 use Rattle.tw_journal.specs.Journal.{IsOpenOn}
 use Rattle.tw_journal.specs.declared.journal.Journal.{Journal}
 use Rattle.tw_journal.proofs.Offsets.{still_open}
-use Rattle.timew_store.specs.Body.{FileChange, Step, step_of, ◌>>=◌}
-use Rattle.timew_store.specs.Body.Step.{Change, Undo}
+use Rattle.timew_month.specs.Body.{FileChange, Step, step_of, ◌>>=◌}
+use Rattle.timew_month.specs.Body.Step.{Change, Undo}
 use Rattle.timew_store.specs.Held.{magic}
 use Rattle.timew_store.specs.History.{History, Stands, start, applied, stepped, replayed, with_change, undone, exchanged, same_files}
-use Rattle.timew_store.specs.Writing.{changes_of, step_in}
-use Rattle.timew_store.specs.declared.body.Record.{Record}
-use Rattle.timew_store.specs.declared.body.Record.TheVariants as records
-use Rattle.timew_store.specs.declared.write.change.NewFile.{NewFile}
+use Rattle.timew_month.specs.Records.{changes_of, step_in}
+use Rattle.timew_month.specs.declared.body.Record.{Record}
+use Rattle.timew_month.specs.declared.body.Record.TheVariants as records
+use Rattle.timew_month.specs.declared.months.NewFile.{NewFile}
 use Rattle.std.specs.Global.{Vec}
 use Rattle.tw_world.proofs.Moments.{untouched_join}
 use Rattle.timew_store.proofs.CrashOfChange.{replayed-push}

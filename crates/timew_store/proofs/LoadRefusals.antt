@@ -18,17 +18,17 @@ use Rattle.tw_journal.specs.declared.error.ReadError.{ReadError}
 use Rattle.tw_journal.specs.declared.error.ReadError.TheVariants.{Disk, Closed, Damaged, Memory as NoMemory}
 use Rattle.tw_journal.proofs.Offsets.{still_open, same_offset}
 use Rattle.tw_journal.proofs.Unique.{one_records}
-use Rattle.timew_store.specs.Body.{FileChange, step_of}
+use Rattle.timew_month.specs.Body.{FileChange, step_of}
 use Rattle.timew_store.specs.History.{History, Stands}
 use Rattle.timew_store.specs.Held.{magic, Held, OpensTo, IsAtRest, held_by, finished}
 use Rattle.timew_store.specs.Loading.{IsLoaded, EndsInNoStep, IsNoStep, StepRefused, LastRefused, OpeningRefused, FinishRefused, IsJournalFault, IsStoreFault, files_or, last_of}
-use Rattle.timew_store.specs.Gathered.{RowsRefused, files_of, months_in, lines_in}
-use Rattle.timew_store.specs.Rows.{judged, rows_of}
+use Rattle.timew_month.specs.Gathered.{RowsRefused, files_of, months_in, lines_in}
+use Rattle.timew_month.specs.Rows.{judged, rows_of}
 use Rattle.timew_store.specs.Store.{HoldMonths, IsLoadedStore, not_read, not_loaded, MonthsRefused, LoadRefused, IsLoadFault}
-use Rattle.timew_store.specs.declared.months.MonthFile.{MonthFile}
+use Rattle.timew_month.specs.declared.months.MonthFile.{MonthFile}
 use Rattle.timew_store.specs.declared.store.Store.{Store}
-use Rattle.timew_store.specs.declared.read.rows.RowsError.{RowsError}
-use Rattle.timew_store.specs.declared.read.rows.RowsError.TheVariants as read
+use Rattle.timew_month.specs.declared.read.rows.RowsError.{RowsError}
+use Rattle.timew_month.specs.declared.read.rows.RowsError.TheVariants as read
 use Rattle.timew_store.specs.declared.error.StoreError.{StoreError}
 use Rattle.timew_store.specs.declared.error.StoreError.TheVariants as store
 use Rattle.timew_store.specs.declared.error.LoadError.{LoadError}

@@ -1,5 +1,5 @@
 -- The texts of months, group by group.
-use Rattle.std.proofs.Common.{◌≡◌, ℕ, suc, zero, ◌+◌, ◌<◌, ◌≤◌, Bool, true, false, cond, List, [], ◌∷◌, ◌++◌, length, get_or, take, drop, refl, sym, ap, subst, ◌∙◌, append_assoc, arith}
+use Rattle.std.proofs.Common.{◌≡◌, ℕ, ◌+◌, ◌<◌, ◌≤◌, Bool, true, false, cond, List, [], ◌∷◌, ◌++◌, length, get_or, take, drop, refl, sym, ap, subst, ◌∙◌, append_assoc, arith}
 use Rattle.std.specs.Prelude.{filter}
 use Rattle.std.specs.List.{AllByRecursion}
 use Rattle.std.specs.Cmp.Lexicographic.{texts_ties}
@@ -10,37 +10,17 @@ use Rattle.std.proofs.lemmas.List.{append-nil, take-append-drop, take_more, leng
 use Rattle.std.proofs.lemmas.List.Concat.{flat_map-append}
 use Rattle.std.proofs.lemmas.List.Sums.{fold-append}
 use Rattle.tw_world.specs.Folder.{bytes_cmp, same_bytes, add_name}
-use Rattle.timew_store.specs.declared.interval.Interval.{Interval}
-use Rattle.timew_store.specs.Body.{is_month_name}
-use Rattle.timew_store.specs.Gathered.{NamedBytes}
-use Rattle.timew_store.specs.Interval.{IsRow, AreRows}
-use Rattle.timew_store.specs.NamedFiles.{text_in, with_names, with_months}
-use Rattle.timew_store.specs.Known.{IsMonthOf}
-use Rattle.timew_store.specs.Line.{line_text}
-use Rattle.timew_store.specs.Month.{lines_text}
-use Rattle.timew_store.specs.Changes.{month_name, is_in_month, month_text}
+use Rattle.timew_interval.specs.declared.interval.Interval.{Interval}
+use Rattle.timew_interval.specs.MonthName.{is_month_name, month_name, is_in_month, month_text}
+use Rattle.timew_month.specs.Gathered.{NamedBytes}
+use Rattle.timew_interval.specs.Interval.{AreRows}
+use Rattle.timew_month.specs.NamedFiles.{text_in, with_names, with_months}
+use Rattle.timew_month.specs.Known.{IsMonthOf}
+use Rattle.timew_interval.specs.Line.{line_text, lines_text}
 use Rattle.timew_store.specs.MonthTexts.{HaveNames, AddTexts}
-use Rattle.timew_store.specs.ReadBack.{IsWritable}
-use Rattle.timew_store.proofs.FinishedFiles.{tied, same_bytes_itself, same_bytes_exact}
-
--- ---- rows
-
-pub row_at : (rows : List Interval) (i : ℕ) (x : Interval) → AreRows rows → i < length rows → x ≡ get_or rows i x → IsRow x
-row_at [] i x are lt is = absurd (omega arith)
-row_at (r ∷ rows) zero x are lt is = subst IsRow (sym is) are.0
-row_at (r ∷ rows) (suc i) x are lt is = row_at rows i x are.2 (omega arith) is
-
-pub are_drop : (n : ℕ) (rows : List Interval) → AreRows rows → AreRows (drop n rows)
-are_drop zero rows are = are
-are_drop (suc n) [] are = tt
-are_drop (suc n) (r ∷ rows) are = are_drop n rows are.2
-
-pub all_push : (P : Interval → Type 0) (rows : List Interval) (r : Interval) → AllByRecursion P rows → P r → AllByRecursion P (rows ++ r ∷ [])
-all_push P [] r all here = (here, tt)
-all_push P (s ∷ rows) r all here = (all.0, all_push P rows r all.1 here)
-
-pub all_take_more : (P : Interval → Type 0) (rows : List Interval) (i : ℕ) (x : Interval) → i < length rows → x ≡ get_or rows i x → AllByRecursion P (take i rows) → P x → AllByRecursion P (take (i + 1) rows)
-all_take_more P rows i x lt is all here = subst (AllByRecursion P) (sym (take_more rows i x lt ∙ ap (λ (r : Interval). take i rows ++ r ∷ []) (sym is))) (all_push P (take i rows) x all here)
+use Rattle.timew_interval.specs.ReadBack.{IsWritable}
+use Rattle.timew_interval.proofs.SameBytes.{tied, same_bytes_itself, same_bytes_exact}
+use Rattle.timew_interval.proofs.RowsByIndex.{are_drop, all_take_more}
 
 all_joined : (P : Interval → Type 0) (rows more : List Interval) → AllByRecursion P rows → AllByRecursion P more → AllByRecursion P (rows ++ more)
 all_joined P [] more all other = other

@@ -4,14 +4,15 @@ use Rattle.std.proofs.Common.{◌≡◌, ℕ, Bool, true, false, ◌&&◌, List,
 use Rattle.std.specs.List.{list_all}
 use Rattle.std.specs.FinMap.{get, keys}
 use Rattle.tw_world.specs.Folder.{Files, same_bytes, add_name}
-use Rattle.timew_store.specs.declared.months.MonthFile.{MonthFile}
-use Rattle.timew_store.specs.Body.{FileChange, is_month_name, AreMonths}
-use Rattle.timew_store.specs.Gathered.{NamedBytes, files_of, months_in}
-use Rattle.timew_store.specs.Held.{bytes_of, with_new, replaced}
-use Rattle.timew_store.specs.NamedFiles.{bytes_in, names_in, are_named, bytes_after, names_after, files_after}
-use Rattle.timew_store.specs.Rows.{month_names}
+use Rattle.timew_month.specs.declared.months.MonthFile.{MonthFile}
+use Rattle.timew_month.specs.Body.{FileChange, AreMonths}
+use Rattle.timew_interval.specs.MonthName.{is_month_name}
+use Rattle.timew_month.specs.Gathered.{NamedBytes, files_of, months_in}
+use Rattle.timew_month.specs.Files.{bytes_of, with_new, replaced}
+use Rattle.timew_month.specs.NamedFiles.{bytes_in, names_in, are_named, bytes_after, names_after, files_after}
+use Rattle.timew_month.specs.Rows.{month_names}
 use Rattle.timew_store.proofs.ChangesByName.{AreMonthNames, months_good, bytes_kept, names_kept, added_good}
-use Rattle.timew_store.proofs.FinishedFiles.{get-new}
+use Rattle.timew_month.proofs.ReplacedFiles.{get-new}
 use Rattle.timew_store.proofs.RisingMonths.{month_names_put}
 
 -- ---- bytes and names

@@ -8,24 +8,25 @@ use Rattle.tw_journal.specs.Record.{rows}
 use Rattle.tw_journal.specs.declared.journal.Journal.{Journal}
 use Rattle.tw_journal.specs.declared.error.JournalError.{JournalError}
 use Rattle.tw_journal.specs.declared.error.JournalError.TheVariants as cause
-use Rattle.timew_store.specs.Body.{FileChange, body_of}
-use Rattle.timew_store.specs.Body.Step.{Change}
-use Rattle.timew_store.specs.Changes.{changes_to}
-use Rattle.timew_store.specs.Edit.{edited}
-use Rattle.timew_store.specs.Interval.{AreRows}
-use Rattle.timew_store.specs.Known.{AreKnown}
-use Rattle.timew_store.specs.NamedFiles.{are_named, with_changes}
-use Rattle.timew_store.specs.Gathered.{files_of}
+use Rattle.timew_month.specs.Body.{FileChange, body_of}
+use Rattle.timew_month.specs.Body.Step.{Change}
+use Rattle.timew_month.specs.Changes.{changes_to}
+use Rattle.timew_interval.specs.Edit.{edited}
+use Rattle.timew_interval.specs.Interval.{AreRows}
+use Rattle.timew_month.specs.Known.{AreKnown}
+use Rattle.timew_month.specs.NamedFiles.{are_named, with_changes}
+use Rattle.timew_month.specs.Gathered.{files_of}
 use Rattle.timew_store.specs.Prepared.{IsPreparedEdit, HoldNext, IsDeviceFault}
 use Rattle.timew_store.specs.Store.{HoldMonths, change_bodies}
-use Rattle.timew_store.specs.Writing.{changes_of, WriteRefused}
-use Rattle.timew_store.specs.declared.edit.Edit.{Edit}
+use Rattle.timew_month.specs.Records.{changes_of}
+use Rattle.timew_store.specs.Writing.{WriteRefused}
+use Rattle.timew_interval.specs.declared.edit.Edit.{Edit}
 use Rattle.timew_store.specs.declared.error.StoreError.{StoreError}
 use Rattle.timew_store.specs.declared.error.StoreError.TheVariants as store
-use Rattle.timew_store.specs.declared.interval.Interval.{Interval}
-use Rattle.timew_store.specs.declared.months.KnownText.{KnownText}
-use Rattle.timew_store.specs.declared.months.MonthFile.{MonthFile}
-use Rattle.timew_store.specs.declared.months.Months.{Months}
+use Rattle.timew_interval.specs.declared.interval.Interval.{Interval}
+use Rattle.timew_month.specs.declared.months.KnownText.{KnownText}
+use Rattle.timew_month.specs.declared.months.MonthFile.{MonthFile}
+use Rattle.timew_month.specs.declared.months.Months.{Months}
 use Rattle.timew_store.specs.declared.write.prepared.PreparedEdit.{PreparedEdit}
 use Rattle.timew_store.proofs.MonthsPut.{months_changed}
 use Rattle.timew_store.proofs.Growth.{change_size}

@@ -10,23 +10,26 @@ use Rattle.tw_world.specs.Turns.InTurns.{at_rest}
 use Rattle.tw_world.specs.Folder.{Files, FolderModel, same_bytes}
 use Rattle.tw_journal.specs.declared.journal.Journal.{Journal}
 use Rattle.tw_journal.specs.declared.error.JournalError.TheVariants as cause
-use Rattle.timew_store.specs.declared.interval.Interval.{Interval}
-use Rattle.timew_store.specs.declared.write.change.NewFile.{NewFile}
+use Rattle.timew_interval.specs.declared.interval.Interval.{Interval}
+use Rattle.timew_month.specs.declared.months.NewFile.{NewFile}
 use Rattle.timew_store.specs.declared.store.Store.{Store}
-use Rattle.timew_store.specs.Body.{FileChange, Step, AreMonths, body_of, names_rise, ◌>>=◌}
-use Rattle.timew_store.specs.Body.Step.{Change}
-use Rattle.timew_store.specs.Gathered.{NamedBytes}
+use Rattle.timew_month.specs.Body.{FileChange, Step, AreMonths, body_of, names_rise, ◌>>=◌}
+use Rattle.timew_month.specs.Body.Step.{Change}
+use Rattle.timew_month.specs.Gathered.{NamedBytes}
 use Rattle.timew_store.specs.History.{History, applied, stepped, with_change}
-use Rattle.timew_store.specs.Held.{Held, OpensTo, OpensToEither, IsAtRest, held_by, bytes_of, replaced, finished, HasOld}
-use Rattle.timew_store.specs.NamedFiles.{bytes_in, text_in, one_change}
-use Rattle.timew_store.specs.Changes.{month_text, month_change, changes_to, all_names}
-use Rattle.timew_store.specs.Writing.{change_of, changes_of, AreFileNames, IsReadyFor, WriteRefused}
+use Rattle.timew_store.specs.Held.{Held, OpensTo, OpensToEither, IsAtRest, held_by, finished, HasOld}
+use Rattle.timew_month.specs.Files.{bytes_of, replaced}
+use Rattle.timew_month.specs.NamedFiles.{bytes_in, text_in, one_change}
+use Rattle.timew_interval.specs.MonthName.{month_text}
+use Rattle.timew_month.specs.Changes.{month_change, changes_to, all_names}
+use Rattle.timew_month.specs.Records.{change_of, changes_of}
+use Rattle.timew_store.specs.Writing.{AreFileNames, IsReadyFor, WriteRefused}
 use Rattle.timew_store.specs.Store.{HoldMonths, IsStoreOn, IsMovedTo, IsChangeBody, ChangeRefused, with_any, changed, change_bodies}
 use Rattle.timew_store.specs.declared.error.StoreError.{StoreError}
 use Rattle.timew_store.specs.declared.error.StoreError.TheVariants as write
 use Rattle.timew_store.proofs.AfterLoading.{rise_apart}
 use Rattle.timew_store.proofs.ChangesByName.{AreMonthNames}
-use Rattle.timew_store.proofs.MonthForm.{month_file}
+use Rattle.timew_interval.proofs.MonthForm.{month_file}
 use Rattle.timew_store.proofs.RisingMonths.{changes_rise}
 use Rattle.timew_store.proofs.StepAgain.{step_again}
 use Rattle.timew_store.proofs.CrashOfChange.{open_records}

@@ -5,10 +5,11 @@ use Rattle.tw_world.specs.Crash.{Tells, IsStable, Steps, LeavesOnly, FaultsRise}
 use Rattle.tw_world.specs.Folder.{Files, FolderModel, Replaced}
 use Rattle.std.specs.FinMap.{insert}
 use Rattle.tw_world.proofs.Crashes.{CountsNow, OnlyNow, started, goes_on, joined}
-use Rattle.timew_store.specs.Body.{FileChange}
-use Rattle.timew_store.specs.Held.{replaced, with_new, IsPartly, Replacing}
-use Rattle.timew_store.specs.Writing.{change_of, changes_of}
-use Rattle.timew_store.specs.declared.write.change.NewFile.{NewFile}
+use Rattle.timew_month.specs.Body.{FileChange}
+use Rattle.timew_month.specs.Files.{replaced, with_new}
+use Rattle.timew_store.specs.Held.{IsPartly, Replacing}
+use Rattle.timew_month.specs.Records.{change_of, changes_of}
+use Rattle.timew_month.specs.declared.months.NewFile.{NewFile}
 
 pub replaced-push : (changes : List FileChange) (files : Files) (f : FileChange) → replaced files (changes ++ f ∷ []) ≡ with_new (replaced files changes) f
 replaced-push [] files f = refl

@@ -2,19 +2,19 @@
 use Rattle.std.proofs.Common.{◌≡◌, true, List, Ok, sym, ap, subst, ◌∙◌}
 use Rattle.std.proofs.Props.{props}
 use Rattle.tw_world.specs.Folder.{Files}
-use Rattle.timew_store.specs.declared.edit.Edit.{Edit}
-use Rattle.timew_store.specs.declared.months.MonthFile.{MonthFile}
-use Rattle.timew_store.specs.declared.interval.Interval.{Interval}
-use Rattle.timew_store.specs.declared.months.Months.{Months}
-use Rattle.timew_store.specs.declared.months.KnownText.{KnownText}
-use Rattle.timew_store.specs.Body.{FileChange}
-use Rattle.timew_store.specs.Edit.{edited}
-use Rattle.timew_store.specs.Gathered.{files_of, months_in}
-use Rattle.timew_store.specs.Held.{replaced}
-use Rattle.timew_store.specs.Interval.{IsEnd-prop}
-use Rattle.timew_store.specs.NamedFiles.{are_named}
-use Rattle.timew_store.specs.Known.{AreKnown}
-use Rattle.timew_store.specs.Rows.{rows_of}
+use Rattle.timew_interval.specs.declared.edit.Edit.{Edit}
+use Rattle.timew_month.specs.declared.months.MonthFile.{MonthFile}
+use Rattle.timew_interval.specs.declared.interval.Interval.{Interval}
+use Rattle.timew_month.specs.declared.months.Months.{Months}
+use Rattle.timew_month.specs.declared.months.KnownText.{KnownText}
+use Rattle.timew_month.specs.Body.{FileChange}
+use Rattle.timew_interval.specs.Edit.{edited}
+use Rattle.timew_month.specs.Gathered.{files_of, months_in}
+use Rattle.timew_month.specs.Files.{replaced}
+use Rattle.timew_interval.specs.Interval.{IsEnd-prop}
+use Rattle.timew_month.specs.NamedFiles.{are_named}
+use Rattle.timew_month.specs.Known.{AreKnown}
+use Rattle.timew_month.specs.Rows.{rows_of}
 use Rattle.timew_store.specs.Store.{HoldMonths}
 
 pub named_once : (files : List MonthFile) → IsProp (are_named files ≡ true)

@@ -10,15 +10,16 @@ use Rattle.std.specs.Ordering.{is_lt, ordering_reverse}
 use Rattle.std.specs.declared.cmp.Ordering.{Ordering}
 use Rattle.std.specs.declared.cmp.Ordering.TheVariants.{Less, Equal, Greater}
 use Rattle.tw_world.specs.Folder.{Files, bytes_cmp, same_bytes, add_name}
-use Rattle.timew_store.specs.declared.interval.Interval.{Interval}
-use Rattle.timew_store.specs.Body.{FileChange, is_month_name, rises_from, names_rise}
-use Rattle.timew_store.specs.Held.{bytes_of}
-use Rattle.timew_store.specs.Changes.{month_name, month_text, month_change, all_names, changes_to}
-use Rattle.timew_store.specs.Rows.{month_names}
-use Rattle.timew_store.proofs.FinishedFiles.{bytes_exact}
-use Rattle.timew_store.proofs.Tests.{both, is_less, is_true}
-use Rattle.timew_store.proofs.GroupedMonths.{Rise}
-use Rattle.timew_store.proofs.ChangedFiles.{month_names_rise}
+use Rattle.timew_interval.specs.declared.interval.Interval.{Interval}
+use Rattle.timew_month.specs.Body.{FileChange, rises_from, names_rise}
+use Rattle.timew_interval.specs.MonthName.{is_month_name, month_name, month_text}
+use Rattle.timew_month.specs.Files.{bytes_of}
+use Rattle.timew_month.specs.Changes.{month_change, all_names, changes_to}
+use Rattle.timew_month.specs.Rows.{month_names}
+use Rattle.timew_interval.proofs.SameBytes.{bytes_exact}
+use Rattle.timew_interval.proofs.Tests.{both, is_less, is_true}
+use Rattle.timew_month.proofs.GroupedMonths.{Rise}
+use Rattle.timew_month.proofs.ChangedFiles.{month_names_rise}
 
 -- ---- names
 

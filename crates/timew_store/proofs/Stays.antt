@@ -11,7 +11,7 @@ use Rattle.tw_journal.specs.declared.error.OpenError.{OpenError}
 use Rattle.tw_journal.specs.declared.error.OpenError.TheVariants as opening
 use Rattle.tw_journal.proofs.Offsets.{still_open, same_offset}
 use Rattle.tw_journal.specs.Form.{Records, offset_in}
-use Rattle.timew_store.specs.Body.{FileChange}
+use Rattle.timew_month.specs.Body.{FileChange}
 use Rattle.timew_store.specs.Held.{magic, OpensTo, AreApart}
 use Rattle.timew_store.specs.Loading.{IsLoaded, IsFinishedTo, StoreSparesDisk, KeepsRecords, Stays, last_of}
 use Rattle.timew_store.specs.Store.{not_loaded, LoadSparesDisk}

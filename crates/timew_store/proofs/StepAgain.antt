@@ -7,8 +7,9 @@ use Rattle.std.proofs.lemmas.List.{take_at, drop_at, append-nil, length-append}
 use Rattle.tw_fields.specs.Fields.{field_bytes}
 use Rattle.tw_fields.specs.Reading.{bytes_at, many_at}
 use Rattle.tw_fields.proofs.FieldsAgain.{four_again, many_again, few}
-use Rattle.timew_store.specs.Body.{FileChange, Step, file_bytes, files_bytes, body_of, is_month_name, AreMonths, names_rise, named, file_at, files_of, step_of}
-use Rattle.timew_store.specs.Body.Step.{Change, Undo}
+use Rattle.timew_month.specs.Body.{FileChange, Step, file_bytes, files_bytes, body_of, AreMonths, names_rise, named, file_at, files_of, step_of}
+use Rattle.timew_interval.specs.MonthName.{is_month_name}
+use Rattle.timew_month.specs.Body.Step.{Change, Undo}
 use Rattle.timew_store.specs.Loading.{files_in}
 
 bytes_again : (bytes rest : List ℕ) → length bytes < 2 ^ 32 → bytes_at (field_bytes bytes ++ rest) ≡ Some (bytes, rest)

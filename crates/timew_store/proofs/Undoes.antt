@@ -18,32 +18,33 @@ use Rattle.tw_journal.specs.declared.journal.Journal.{Journal}
 use Rattle.tw_journal.specs.declared.error.JournalError.{JournalError}
 use Rattle.tw_journal.specs.declared.error.JournalError.TheVariants as cause
 use Rattle.tw_journal.proofs.Offsets.{still_open}
-use Rattle.timew_store.specs.Body.{FileChange, Step, AreMonths, body_of, names_rise, rises_from, ◌>>=◌}
-use Rattle.timew_store.specs.Body.Step.{Undo}
-use Rattle.timew_store.specs.Gathered.{RowsRefused, files_of, months_in, lines_in}
-use Rattle.timew_store.specs.Held.{magic, Held, OpensTo, OpensToEither, IsAtRest, held_by, bytes_of, replaced, HasOld}
+use Rattle.timew_month.specs.Body.{FileChange, Step, AreMonths, body_of, names_rise, rises_from, ◌>>=◌}
+use Rattle.timew_month.specs.Body.Step.{Undo}
+use Rattle.timew_month.specs.Gathered.{RowsRefused, files_of, months_in, lines_in}
+use Rattle.timew_store.specs.Held.{magic, Held, OpensTo, OpensToEither, IsAtRest, held_by, HasOld}
+use Rattle.timew_month.specs.Files.{bytes_of, replaced}
 use Rattle.timew_store.specs.History.{History, applied, stepped, undone, exchanged, same_files}
-use Rattle.timew_store.specs.NamedFiles.{first_edited_in}
-use Rattle.timew_store.specs.Rows.{judged, rows_of}
+use Rattle.timew_month.specs.NamedFiles.{first_edited_in}
+use Rattle.timew_month.specs.Rows.{judged, rows_of}
 use Rattle.timew_store.specs.Undo.{NoUndo, first_edited, undone_held, unless_edited, unless_unread, taken_back}
 use Rattle.timew_store.specs.Undo.NoUndo.{Nothing, EditedFile, Bad}
 use Rattle.timew_store.specs.Store.{HoldMonths, IsStoreOn}
 use Rattle.timew_store.specs.StoreUndo.{undo_bodies, IsTakenBack, OpensToEitherOf, not_read_back, not_written, WalkRefused, BackRefused, IsUndoBody, JournalRead, UndoJournalRefused, UndoRefused}
 use Rattle.timew_store.specs.Writing.{IsReadyFor, RecordRefused, WriteRefused}
-use Rattle.timew_store.specs.declared.months.MonthFile.{MonthFile}
-use Rattle.timew_store.specs.declared.read.rows.RowsError.{RowsError}
-use Rattle.timew_store.specs.declared.read.rows.RowsError.TheVariants as read
+use Rattle.timew_month.specs.declared.months.MonthFile.{MonthFile}
+use Rattle.timew_month.specs.declared.read.rows.RowsError.{RowsError}
+use Rattle.timew_month.specs.declared.read.rows.RowsError.TheVariants as read
 use Rattle.timew_store.specs.declared.error.StoreError.{StoreError}
 use Rattle.timew_store.specs.declared.error.StoreError.TheVariants as write
 use Rattle.timew_store.specs.declared.error.UndoError.{UndoError}
 use Rattle.timew_store.specs.declared.error.UndoError.TheVariants as undo
-use Rattle.timew_store.specs.declared.interval.Interval.{Interval}
+use Rattle.timew_interval.specs.declared.interval.Interval.{Interval}
 use Rattle.timew_store.specs.declared.store.Store.{Store}
-use Rattle.timew_store.specs.declared.months.Months.{Months}
+use Rattle.timew_month.specs.declared.months.Months.{Months}
 use Rattle.timew_store.proofs.AfterLoading.{rise_apart}
 use Rattle.timew_store.proofs.ChangesByName.{bytes_kept}
 use Rattle.timew_store.proofs.FilesRead.{judged_files}
-use Rattle.timew_store.proofs.FinishedFiles.{same_bytes_exact, same_bytes_itself}
+use Rattle.timew_interval.proofs.SameBytes.{same_bytes_exact, same_bytes_itself}
 use Rattle.timew_store.proofs.Prepares.{opens_here}
 use Rattle.timew_store.proofs.StepAgain.{step_again}
 

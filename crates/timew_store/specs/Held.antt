@@ -1,6 +1,5 @@
 -- What a folder and a journal hold together.
-use Rattle.std.specs.Prelude.{◌≡◌, ◌⊎◌, ◌≤◌, ℕ, false, cond, List, [], ◌∷◌, length, take, codes, unwrap_or}
-use Rattle.std.specs.FinMap.{get, insert}
+use Rattle.std.specs.Prelude.{◌≡◌, ◌⊎◌, ◌≤◌, ℕ, false, cond, List, [], ◌∷◌, length, take, codes}
 use Rattle.std.specs.List.{AllByRecursion}
 use Rattle.tw_world.specs.Disk.{DiskModel}
 use Rattle.tw_world.specs.Disk as disk
@@ -9,8 +8,9 @@ use Rattle.tw_world.specs.Folder.{Files, FolderModel, same_bytes}
 use Rattle.tw_journal.specs.Open.{Records}
 use Rattle.tw_journal.specs.Journal.{IsOpenOn}
 use Rattle.tw_journal.specs.declared.journal.Journal.{Journal}
-use Rattle.timew_store.specs.Body.{FileChange}
+use Rattle.timew_month.specs.Body.{FileChange}
 use Rattle.timew_store.specs.History.{History, Stands}
+use Rattle.timew_month.specs.Files.{bytes_of, with_new, replaced}
 
 -- the bodies of records, the first one first
 abbrev pub Bodies : Type 0
@@ -19,18 +19,6 @@ Bodies = List (List ℕ)
 -- the first record of a store's journal
 abbrev pub magic : List ℕ
 magic = codes "TIMEWJ01"
-
--- the bytes of a file; one that is not there has none
-abbrev pub bytes_of : Files → List ℕ → List ℕ
-bytes_of files name = unwrap_or (get files name) []
-
-abbrev pub with_new : Files → FileChange → Files
-with_new files f = insert files f.name f.new
-
--- the files after a change
-abbrev pub replaced : Files → List FileChange → Files
-replaced files [] = files
-replaced files (f ∷ changes) = replaced (with_new files f) changes
 
 -- a file that still has its old bytes gets its new ones
 abbrev pub finished_file : Files → FileChange → Files

@@ -1,10 +1,9 @@
 -- The changes to which records lead.
-use Rattle.std.specs.Prelude.{◌≡◌, Bool, ◌&&◌, cond, List, [], ◌∷◌, map, Option, Some, None}
+use Rattle.std.specs.Prelude.{◌≡◌, Bool, ◌&&◌, cond, List, [], ◌∷◌, map, Option, Some, None, ℕ}
 use lib.Pointwise.{pointwise}
 use Rattle.tw_world.specs.Folder.{same_bytes}
-use Rattle.timew_store.specs.Body.{FileChange, Step, step_of, ◌>>=◌}
-use Rattle.timew_store.specs.Body.Step.{Change, Undo}
-use Rattle.std.specs.Prelude.{ℕ}
+use Rattle.timew_month.specs.Body.{FileChange, Step, step_of, ◌>>=◌}
+use Rattle.timew_month.specs.Body.Step.{Change, Undo}
 
 pub record History : Type 0 where
   -- the changes that are not undone, the last one first

@@ -13,8 +13,8 @@ use Rattle.tw_journal.specs.declared.error.ReadError.TheVariants as reads
 use Rattle.tw_journal.specs.declared.error.JournalError.{JournalError}
 use Rattle.tw_journal.specs.declared.error.JournalError.TheVariants.{Disk, Closed, Damaged, TooLong, Memory as NoMemory}
 use Rattle.tw_journal.specs.declared.journal.Journal.{Journal}
-use Rattle.timew_store.specs.Body.{FileChange, Step, step_of}
-use Rattle.timew_store.specs.Body.Step.{Change, Undo}
+use Rattle.timew_month.specs.Body.{FileChange, Step, step_of}
+use Rattle.timew_month.specs.Body.Step.{Change, Undo}
 use Rattle.timew_store.specs.History.{History, Stands}
 use Rattle.timew_store.specs.declared.error.StoreError.{StoreError}
 use Rattle.timew_store.specs.declared.error.StoreError.TheVariants.{Folder, Journal as OfJournal, Memory}

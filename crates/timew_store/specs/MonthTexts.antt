@@ -1,13 +1,12 @@
 -- The texts of the months of intervals.
 use Rattle.std.specs.Prelude.{◌≡◌, ℕ, true, List, ◌++◌, map}
 use Rattle.std.specs.List.{AllByRecursion}
-use Rattle.timew_store.specs.declared.interval.Interval.{Interval}
+use Rattle.timew_interval.specs.declared.interval.Interval.{Interval}
 use Rattle.timew_store.specs.declared.write.month_texts.MonthText.{MonthText}
-use Rattle.timew_store.specs.Body.{is_month_name}
-use Rattle.timew_store.specs.Gathered.{NamedBytes}
-use Rattle.timew_store.specs.NamedFiles.{text_in, with_names, with_months}
-use Rattle.timew_store.specs.Changes.{month_text}
-use Rattle.timew_store.specs.ReadBack.{IsWritable}
+use Rattle.timew_interval.specs.MonthName.{is_month_name, month_text}
+use Rattle.timew_month.specs.Gathered.{NamedBytes}
+use Rattle.timew_month.specs.NamedFiles.{text_in, with_names, with_months}
+use Rattle.timew_interval.specs.ReadBack.{IsWritable}
 
 -- without its address in memory
 abbrev pub text_of : MonthText → NamedBytes

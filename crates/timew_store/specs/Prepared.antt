@@ -7,18 +7,19 @@ use Rattle.tw_journal.specs.Record.{rows as row_of_records}
 use Rattle.tw_journal.specs.Journal.{journal_end}
 use Rattle.tw_journal.specs.declared.journal.Journal.{Journal}
 use Rattle.tw_journal.specs.declared.error.JournalError.TheVariants as cause
-use Rattle.timew_store.specs.Body.{AreMonths, body_of}
-use Rattle.timew_store.specs.Body.Step.{Change}
-use Rattle.timew_store.specs.Changes.{changes_to}
-use Rattle.timew_store.specs.Edit.{edited, IsEditOf}
-use Rattle.timew_store.specs.Held.{replaced}
-use Rattle.timew_store.specs.Interval.{AreRows}
-use Rattle.timew_store.specs.Rows.{rows_of}
+use Rattle.timew_month.specs.Body.{AreMonths, body_of}
+use Rattle.timew_month.specs.Body.Step.{Change}
+use Rattle.timew_month.specs.Changes.{changes_to}
+use Rattle.timew_interval.specs.Edit.{edited, IsEditOf}
+use Rattle.timew_month.specs.Files.{replaced}
+use Rattle.timew_interval.specs.Interval.{AreRows}
+use Rattle.timew_month.specs.Rows.{rows_of}
 use Rattle.timew_store.specs.Store.{OnFolders, HoldMonths, IsChangedTo, IsChangeBody, ChangeRefused, change_bodies, intervals_of, is_store_closed}
-use Rattle.timew_store.specs.Writing.{changes_of, HasRecordMore}
-use Rattle.timew_store.specs.declared.edit.Edit.{Edit}
-use Rattle.timew_store.specs.declared.interval.Interval.{Interval}
-use Rattle.timew_store.specs.declared.months.Months.{Months}
+use Rattle.timew_month.specs.Records.{changes_of}
+use Rattle.timew_store.specs.Writing.{HasRecordMore}
+use Rattle.timew_interval.specs.declared.edit.Edit.{Edit}
+use Rattle.timew_interval.specs.declared.interval.Interval.{Interval}
+use Rattle.timew_month.specs.declared.months.Months.{Months}
 use Rattle.timew_store.specs.declared.store.Store.{Store}
 use Rattle.timew_store.specs.declared.write.prepared.PreparedEdit.{PreparedEdit}
 use Rattle.timew_store.specs.declared.prepare.PreparedChange.{PreparedChange}

@@ -10,24 +10,25 @@ use Rattle.tw_journal.specs.Open.{Records}
 use Rattle.tw_journal.specs.Journal.{is_closed, journal_end, IsOpenOn}
 use Rattle.tw_journal.specs.declared.journal.Journal.{Journal}
 use Rattle.tw_journal.specs.declared.error.JournalError.{JournalError}
-use Rattle.timew_store.specs.Body.{FileChange, body_of}
-use Rattle.timew_store.specs.Body.Step.{Change}
+use Rattle.timew_month.specs.Body.{FileChange, body_of}
+use Rattle.timew_month.specs.Body.Step.{Change}
 use Rattle.timew_store.specs.History.{History, Stands}
 use Rattle.timew_store.specs.Held.{magic, Bodies, Held, OpensTo, OpensToEither, OnStable, IsAtRest, finished, held_by}
-use Rattle.timew_store.specs.Changes.{changes_to, changed_files}
-use Rattle.timew_store.specs.Gathered.{files_of, months_in}
+use Rattle.timew_month.specs.Changes.{changes_to, changed_files}
+use Rattle.timew_month.specs.Gathered.{files_of, months_in}
 use Rattle.timew_store.specs.Loading.{OpeningRefused, IsJournalFault, StandAsBefore, SparesDisk, last_of}
 use Rattle.timew_store.specs.Growth.{JournalGrowsBy}
-use Rattle.timew_store.specs.Writing.{changes_of, RestsOn, LeavesWritten, HasRecordMore, RecordRefused, WriteRefused}
-use Rattle.timew_store.specs.Rows.{rows_of}
-use Rattle.timew_store.specs.declared.interval.Interval.{Interval}
-use Rattle.timew_store.specs.declared.edit.Edit.{Edit}
-use Rattle.timew_store.specs.declared.months.Months.{Months}
+use Rattle.timew_month.specs.Records.{changes_of}
+use Rattle.timew_store.specs.Writing.{RestsOn, LeavesWritten, HasRecordMore, RecordRefused, WriteRefused}
+use Rattle.timew_month.specs.Rows.{rows_of}
+use Rattle.timew_interval.specs.declared.interval.Interval.{Interval}
+use Rattle.timew_interval.specs.declared.edit.Edit.{Edit}
+use Rattle.timew_month.specs.declared.months.Months.{Months}
 use Rattle.timew_store.specs.declared.write.prepared.Prepared.{Prepared}
-use Rattle.timew_store.specs.Edit.{edited}
+use Rattle.timew_interval.specs.Edit.{edited}
 use Rattle.timew_store.specs.declared.store.Store.{Store}
-use Rattle.timew_store.specs.declared.read.rows.RowsError.{RowsError}
-use Rattle.timew_store.specs.declared.read.rows.RowsError.TheVariants as read
+use Rattle.timew_month.specs.declared.read.rows.RowsError.{RowsError}
+use Rattle.timew_month.specs.declared.read.rows.RowsError.TheVariants as read
 use Rattle.timew_store.specs.declared.error.StoreError.{StoreError}
 use Rattle.timew_store.specs.declared.error.StoreError.TheVariants as store
 use Rattle.timew_store.specs.declared.error.LoadError.{LoadError}

@@ -10,19 +10,20 @@ use Rattle.tw_journal.specs.declared.error.ReadError.{ReadError}
 use Rattle.tw_journal.specs.declared.error.ReadError.TheVariants as reads
 use Rattle.tw_journal.specs.declared.error.JournalError.{JournalError}
 use Rattle.tw_journal.specs.declared.error.JournalError.TheVariants as cause
-use Rattle.timew_store.specs.Body.{FileChange, body_of}
-use Rattle.timew_store.specs.Body.Step.{Undo}
+use Rattle.timew_month.specs.Body.{FileChange, body_of}
+use Rattle.timew_month.specs.Body.Step.{Undo}
 use Rattle.timew_store.specs.History.{History, exchanged}
-use Rattle.timew_store.specs.Held.{Bodies, Held, OpensTo, OpensToEither, OnRecords, OnHistory, held_by, replaced}
+use Rattle.timew_store.specs.Held.{Bodies, Held, OpensTo, OpensToEither, OnRecords, OnHistory, held_by}
+use Rattle.timew_month.specs.Files.{replaced}
 use Rattle.timew_store.specs.Growth.{JournalGrowsBy}
 use Rattle.timew_store.specs.Loading.{IsNoStep}
-use Rattle.timew_store.specs.Rows.{rows_of}
+use Rattle.timew_month.specs.Rows.{rows_of}
 use Rattle.timew_store.specs.Store.{OnFolders, OnStore, IsMovedTo, StandsMore, is_store_closed}
-use Rattle.timew_store.specs.declared.months.Months.{Months}
+use Rattle.timew_month.specs.declared.months.Months.{Months}
 use Rattle.timew_store.specs.Undo.{NoUndo, first_edited, undone_held}
 use Rattle.timew_store.specs.Undo.NoUndo.{Nothing, EditedFile, Bad}
-use Rattle.timew_store.specs.declared.read.rows.RowsError.{RowsError}
-use Rattle.timew_store.specs.declared.read.rows.RowsError.TheVariants as read
+use Rattle.timew_month.specs.declared.read.rows.RowsError.{RowsError}
+use Rattle.timew_month.specs.declared.read.rows.RowsError.TheVariants as read
 use Rattle.timew_store.specs.declared.store.Store.{Store}
 use Rattle.timew_store.specs.declared.error.StoreError.{StoreError}
 use Rattle.timew_store.specs.declared.error.StoreError.TheVariants as store

@@ -1,11 +1,12 @@
 -- What an undo makes of the month files.
 use Rattle.std.specs.Prelude.{ℕ, cond, List, [], ◌∷◌, Option, Some, None, Result, Ok, Err}
 use Rattle.tw_world.specs.Folder.{Files, same_bytes}
-use Rattle.timew_store.specs.Body.{FileChange}
+use Rattle.timew_month.specs.Body.{FileChange}
 use Rattle.timew_store.specs.History.{exchanged}
-use Rattle.timew_store.specs.Held.{Held, bytes_of, replaced}
-use Rattle.timew_store.specs.Rows.{rows_of}
-use Rattle.timew_store.specs.declared.interval.Interval.{Interval}
+use Rattle.timew_store.specs.Held.{Held}
+use Rattle.timew_month.specs.Files.{bytes_of, replaced}
+use Rattle.timew_month.specs.Rows.{rows_of}
+use Rattle.timew_interval.specs.declared.interval.Interval.{Interval}
 
 -- why there is no undo
 pub data NoUndo : Type 0 where

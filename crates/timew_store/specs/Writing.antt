@@ -1,5 +1,5 @@
 -- What is handed to the journal and the folder.
-use Rattle.std.specs.Prelude.{◌≡◌, ◌<◌, ◌^◌, ◌++◌, ◌∷◌, [], ℕ, List, true, map, length, ◌+◌, Some}
+use Rattle.std.specs.Prelude.{◌≡◌, ◌<◌, ◌^◌, ◌++◌, ◌∷◌, [], ℕ, List, true, length, ◌+◌, Some}
 use Rattle.std.specs.List.{AllByRecursion}
 use Rattle.tw_world.specs.Disk.{DiskModel, Rose}
 use Rattle.tw_world.specs.Folder.{Files, FolderModel, is_file_name}
@@ -11,13 +11,11 @@ use Rattle.tw_journal.specs.declared.error.JournalError.{JournalError}
 use Rattle.tw_journal.specs.declared.error.JournalError.TheVariants as errors
 use Rattle.tw_world.specs.declared.folder.FolderError.{FolderError}
 use Rattle.tw_world.specs.declared.folder.FolderError.TheVariants.{Failed, Memory as NoRoom}
-use Rattle.timew_store.specs.Body.{FileChange, Step}
-use Rattle.timew_store.specs.Body.Step.{Change, Undo}
-use Rattle.timew_store.specs.declared.body.Record.{Record}
-use Rattle.timew_store.specs.declared.body.Record.TheVariants as held
+use Rattle.timew_month.specs.Body.{FileChange}
 use Rattle.timew_store.specs.History.{History, stepped}
-use Rattle.timew_store.specs.Held.{magic, Bodies, Held, OpensToEither, IsAtRest, OnRecords, HasOld, AreApart, held_by, replaced}
-use Rattle.timew_store.specs.declared.write.change.NewFile.{NewFile}
+use Rattle.timew_store.specs.Held.{magic, Bodies, Held, OpensToEither, IsAtRest, OnRecords, HasOld, AreApart, held_by}
+use Rattle.timew_month.specs.Files.{replaced}
+use Rattle.timew_month.specs.declared.months.NewFile.{NewFile}
 use Rattle.timew_store.specs.declared.error.StoreError.{StoreError}
 use Rattle.timew_store.specs.declared.error.StoreError.TheVariants.{Folder, Journal as OfJournal, Memory}
 
@@ -25,22 +23,6 @@ use Rattle.timew_store.specs.declared.error.StoreError.TheVariants.{Folder, Jour
 abbrev pub error_of : FolderError → StoreError
 error_of Failed = Folder
 error_of NoRoom = Memory
-
--- without its address in memory
-abbrev pub change_of : NewFile → FileChange
-change_of f = record { name = f.name; old = f.old.items; new = f.new.items }
-
-abbrev pub changes_of : List NewFile → List FileChange
-changes_of = map change_of
-
--- the step that a record holds
-abbrev pub step_in : Record → Step
-step_in (held.Change files) = Change (changes_of files.items)
-step_in (held.Undo files) = Undo (changes_of files.items)
-
-abbrev pub files_held : Record → List NewFile
-files_held (held.Change files) = files.items
-files_held (held.Undo files) = files.items
 
 abbrev pub AreFileNames : List NewFile → Type 0
 AreFileNames files = AllByRecursion (λ f. is_file_name f.name ≡ true) files

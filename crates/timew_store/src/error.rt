@@ -1,7 +1,7 @@
 // Why calls of a store are refused.
 
-use crate::read::rows::RowsError;
 use std::alloc::AllocFailed;
+use timew_month::RowsError;
 use tw_journal::{JournalError, OpenError, ReadError};
 use tw_world::{FolderError, Memory, Text};
 

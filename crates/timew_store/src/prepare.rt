@@ -5,11 +5,11 @@ ghost use Rattle.tw_world.specs.Crash.{FaultsRise};
 ghost use Rattle.timew_store.specs.Prepared.{IsPreparedChange, OnPrepared, WriteFailed, prepared_end};
 ghost use Rattle.timew_store.specs.Store.{intervals_of, is_store_closed, store_end, IsChangedTo, LeavesChange, ChangeGrows};
 
-use crate::edit::Edit;
 use crate::error::{StoreError, WriteError};
-use crate::months::Months;
 use crate::store::Store;
 use crate::write::prepared::PreparedEdit;
+use timew_interval::Edit;
+use timew_month::Months;
 use tw_journal::Journal;
 use tw_world::{Disk, Folder};
 

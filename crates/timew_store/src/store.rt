@@ -3,29 +3,28 @@ ghost use Rattle.std.specs.Prelude.{◌≡◌, IfOk, IfErr, OnOk, OnErr, Err as 
 ghost use Rattle.tw_world.specs.Disk as tells;
 ghost use Rattle.tw_world.specs.Crash.{FaultsRise};
 ghost use Rattle.tw_journal.specs.Record.{IsLongerBy};
-ghost use Rattle.timew_store.specs.Body.{AreMonths};
-ghost use Rattle.timew_store.specs.Edit.{IsEditOf};
+ghost use Rattle.timew_month.specs.Body.{AreMonths};
+ghost use Rattle.timew_interval.specs.Edit.{IsEditOf};
 ghost use Rattle.timew_store.specs.Held.{IfTheyOpen, Replaces};
 ghost use Rattle.timew_store.specs.Prepared.{IsPreparedChange, PrepareRefused};
 ghost use Rattle.timew_store.specs.Loading.{Stays, LeavesAlike};
 ghost use Rattle.timew_store.specs.Store.{LoadRefused, IsLoadFault, LoadSparesDisk, intervals_of, is_store_closed, store_end, ChangeRefused};
 ghost use Rattle.timew_store.specs.Store.{LoadsStore, rows_after, IsChangedTo, LeavesChange, ChangeGrows, RestsOnPrepared, LeavesPrepared, PreparedRefused};
 ghost use Rattle.timew_store.specs.StoreUndo.{UndoRefused, IsUndone, LeavesUndo, UndoGrows};
-ghost use Rattle.timew_store.specs.Writing.{changes_of};
+ghost use Rattle.timew_month.specs.Records.{changes_of};
 ghost use Rattle.timew_store.specs.Growth.{record_size, JournalGrowsBy};
 
-use crate::edit::Edit;
 use crate::error::{LoadError, PrepareError, StoreError, UndoError};
-use crate::interval::list::Intervals;
+use crate::folder::read_months;
 use crate::load::open_and_finish;
-use crate::months::Months;
 use crate::prepare::PreparedChange;
-use crate::read::folder::read_months;
 use crate::undo::{last_change, prepared_undo};
 use crate::write::change::write_change;
 use crate::write::prepared::{Prepared, prepared_edit};
 use std::alloc::Global;
 use std::mem::replace;
+use timew_interval::{Edit, Intervals};
+use timew_month::Months;
 use tw_journal::{Journal, JournalError};
 use tw_world::{Disk, Folder};
 

@@ -3,27 +3,25 @@ ghost use Rattle.std.specs.Prelude.{◌≡◌, true, false, not, option_map, sli
 ghost use Rattle.tw_world.specs.Disk.{Untouched};
 ghost use Rattle.tw_world.specs.Folder.{same_bytes};
 ghost use Rattle.tw_journal.specs.Journal.{is_closed, journal_end};
-ghost use Rattle.timew_store.specs.Body.{AreMonths, body_of, names_rise};
-ghost use Rattle.timew_store.specs.Body.Step.{Undo};
-ghost use Rattle.timew_store.specs.Gathered.{files_of};
-ghost use Rattle.timew_store.specs.Held.{replaced, OnHistory};
+ghost use Rattle.timew_month.specs.Body.{AreMonths, body_of, names_rise};
+ghost use Rattle.timew_month.specs.Body.Step.{Undo};
+ghost use Rattle.timew_month.specs.Gathered.{files_of};
+ghost use Rattle.timew_month.specs.Files.{replaced};
+ghost use Rattle.timew_store.specs.Held.{OnHistory};
 ghost use Rattle.timew_store.specs.History.{exchanged};
-ghost use Rattle.timew_store.specs.NamedFiles.{bytes_in, first_edited_in};
+ghost use Rattle.timew_month.specs.NamedFiles.{bytes_in, first_edited_in};
 ghost use Rattle.timew_store.specs.Store.{HoldMonths, OnFolders};
 ghost use Rattle.timew_store.specs.Undo.{first_edited};
 ghost use Rattle.timew_store.specs.StoreUndo.{WalkRefused, BackRefused};
-ghost use Rattle.timew_store.specs.Writing.{changes_of};
+ghost use Rattle.timew_month.specs.Records.{changes_of};
 
-use crate::body::{Record, undo_body};
 use crate::error::UndoError;
 use crate::load::read_step;
-use crate::months::{MonthFile, Months};
-use crate::read::rows::read_rows;
-use crate::write::after::files_after;
-use crate::write::change::NewFile;
-use crate::write::changes::bytes_in;
 use crate::write::prepared::Prepared;
 use std::alloc::Global;
+use timew_month::{
+    MonthFile, Months, NewFile, Record, bytes_in, files_after, read_rows, undo_body,
+};
 use tw_journal::{Journal, ReadError};
 use tw_world::{Disk, Memory, Text};
 

@@ -1,7 +1,7 @@
 use super::{CODE, TWO, judged, leads_to};
 use std::alloc::Global;
 use std::test::Fail;
-use timew_cmd::Command;
+use timew_words::Command;
 
 const COMMANDS: [(&str, &str, &str); 20] = [
     (

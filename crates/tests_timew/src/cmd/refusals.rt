@@ -1,7 +1,8 @@
 use super::{CODE, TWO, judged, planned};
 use std::alloc::Global;
 use std::test::Fail;
-use timew_cmd::{BadWord, TimewError, WordKind, WordsError};
+use timew_cmd::TimewError;
+use timew_words::{BadWord, WordKind, WordsError};
 
 const BAD: [(&str, u64, WordKind); 15] = [
     ("begin", 0, WordKind::Value),

@@ -1,7 +1,8 @@
 use super::{CODE, NOW, TWO, read};
 use std::alloc::Global;
 use std::test::Fail;
-use timew_cmd::{Range, export_text, summary_text, tracking_text};
+use timew_cmd::{export_text, summary_text, tracking_text};
+use timew_words::Range;
 use tw_time::Zone;
 
 const SUMMARIES: [(&str, u64, u64, &str); 3] = [

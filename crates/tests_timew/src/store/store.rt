@@ -1,11 +1,13 @@
 ghost use Rattle.std.specs.Prelude.{◌≡◌, true, IfOk};
-ghost use Rattle.timew_store.specs.Interval.{AreRows};
+ghost use Rattle.timew_interval.specs.Interval.{AreRows};
 ghost use Rattle.tw_world.specs.Folder.{is_file_name};
 
 use super::folder_of;
 use std::alloc::Global;
 use std::test::Fail;
-use timew_store::{Edit, Interval, Intervals, LoadError, Store, StoreError, UndoError, read_month};
+use timew_interval::{Edit, Interval, Intervals};
+use timew_month::read_month;
+use timew_store::{LoadError, Store, StoreError, UndoError};
 use tw_world::{Folder, MemoryDisk, MemoryFolder};
 
 // A folder of month files, and the journal of their changes.

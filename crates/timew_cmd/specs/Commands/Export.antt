@@ -1,24 +1,11 @@
 -- `export`: the intervals as JSON, timew-export(1).
 use Rattle.std.specs.Fmt.{decimal}
-use Rattle.std.specs.Prelude.{ℕ, List, [], ◌∷◌, codes, Option, Some, None, Result, Ok, map, ◌++◌}
+use Rattle.std.specs.Prelude.{ℕ, List, [], ◌∷◌, codes, Option, Some, None, map, ◌++◌}
 use Rattle.json.specs.Print.{print}
 use Rattle.json.specs.Token.{Token, begin_object, end_object, begin_array, end_array, key, string, number}
 use Rattle.tw_time.specs.Basic.{basic}
-use Rattle.tw_time.specs.Moments.{TimeZone}
-use Rattle.timew_store.specs.declared.interval.Interval.{Interval}
-use Rattle.timew_cmd.specs.Parts.{Words}
+use Rattle.timew_interval.specs.declared.interval.Interval.{Interval}
 use Rattle.timew_cmd.specs.Ranges.{rows_within}
-use Rattle.timew_cmd.specs.Results.{◌>>=◌}
-use Rattle.timew_cmd.specs.Stretch.{range_in}
-use Rattle.timew_cmd.specs.declared.command.Command.{Command}
-use Rattle.timew_cmd.specs.declared.command.Command.TheVariants.{Show}
-use Rattle.timew_cmd.specs.declared.command.Showing.TheVariants.{Export}
-use Rattle.timew_cmd.specs.declared.error.BadWord.{BadWord}
-use Rattle.timew_cmd.specs.declared.range.Range.TheVariants.{All}
-
--- a range, or else all intervals
-abbrev pub export_in : (now : ℕ) → TimeZone → Words → Result Command BadWord
-export_in now zone words = range_in All now zone words >>= λ range. Ok (Show (Export range))
 
 -- members of an interval's object; an empty one is left out
 abbrev pub annotation_tokens : List ℕ → List Token

@@ -1,25 +1,11 @@
 -- `join`: makes one interval of two.
 use Rattle.std.specs.Prelude.{ℕ, List, [], ◌∷◌, Bool, Option, Some, None, Result, length, max, min, fold}
 use Rattle.tw_world.specs.Folder.{add_name as add_tag}
-use Rattle.timew_store.specs.declared.interval.Interval.{Interval}
+use Rattle.timew_interval.specs.declared.interval.Interval.{Interval}
 use Rattle.timew_cmd.specs.Numbers.{checked, row_at}
-use Rattle.timew_cmd.specs.Parts.{Words, missing, ended, id_in}
 use Rattle.timew_cmd.specs.Placing.{place}
-use Rattle.timew_cmd.specs.Results.{◌>>=◌}
-use Rattle.timew_cmd.specs.declared.command.Changing.TheVariants.{Join}
-use Rattle.timew_cmd.specs.declared.command.Command.{Command}
-use Rattle.timew_cmd.specs.declared.command.Command.TheVariants.{Change}
-use Rattle.timew_cmd.specs.declared.error.BadWord.{BadWord}
+use Rattle.timew_words.specs.Results.{◌>>=◌}
 use Rattle.timew_cmd.specs.declared.error.TimewError.{TimewError}
-
-abbrev pub join_with : Bool → (first : ℕ) → Words → Result Command BadWord
-join_with adjust first [] = missing
-join_with adjust first (w ∷ words) = id_in w >>= λ second. ended (Change (Join (record { first = first; second = second; adjust = adjust }))) words
-
--- two ids
-abbrev pub join_in : Bool → Words → Result Command BadWord
-join_in adjust [] = missing
-join_in adjust (w ∷ words) = id_in w >>= λ first. join_with adjust first words
 
 abbrev pub later_end : Option ℕ → Option ℕ → Option ℕ
 later_end None other = None

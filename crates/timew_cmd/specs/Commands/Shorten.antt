@@ -1,23 +1,13 @@
 -- `shorten`: moves the end of a closed interval to an earlier moment.
 use Rattle.std.specs.Prelude.{ℕ, List, Bool, Option, Some, ◌+◌, Result, Ok, Err, if◌then◌else◌, length, nat_le, ◌-◌}
 use Rattle.tw_time.specs.declared.length.Length.{Length}
-use Rattle.timew_store.specs.Placing.{spanning}
-use Rattle.timew_store.specs.declared.interval.Interval.{Interval}
+use Rattle.timew_interval.specs.Placing.{spanning}
+use Rattle.timew_interval.specs.declared.interval.Interval.{Interval}
 use Rattle.timew_cmd.specs.Numbers.{row_at}
-use Rattle.timew_cmd.specs.Parts.{Words}
 use Rattle.timew_cmd.specs.Replacing.{replaced, seconds_of, closed_end}
-use Rattle.timew_cmd.specs.Results.{◌>>=◌}
-use Rattle.timew_cmd.specs.Stretch.{resize_in}
-use Rattle.timew_cmd.specs.declared.command.Changing.TheVariants.{Shorten}
-use Rattle.timew_cmd.specs.declared.command.Command.{Command}
-use Rattle.timew_cmd.specs.declared.command.Command.TheVariants.{Change}
-use Rattle.timew_cmd.specs.declared.error.BadWord.{BadWord}
+use Rattle.timew_words.specs.Results.{◌>>=◌}
 use Rattle.timew_cmd.specs.declared.error.TimewError.{TimewError}
 use Rattle.timew_cmd.specs.declared.error.TimewError.TheVariants.{Range}
-
--- an id and a length
-abbrev pub shorten_in : Bool → Words → Result Command BadWord
-shorten_in adjust words = resize_in adjust words >>= λ parts. Ok (Change (Shorten parts))
 
 abbrev pub shorter : ℕ → ℕ → ℕ → ℕ → Result (Option ℕ) TimewError
 shorter word start end seconds = if nat_le (start + seconds) end then Ok (Some (end - seconds)) else Err (Range word)

@@ -1,7 +1,7 @@
 -- Without a word: what is tracked now.
 use Rattle.std.specs.Prelude.{ℕ, List, codes, Option, ◌++◌, option_map}
 use Rattle.tw_time.specs.Basic.{basic}
-use Rattle.timew_store.specs.declared.interval.Interval.{Interval}
+use Rattle.timew_interval.specs.declared.interval.Interval.{Interval}
 use Rattle.timew_cmd.specs.Open.{open_of}
 use Rattle.timew_cmd.specs.Texts.{tags_text}
 

@@ -1,23 +1,14 @@
 -- `split`: cuts intervals in the middle.
 use Rattle.std.specs.List.{list_any, flat_map}
 use Rattle.std.specs.Prelude.{ℕ, List, [], ◌∷◌, Bool, false, Option, Some, None, ◌+◌, Result, Ok, Err, if◌then◌else◌, nat_lt, length, cond, ◌≡◌, ◌&&◌, ◌-◌, ◌/◌}
-use Rattle.timew_store.specs.Interval.{at}
-use Rattle.timew_store.specs.Placing.{spanning}
-use Rattle.timew_store.specs.declared.interval.Interval.{Interval}
+use Rattle.timew_interval.specs.Interval.{at}
+use Rattle.timew_interval.specs.Placing.{spanning}
+use Rattle.timew_interval.specs.declared.interval.Interval.{Interval}
 use Rattle.timew_cmd.specs.Numbers.{numbered, is_among, checked}
 use Rattle.timew_cmd.specs.Open.{moment_or}
-use Rattle.timew_cmd.specs.Parts.{Words, some_ids}
-use Rattle.timew_cmd.specs.Results.{◌>>=◌}
-use Rattle.timew_cmd.specs.declared.command.Changing.TheVariants.{Split}
-use Rattle.timew_cmd.specs.declared.command.Command.{Command}
-use Rattle.timew_cmd.specs.declared.command.Command.TheVariants.{Change}
-use Rattle.timew_cmd.specs.declared.error.BadWord.{BadWord}
+use Rattle.timew_words.specs.Results.{◌>>=◌}
 use Rattle.timew_cmd.specs.declared.error.TimewError.{TimewError}
 use Rattle.timew_cmd.specs.declared.error.TimewError.TheVariants.{Range}
-
--- one id or more
-abbrev pub split_in : Words → Result Command BadWord
-split_in words = some_ids words >>= λ ids. Ok (Change (Split ids))
 
 -- the middle of an interval, an open one measured to now
 abbrev pub middle : ℕ → Interval → ℕ

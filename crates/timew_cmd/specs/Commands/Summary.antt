@@ -1,24 +1,12 @@
 -- `summary`: the intervals as a table, timew-summary(1).
 use Rattle.std.specs.Fmt.{decimal}
-use Rattle.std.specs.Prelude.{ℕ, List, [], ◌∷◌, codes, true, false, Result, Ok, map, ◌++◌, max, min}
+use Rattle.std.specs.Prelude.{ℕ, List, [], ◌∷◌, codes, true, false, map, ◌++◌, max, min}
 use Rattle.tw_text.specs.Table.{Layout, table}
 use Rattle.tw_time.specs.Moments.{TimeZone}
-use Rattle.timew_store.specs.declared.interval.Interval.{Interval}
-use Rattle.timew_cmd.specs.Parts.{Words}
+use Rattle.timew_interval.specs.declared.interval.Interval.{Interval}
 use Rattle.timew_cmd.specs.Ranges.{measured, rows_within, seconds_within, total}
-use Rattle.timew_cmd.specs.Results.{◌>>=◌}
-use Rattle.timew_cmd.specs.Stretch.{range_in}
 use Rattle.timew_cmd.specs.Texts.{tags_text, shown_text, length_text}
-use Rattle.timew_cmd.specs.declared.command.Changing.TheVariants.{Start}
-use Rattle.timew_cmd.specs.declared.command.Command.{Command}
-use Rattle.timew_cmd.specs.declared.command.Command.TheVariants.{Show}
-use Rattle.timew_cmd.specs.declared.command.Showing.TheVariants.{Summary}
-use Rattle.timew_cmd.specs.declared.error.BadWord.{BadWord}
-use Rattle.timew_cmd.specs.declared.range.Range.TheVariants.{Day}
-
--- a range, or else the day
-abbrev pub summary_in : (now : ℕ) → TimeZone → Words → Result Command BadWord
-summary_in now zone words = range_in Day now zone words >>= λ range. Ok (Show (Summary range))
+use Rattle.timew_words.specs.declared.command.Changing.TheVariants.{Start}
 
 abbrev pub columns : Layout
 columns = (codes "ID", true) ∷ (codes "Start", false) ∷ (codes "End", false) ∷ (codes "Time", false) ∷ (codes "Tags", false) ∷ []

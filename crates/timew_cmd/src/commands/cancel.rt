@@ -1,6 +1,6 @@
 // `cancel`: drops the open interval.
 ghost use Rattle.std.specs.Prelude.{◌+◌, length, IfOk, ◌≤◌};
-ghost use Rattle.timew_store.specs.Edit.{edited};
+ghost use Rattle.timew_interval.specs.Edit.{edited};
 ghost use Rattle.timew_cmd.specs.Commands.Cancel.{cancelled};
 ghost use Rattle.timew_cmd.specs.Open.{open_of};
 ghost use Rattle.timew_cmd.specs.Planned.{Answers};
@@ -8,7 +8,7 @@ ghost use Rattle.timew_cmd.specs.Planned.{Answers};
 use crate::error::TimewError;
 use crate::open::open_of;
 use std::alloc::Global;
-use timew_store::{Edit, Interval};
+use timew_interval::{Edit, Interval};
 
 /// What `cancel` makes of intervals.
 pub fn cancel(alloc: Global, rows: &[Interval]) -> Result<Edit, TimewError>

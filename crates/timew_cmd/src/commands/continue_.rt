@@ -1,39 +1,17 @@
 // `continue`: begins an interval with the tags of another.
-ghost use Rattle.std.specs.Prelude.{◌+◌, length, ◌≡◌, IfOk, ◌≤◌};
-ghost use Rattle.timew_store.specs.Edit.{edited};
-ghost use Rattle.timew_cmd.specs.Commands.Continue.{continue_in, continued};
-ghost use Rattle.timew_cmd.specs.Given.{IsGiven};
+ghost use Rattle.std.specs.Prelude.{◌+◌, length, IfOk, ◌≤◌};
+ghost use Rattle.timew_interval.specs.Edit.{edited};
+ghost use Rattle.timew_cmd.specs.Commands.Continue.{continued};
 ghost use Rattle.timew_cmd.specs.Open.{open_of};
-ghost use Rattle.timew_cmd.specs.Parts.{words_of};
 ghost use Rattle.timew_cmd.specs.Planned.{Answers};
 
-use crate::command::{Changing, Command, Continue};
 use crate::commands::start::begin;
-use crate::error::{BadWord, TimewError};
+use crate::error::TimewError;
 use crate::numbers::row_at;
 use crate::open::open_of;
-use crate::parts::{ended, id_in};
-use crate::word::Word;
 use std::alloc::Global;
-use timew_store::{Edit, Interval};
-
-/// An id, or none.
-pub fn continue_in(adjust: bool, words: &[Word]) -> Result<Command, BadWord>
-    ensures value { result ≡ continue_in adjust (words_of words.now) }
-    ensures given { IfOk result IsGiven }
-{
-    let [first, rest @ ..] = words else {
-        return Ok(Command::Change(Changing::Continue(Continue { id: None, adjust })));
-    };
-    let id = id_in(first)?;
-    ended(
-        Command::Change(Changing::Continue(Continue {
-            id: Some(id),
-            adjust,
-        })),
-        rest,
-    )
-}
+use timew_interval::{Edit, Interval};
+use timew_words::Continue;
 
 /// What `continue` makes of intervals.
 pub fn go_on(

@@ -4,33 +4,17 @@ ghost use Rattle.std.specs.Prelude.{[], ◌∷◌, codes, map, ◌++◌, cond, �
 ghost use Rattle.json.specs.Token.{key, string, number};
 ghost use Rattle.tw_time.specs.Basic.{basic};
 ghost use Rattle.tw_time.specs.Civil.{limit};
-ghost use Rattle.timew_store.specs.Interval.{AreRows, IsRow};
-ghost use Rattle.timew_cmd.specs.Commands.Export.{export_in, annotation_tokens, end_tokens, tags_tokens, row_tokens, row_text, lines, export};
-ghost use Rattle.timew_cmd.specs.Given.{IsGiven};
-ghost use Rattle.timew_cmd.specs.Parts.{words_of};
+ghost use Rattle.timew_interval.specs.Interval.{AreRows, IsRow};
+ghost use Rattle.timew_cmd.specs.Commands.Export.{annotation_tokens, end_tokens, tags_tokens, row_tokens, row_text, lines, export};
 ghost use Rattle.timew_cmd.specs.Ranges.{rows_within};
 
-use crate::command::{Command, Showing};
-use crate::error::BadWord;
-use crate::range::{Range, is_within};
-use crate::stretch::range_in;
-use crate::word::Word;
+use crate::range::is_within;
 use json::Writer;
 use std::alloc::Global;
 use std::str;
-use timew_store::{Interval, Intervals, Texts};
-use tw_time::{Zone, print_basic};
+use timew_interval::{Interval, Intervals, Texts};
+use tw_time::print_basic;
 use tw_world::Memory;
-
-/// A range, or else all intervals.
-pub fn export_in(words: &[Word], now: u64, zone: &Zone) -> Result<Command, BadWord>
-    requires { now < limit }
-    ensures value { result ≡ export_in now zone.now (words_of words.now) }
-    ensures given { IfOk result IsGiven }
-{
-    let range = range_in(Range::All, words, now, zone)?;
-    Ok(Command::Show(Showing::Export(range)))
-}
 
 /// The intervals that share a second with a range, whole, as JSON, as timew-export(1) has it: a list of one object a line, in the
 /// order of their starts. The range is from a second up to another, and an open interval is measured to now. Moments are in the

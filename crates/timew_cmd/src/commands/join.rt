@@ -1,43 +1,16 @@
 // `join`: makes one interval of two.
 ghost use Rattle.std.specs.Prelude.{◌+◌, ◌≤◌, length, ◌≡◌, IfOk};
-ghost use Rattle.timew_store.specs.Edit.{edited};
-ghost use Rattle.timew_cmd.specs.Commands.Join.{join_in, later_end, first_text, joined, joined_both};
-ghost use Rattle.timew_cmd.specs.Given.{IsGiven};
-ghost use Rattle.timew_cmd.specs.Parts.{words_of};
+ghost use Rattle.timew_interval.specs.Edit.{edited};
+ghost use Rattle.timew_cmd.specs.Commands.Join.{later_end, first_text, joined, joined_both};
 ghost use Rattle.timew_cmd.specs.Planned.{Answers};
 
-use crate::command::{Changing, Command, Join};
-use crate::error::{BadWord, TimewError};
+use crate::error::TimewError;
 use crate::numbers::{checked, row_at};
-use crate::parts::{MISSING, ended, id_in};
 use crate::placing::place;
-use crate::word::Word;
 use std::alloc::Global;
-use timew_store::{Edit, Interval};
+use timew_interval::{Edit, Interval};
+use timew_words::Join;
 use tw_world::{Memory, Text};
-
-/// Two ids.
-pub fn join_in(adjust: bool, words: &[Word]) -> Result<Command, BadWord>
-    ensures value { result ≡ join_in adjust (words_of words.now) }
-    ensures given { IfOk result IsGiven }
-{
-    let [word, words @ ..] = words else {
-        return Err(MISSING);
-    };
-    let first = id_in(word)?;
-    let [word, words @ ..] = words else {
-        return Err(MISSING);
-    };
-    let second = id_in(word)?;
-    ended(
-        Command::Change(Changing::Join(Join {
-            first,
-            second,
-            adjust,
-        })),
-        words,
-    )
-}
 
 /// What `join` makes of intervals.
 pub fn join(alloc: Global, parts: &Join, rows: &[Interval]) -> Result<Edit, TimewError>

@@ -1,29 +1,16 @@
 // `lengthen`: moves the end of a closed interval to a later moment.
-ghost use Rattle.std.specs.Prelude.{◌+◌, ◌≤◌, length, ◌≡◌, IfOk};
-ghost use Rattle.timew_store.specs.Edit.{edited};
-ghost use Rattle.timew_cmd.specs.Commands.Lengthen.{lengthen_in, lengthened};
-ghost use Rattle.timew_cmd.specs.Given.{IsGiven};
-ghost use Rattle.timew_cmd.specs.Parts.{words_of};
+ghost use Rattle.std.specs.Prelude.{◌+◌, ◌≤◌, length, IfOk};
+ghost use Rattle.timew_interval.specs.Edit.{edited};
+ghost use Rattle.timew_cmd.specs.Commands.Lengthen.{lengthened};
 ghost use Rattle.timew_cmd.specs.Planned.{Answers};
 
-use crate::command::{Changing, Command, Resize};
-use crate::error::{BadWord, TimewError};
+use crate::error::TimewError;
 use crate::numbers::row_at;
 use crate::replacing::{closed_end, replace, seconds_of};
 use crate::rows::spanning;
-use crate::stretch::resize_in;
-use crate::word::Word;
 use std::alloc::Global;
-use timew_store::{Edit, Interval};
-
-/// An id and a length.
-pub fn lengthen_in(adjust: bool, words: &[Word]) -> Result<Command, BadWord>
-    ensures value { result ≡ lengthen_in adjust (words_of words.now) }
-    ensures given { IfOk result IsGiven }
-{
-    let parts = resize_in(adjust, words)?;
-    Ok(Command::Change(Changing::Lengthen(parts)))
-}
+use timew_interval::{Edit, Interval};
+use timew_words::Resize;
 
 /// What `lengthen` makes of intervals.
 pub fn lengthen(alloc: Global, parts: &Resize, rows: &[Interval]) -> Result<Edit, TimewError>

@@ -1,48 +1,18 @@
 // `move`: moves an interval to another start.
 ghost use Rattle.std.specs.Prelude.{◌+◌, ◌≤◌, length, ◌≡◌, ◌<◌, IfSome, IfOk};
 ghost use Rattle.tw_time.specs.Civil.{limit};
-ghost use Rattle.timew_store.specs.Edit.{edited};
-ghost use Rattle.timew_store.specs.Interval.{AreRows};
-ghost use Rattle.timew_cmd.specs.Commands.Move.{move_in, moved_end, moved_to};
-ghost use Rattle.timew_cmd.specs.Given.{IsGiven};
-ghost use Rattle.timew_cmd.specs.Parts.{words_of};
+ghost use Rattle.timew_interval.specs.Edit.{edited};
+ghost use Rattle.timew_interval.specs.Interval.{AreRows};
+ghost use Rattle.timew_cmd.specs.Commands.Move.{moved_end, moved_to};
 ghost use Rattle.timew_cmd.specs.Planned.{Answers};
 
-use crate::command::{Changing, Command, Move};
-use crate::error::{BadWord, TimewError};
+use crate::error::TimewError;
 use crate::numbers::row_at;
-use crate::parts::{MISSING, ended, id_in, moment_in};
 use crate::replacing::replace;
 use crate::rows::spanning;
-use crate::word::Word;
 use std::alloc::Global;
-use timew_store::{Edit, Interval};
-use tw_time::Zone;
-
-/// An id and a moment.
-pub fn move_in(adjust: bool, words: &[Word], now: u64, zone: &Zone) -> Result<Command, BadWord>
-    requires { now < limit }
-    ensures value { result ≡ move_in adjust now zone.now (words_of words.now) }
-    ensures given { IfOk result IsGiven }
-{
-    let [word, words @ ..] = words else {
-        return Err(MISSING);
-    };
-    let id = id_in(word)?;
-    let [word, words @ ..] = words else {
-        return Err(MISSING);
-    };
-    let start = moment_in(word, now, zone)?;
-    ended(
-        Command::Change(Changing::Move(Move {
-            id,
-            word: word.number,
-            start,
-            adjust,
-        })),
-        words,
-    )
-}
+use timew_interval::{Edit, Interval};
+use timew_words::Move;
 
 /// What `move` makes of intervals.
 pub fn move_to(alloc: Global, parts: &Move, rows: &[Interval]) -> Result<Edit, TimewError>

@@ -1,30 +1,17 @@
 // `shorten`: moves the end of a closed interval to an earlier moment.
-ghost use Rattle.std.specs.Prelude.{◌+◌, ◌≤◌, length, ◌≡◌, ◌<◌, IfOk};
-ghost use Rattle.timew_store.specs.Edit.{edited};
-ghost use Rattle.timew_store.specs.Interval.{limit, AreRows};
-ghost use Rattle.timew_cmd.specs.Commands.Shorten.{shorten_in, shorter, shortened};
-ghost use Rattle.timew_cmd.specs.Given.{IsGiven};
-ghost use Rattle.timew_cmd.specs.Parts.{words_of};
+ghost use Rattle.std.specs.Prelude.{◌+◌, ◌≤◌, length, ◌<◌, IfOk};
+ghost use Rattle.timew_interval.specs.Edit.{edited};
+ghost use Rattle.timew_interval.specs.Interval.{limit, AreRows};
+ghost use Rattle.timew_cmd.specs.Commands.Shorten.{shorter, shortened};
 ghost use Rattle.timew_cmd.specs.Planned.{Answers};
 
-use crate::command::{Changing, Command, Resize};
-use crate::error::{BadWord, TimewError};
+use crate::error::TimewError;
 use crate::numbers::row_at;
 use crate::replacing::{closed_end, replace, seconds_of};
 use crate::rows::spanning;
-use crate::stretch::resize_in;
-use crate::word::Word;
 use std::alloc::Global;
-use timew_store::{Edit, Interval};
-
-/// An id and a length.
-pub fn shorten_in(adjust: bool, words: &[Word]) -> Result<Command, BadWord>
-    ensures value { result ≡ shorten_in adjust (words_of words.now) }
-    ensures given { IfOk result IsGiven }
-{
-    let parts = resize_in(adjust, words)?;
-    Ok(Command::Change(Changing::Shorten(parts)))
-}
+use timew_interval::{Edit, Interval};
+use timew_words::Resize;
 
 /// What `shorten` makes of intervals.
 pub fn shorten(alloc: Global, parts: &Resize, rows: &[Interval]) -> Result<Edit, TimewError>

@@ -5,7 +5,7 @@ ghost use Rattle.timew_cmd.specs.Commands.Show.{tracking};
 use crate::open::open_of;
 use crate::texts::tags_text;
 use std::alloc::Global;
-use timew_store::Intervals;
+use timew_interval::Intervals;
 use tw_time::print_basic;
 use tw_world::Memory;
 

@@ -1,32 +1,17 @@
 // `split`: cuts intervals in the middle.
-ghost use Rattle.std.specs.Prelude.{[], ◌∷◌, ◌++◌, ◌+◌, ◌≤◌, length, drop, cond, ◌≡◌, IfOk, OnOk};
-ghost use Rattle.timew_store.specs.Edit.{edited};
-ghost use Rattle.timew_cmd.specs.Commands.Split.{split_in, middle, halves, is_ahead, some_ahead, halved, split, split_all};
-ghost use Rattle.timew_cmd.specs.Given.{IsGiven};
-ghost use Rattle.timew_cmd.specs.Parts.{words_of};
+ghost use Rattle.std.specs.Prelude.{◌++◌, ◌+◌, ◌≤◌, length, drop, ◌≡◌, IfOk, OnOk};
+ghost use Rattle.timew_interval.specs.Edit.{edited};
+ghost use Rattle.timew_cmd.specs.Commands.Split.{middle, halves, is_ahead, some_ahead, halved, split, split_all};
 ghost use Rattle.timew_cmd.specs.Planned.{Answers};
-ghost use Rattle.timew_cmd.specs.Reading.{Gives};
 
 use crate::chosen::Chosen;
-use crate::command::{Changing, Command};
-use crate::error::{TimewError, WordsError};
+use crate::error::TimewError;
 use crate::numbers::checked;
 use crate::open::moment_or;
-use crate::parts::some_ids;
 use crate::rows::{copy_row, spanning};
-use crate::word::Word;
 use std::alloc::Global;
-use timew_store::{Edit, Interval};
+use timew_interval::{Edit, Interval};
 use tw_world::Memory;
-
-/// One id or more.
-pub fn split_in(alloc: Global, words: &[Word]) -> Result<Command, WordsError>
-    ensures value { Gives (λ command. command) result (split_in (words_of words.now)) }
-    ensures given { IfOk result IsGiven }
-{
-    let ids = some_ids(alloc, words)?;
-    Ok(Command::Change(Changing::Split(ids)))
-}
 
 /// What `split` makes of intervals.
 pub fn split(alloc: Global, ids: &[u64], rows: &[Interval], now: u64) -> Result<Edit, TimewError>

@@ -1,66 +1,18 @@
 // `start`: ends the open interval, and begins one.
 ghost use Rattle.std.specs.Prelude.{[], ◌+◌, length, ◌≡◌, ◌<◌, IfOk, ◌≤◌};
-ghost use Rattle.tw_time.specs.Civil.{limit};
 ghost use Rattle.tw_time.specs.Moments.{moment};
-ghost use Rattle.timew_store.specs.Edit.{edited};
-ghost use Rattle.timew_cmd.specs.Commands.Start.{start_in, is_past, begins_after, open_from, begun};
-ghost use Rattle.timew_cmd.specs.Given.{IsGiven};
+ghost use Rattle.timew_interval.specs.Edit.{edited};
+ghost use Rattle.timew_cmd.specs.Commands.Start.{is_past, begins_after, open_from, begun};
 ghost use Rattle.timew_cmd.specs.Open.{open_of, with_ended};
-ghost use Rattle.timew_cmd.specs.Parts.{words_of};
 ghost use Rattle.timew_cmd.specs.Placing.{place};
 ghost use Rattle.timew_cmd.specs.Planned.{Answers};
-ghost use Rattle.timew_cmd.specs.Reading.{Gives};
 
-use crate::command::{Changing, Command, Start};
-use crate::error::{BadWord, TimewError, WordKind, WordsError};
+use crate::error::TimewError;
 use crate::open::{end_open, moment_or, open_of};
-use crate::parts::tags_in;
 use crate::placing::place_behind;
 use crate::rows::new_row;
-use crate::word::Word;
 use std::alloc::Global;
-use timew_store::{Edit, Interval, Texts};
-use tw_time::{DateError, Zone, read_moment};
-
-/// A moment, or else now, and tags.
-pub fn start_in(
-    alloc: Global,
-    adjust: bool,
-    words: &[Word],
-    now: u64,
-    zone: &Zone,
-) -> Result<Command, WordsError>
-    requires { now < limit }
-    ensures value { Gives (λ command. command) result (start_in adjust now zone.now (words_of words.now)) }
-    ensures given { IfOk result IsGiven }
-{
-    let [first, rest @ ..] = words else {
-        return Ok(Command::Change(Changing::Start(Start {
-            word: 0,
-            moment: None,
-            tags: Texts::new(alloc),
-            adjust,
-        })));
-    };
-    match read_moment(first.text, now, zone) {
-        Ok(at) => Ok(Command::Change(Changing::Start(Start {
-            word: first.number,
-            moment: Some(at),
-            tags: tags_in(alloc, rest)?,
-            adjust,
-        }))),
-        Err(DateError::Unknown) => Ok(Command::Change(Changing::Start(Start {
-            word: 0,
-            moment: None,
-            tags: tags_in(alloc, words)?,
-            adjust,
-        }))),
-        Err(DateError::OutOfRange | DateError::Memory) => Err(WordsError::Bad(BadWord {
-            word: first.number,
-            kind: WordKind::Date,
-        })),
-    }
-}
+use timew_interval::{Edit, Interval, Texts};
 
 /// What `start` makes of intervals, and `continue` with the tags of one of them.
 pub fn begin(

@@ -2,22 +2,16 @@
 ghost use Rattle.std.specs.Prelude.{[], ◌∷◌, codes, true, map, ◌++◌, ◌≡◌, ◌<◌, IfOk, OnOk};
 ghost use Rattle.tw_text.specs.Table.{table, row_texts};
 ghost use Rattle.tw_time.specs.Civil.{limit};
-ghost use Rattle.timew_store.specs.Interval.{AreRows, IsRow};
+ghost use Rattle.timew_interval.specs.Interval.{AreRows, IsRow};
 ghost use Rattle.timew_cmd.specs.Commands.Export.{lines};
-ghost use Rattle.timew_cmd.specs.Commands.Summary.{summary_in, columns, cells, summary};
-ghost use Rattle.timew_cmd.specs.Given.{IsGiven};
-ghost use Rattle.timew_cmd.specs.Parts.{words_of};
+ghost use Rattle.timew_cmd.specs.Commands.Summary.{columns, cells, summary};
 ghost use Rattle.timew_cmd.specs.Ranges.{is_within, rows_within};
 ghost use Rattle.timew_cmd.specs.Texts.{length_text};
 
-use crate::command::{Command, Showing};
-use crate::error::BadWord;
-use crate::range::{Range, is_within, measured, seconds_within, total};
-use crate::stretch::range_in;
+use crate::range::{is_within, measured, seconds_within, total};
 use crate::texts::{length_text, shown_text, tags_text};
-use crate::word::Word;
 use std::alloc::Global;
-use timew_store::{Interval, Intervals};
+use timew_interval::{Interval, Intervals};
 use tw_text::{Column, table_text};
 use tw_time::Zone;
 use tw_world::Memory;
@@ -44,16 +38,6 @@ const COLUMNS: [Column; 5] = [
         is_right: false,
     },
 ];
-
-/// A range, or else the day.
-pub fn summary_in(words: &[Word], now: u64, zone: &Zone) -> Result<Command, BadWord>
-    requires { now < limit }
-    ensures value { result ≡ summary_in now zone.now (words_of words.now) }
-    ensures given { IfOk result IsGiven }
-{
-    let range = range_in(Range::Day, words, now, zone)?;
-    Ok(Command::Show(Showing::Summary(range)))
-}
 
 /// The intervals that share a second with a range, cut to it, as a table, and below a blank line their length together, as
 /// timew-summary(1) has it. The range is from a second up to another, moments are shown by the zone's clock, an open interval is

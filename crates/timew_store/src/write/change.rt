@@ -4,21 +4,16 @@ ghost use Rattle.tw_world.specs.Disk.{Rose};
 ghost use Rattle.tw_world.specs.Disk as tells;
 ghost use Rattle.tw_world.specs.Crash.{Tells, IsStable, FaultsRise};
 ghost use Rattle.tw_journal.specs.Journal.{is_closed, journal_end};
-ghost use Rattle.timew_store.specs.Held.{replaced, IsPartly, Replaces, LeavesFiles};
-ghost use Rattle.timew_store.specs.Writing.{changes_of, AreFileNames, WriteRefused, RestsOn, LeavesWritten};
+ghost use Rattle.timew_month.specs.Files.{replaced};
+ghost use Rattle.timew_store.specs.Held.{IsPartly, Replaces, LeavesFiles};
+ghost use Rattle.timew_month.specs.Records.{changes_of};
+ghost use Rattle.timew_store.specs.Writing.{AreFileNames, WriteRefused, RestsOn, LeavesWritten};
 ghost use Rattle.timew_store.specs.Growth.{record_size, JournalGrowsBy};
 
 use crate::error::StoreError;
+use timew_month::NewFile;
 use tw_journal::{Journal, JournalError};
-use tw_world::{Disk, Folder, FolderError, Text};
-
-/// What a change makes of one month file.
-#[derive(Drop)]
-pub struct NewFile {
-    pub name: Text,
-    pub old: Vec<u8>,
-    pub new: Vec<u8>,
-}
+use tw_world::{Disk, Folder, FolderError};
 
 // Replaces the files of a change, one after another.
 fn replace_all<F: Folder>(folder: &mut F, files: &Vec<NewFile>) -> Result<(), FolderError>

@@ -2,41 +2,21 @@
 ghost use Rattle.std.specs.Prelude.{◌≡◌, ◌++◌, [], cond, true, Ok, OnOk, IfOk, IfSome};
 ghost use Rattle.std.specs.List.{AllByRecursion};
 ghost use Rattle.tw_world.specs.Folder.{Files, same_bytes};
-ghost use Rattle.timew_store.specs.Body.{AreMonths};
-ghost use Rattle.timew_store.specs.Edit.{edited, IsEditOf};
-ghost use Rattle.timew_store.specs.Gathered.{files_of};
-ghost use Rattle.timew_store.specs.NamedFiles.{bytes_in, text_in, names_in, with_names, one_change, AreChangesTo};
-ghost use Rattle.timew_store.specs.Changes.{changes_to, changed_files};
-ghost use Rattle.timew_store.specs.Rows.{rows_of};
+ghost use Rattle.timew_month.specs.Body.{AreMonths};
+ghost use Rattle.timew_interval.specs.Edit.{edited, IsEditOf};
+ghost use Rattle.timew_month.specs.Gathered.{files_of};
+ghost use Rattle.timew_month.specs.NamedFiles.{bytes_in, text_in, names_in, with_names, one_change, AreChangesTo};
+ghost use Rattle.timew_month.specs.Changes.{changes_to, changed_files};
+ghost use Rattle.timew_month.specs.Rows.{rows_of};
 ghost use Rattle.timew_store.specs.MonthTexts.{text_of, texts_of};
-ghost use Rattle.timew_store.specs.ReadBack.{IsWritable};
-ghost use Rattle.timew_store.specs.Writing.{changes_of};
+ghost use Rattle.timew_interval.specs.ReadBack.{IsWritable};
+ghost use Rattle.timew_month.specs.Records.{changes_of};
 
-use crate::edit::Edit;
-use crate::interval::tags::{add_tag, push_copy};
-use crate::months::{MonthFile, Months};
-use crate::read::tail::after;
-use crate::write::change::NewFile;
 use crate::write::month_texts::{MonthText, texts_of};
 use std::alloc::Global;
+use timew_interval::{Edit, add_tag};
+use timew_month::{MonthFile, Months, NewFile, after, bytes_in, names_of};
 use tw_world::{Memory, Text};
-
-fn has_name(file: &MonthFile, name: &Text) -> bool
-    ensures { result ≡ same_bytes file.now.name name.now }
-{
-    file.name.as_str() == name.as_str()
-}
-
-/// The names of these files.
-pub(crate) fn names_of(alloc: Global, files: &Vec<MonthFile>) -> Result<Vec<Text>, Memory>
-    ensures { IfOk result (λ names. names.items ≡ names_in (files_of files.now.items)) }
-{
-    let mut names = Vec::with_capacity(alloc, files.len())?;
-    for file in files {
-        push_copy(alloc, &mut names, &file.name)?;
-    }
-    Ok(names)
-}
 
 // The names of the files that are there or get an interval, in byte order.
 fn all_names(
@@ -51,18 +31,6 @@ fn all_names(
         add_tag(alloc, &mut names, text.name.as_str())?;
     }
     Ok(names)
-}
-
-/// The bytes under a name. If there is no file of that name, there are none.
-pub(crate) fn bytes_in<'a>(files: &'a Vec<MonthFile>, name: &Text) -> &'a [u8]
-    ensures { result.now ≡ bytes_in (files_of files.now.items) name.now }
-{
-    for file in files {
-        if has_name(file, name) {
-            return &file.bytes;
-        }
-    }
-    &[]
 }
 
 // Puts a text after others, if it is one for this name.

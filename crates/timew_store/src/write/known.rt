@@ -1,17 +1,16 @@
 // Month files that are known to be the text of intervals, so that their lines need not be written again to see what changes.
 ghost use Rattle.std.specs.Prelude.{◌≡◌, ◌<◌, ◌≤◌, length, take, true, IfOk, IfSome};
 ghost use Rattle.std.specs.List.{AllByRecursion};
-ghost use Rattle.timew_store.specs.Body.{is_month_name};
-ghost use Rattle.timew_store.specs.Interval.{AreRows};
-ghost use Rattle.timew_store.specs.Known.{part, IsKnown, IsMonthOf, IsOfMonth, first_name};
+ghost use Rattle.timew_interval.specs.MonthName.{is_month_name};
+ghost use Rattle.timew_interval.specs.Interval.{AreRows};
+ghost use Rattle.timew_month.specs.Known.{part, IsKnown, IsMonthOf, IsOfMonth, first_name};
 ghost use Rattle.timew_store.specs.MonthTexts.{text_of};
-ghost use Rattle.timew_store.specs.ReadBack.{IsWritable};
+ghost use Rattle.timew_interval.specs.ReadBack.{IsWritable};
 
-use crate::interval::Interval;
-use crate::month_name::{is_in_month, month_name, name_text};
-use crate::months::{KnownText, Months};
 use crate::write::month_texts::MonthText;
 use std::alloc::Global;
+use timew_interval::{Interval, is_in_month, month_name, name_text};
+use timew_month::{KnownText, Months};
 use tw_world::Memory;
 
 // The text that is known of the first so many of these intervals, which the months have from a number on.

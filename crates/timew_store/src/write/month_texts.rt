@@ -1,21 +1,18 @@
 // The texts of the months of intervals.
 ghost use Rattle.std.specs.Prelude.{◌≡◌, ◌<◌, ◌≤◌, ◌-◌, ◌++◌, ◌∷◌, [], true, length, take, OnOk, IfOk};
-ghost use Rattle.timew_store.specs.Body.{is_month_name};
-ghost use Rattle.timew_store.specs.Edit.{edited, IsEditOf};
-ghost use Rattle.timew_store.specs.Interval.{IsRow, AreRows};
-ghost use Rattle.timew_store.specs.Known.{part, IsMonthOf};
-ghost use Rattle.timew_store.specs.Line.{line_text};
-ghost use Rattle.timew_store.specs.Changes.{month_name};
+ghost use Rattle.timew_interval.specs.MonthName.{is_month_name};
+ghost use Rattle.timew_interval.specs.Edit.{edited, IsEditOf};
+ghost use Rattle.timew_interval.specs.Interval.{IsRow, AreRows};
+ghost use Rattle.timew_month.specs.Known.{part, IsMonthOf};
+ghost use Rattle.timew_interval.specs.Line.{line_text};
+ghost use Rattle.timew_interval.specs.MonthName.{month_name};
 ghost use Rattle.timew_store.specs.MonthTexts.{text_of, texts_of, AddTexts};
-ghost use Rattle.timew_store.specs.ReadBack.{IsWritable};
+ghost use Rattle.timew_interval.specs.ReadBack.{IsWritable};
 
-use crate::edit::Edit;
-use crate::interval::Interval;
-use crate::month_name::{is_in_month, month_name, name_text};
-use crate::months::Months;
 use crate::write::known::known_month;
-use crate::write::line::put_line;
 use std::alloc::Global;
+use timew_interval::{Edit, Interval, is_in_month, month_name, name_text, put_line};
+use timew_month::Months;
 use tw_world::{Memory, Text};
 
 /// The text of the month of some intervals: bytes that a file is known to have, and new ones after them.

@@ -4,8 +4,8 @@ use Rattle.timew_store.proofs.Growth.{nothing_grown}
 use Rattle.tw_world.specs.Turns.{InTurns, crash_of}
 use Rattle.timew_store.specs.Held.{held_by}
 use Rattle.timew_store.specs.Store.{intervals_of}
-use Rattle.timew_store.specs.declared.interval.Interval.{Interval}
-use Rattle.timew_cmd.specs.declared.command.Command.{Command}
+use Rattle.timew_interval.specs.declared.interval.Interval.{Interval}
+use Rattle.timew_words.specs.declared.command.Command.{Command}
 use Rattle.timew_cli.specs.Carried.{Carried, carried_by, view_of}
 use Rattle.timew_cli.specs.Run.{went}
 use Rattle.timew_cli.specs.Step.{shown_of, Ends, Among}

@@ -2,10 +2,10 @@ use Rattle.std.proofs.Common.{ℕ, ◌^◌, List, Result, length, refl, ap, sym,
 use Rattle.tw_world.proofs.Moments.{untouched}
 use Rattle.timew_store.proofs.Growth.{nothing_grown as no_growth}
 use Rattle.tw_world.specs.Turns.{InTurns, crash_of}
-use Rattle.timew_store.specs.Edit.{edited}
+use Rattle.timew_interval.specs.Edit.{edited}
 use Rattle.timew_store.specs.Held.{held_by}
 use Rattle.timew_store.specs.Store.{intervals_of}
-use Rattle.timew_store.specs.declared.interval.Interval.{Interval}
+use Rattle.timew_interval.specs.declared.interval.Interval.{Interval}
 use Rattle.timew_cmd.specs.Planned.{Fails, planned}
 use Rattle.timew_cmd.specs.Texts.{stored}
 use Rattle.timew_cmd.specs.declared.error.TimewError.{TimewError}

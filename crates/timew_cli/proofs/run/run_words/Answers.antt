@@ -1,6 +1,6 @@
 use Rattle.std.proofs.Common.{map}
 use Rattle.std.specs.Prelude.{string_bytes}
-use Rattle.timew_cmd.specs.Reading.{command_of}
+use Rattle.timew_words.specs.Reading.{command_of}
 use Rattle.timew_cli.specs.Run.{went}
 use Rattle.timew_cli.proofs.Runs.{command_is_run, error_is_run}
 use Rattle.timew_cli.proofs.run.run_words.Goals as goal

@@ -1,5 +1,5 @@
 use Rattle.std.proofs.Common.{◌≡◌, ◌-◌, List, ℕ, subst, arith}
-use Rattle.timew_store.specs.Edit.{spliced}
+use Rattle.timew_interval.specs.Edit.{spliced}
 use Rattle.timew_cmd.specs.Labels.{each_of, with_label}
 use Rattle.timew_cmd.proofs.Window.{each_edit}
 use Rattle.timew_cmd.proofs.labels.label_each.Goals as goal

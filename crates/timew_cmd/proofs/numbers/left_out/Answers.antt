@@ -1,5 +1,5 @@
 use Rattle.std.proofs.Common.{◌≡◌, ◌-◌, List, ℕ, subst, arith}
-use Rattle.timew_store.specs.Edit.{spliced}
+use Rattle.timew_interval.specs.Edit.{spliced}
 use Rattle.timew_cmd.specs.Numbers.{numbered, without, rows_in}
 use Rattle.timew_cmd.proofs.Window.{others_edit}
 use Rattle.timew_cmd.proofs.numbers.left_out.Goals as goal

@@ -1,5 +1,5 @@
 use Rattle.std.proofs.Common.{◌+◌, List, [], ◌∷◌, ◌++◌, drop, sym, ap, ◌∙◌, arith}
-use Rattle.timew_store.specs.declared.interval.Interval.{Interval}
+use Rattle.timew_interval.specs.declared.interval.Interval.{Interval}
 use Rattle.timew_cmd.specs.Numbers.{numbered, without, rows_in}
 use Rattle.timew_cmd.proofs.Window.{others_more, others_less}
 use Rattle.timew_cmd.proofs.numbers.others_within.Goals as goal

@@ -1,6 +1,6 @@
 use Rattle.std.proofs.Common.{rules, ◌≡◌, List, [], ◌∷◌, ◌++◌, Some, ap, ◌∙◌, arith}
-use Rattle.timew_store.specs.declared.interval.Interval.{Interval}
-use Rattle.timew_store.specs.Placing.{spanning}
+use Rattle.timew_interval.specs.declared.interval.Interval.{Interval}
+use Rattle.timew_interval.specs.Placing.{spanning}
 use Rattle.timew_cmd.specs.Open.{open_of, with_ended}
 use Rattle.timew_cmd.proofs.PlacedAside.{front_is, has_last}
 use Rattle.timew_cmd.proofs.open.end_open.Goals as goal

@@ -1,5 +1,5 @@
 use Rattle.std.proofs.Common.{ap, sym, ◌∙◌, List, ℕ, Option, Some, append-nil}
-use Rattle.timew_store.specs.declared.interval.Interval.{Interval}
+use Rattle.timew_interval.specs.declared.interval.Interval.{Interval}
 use Rattle.timew_cmd.specs.Open.{open_of, open_or, open_from_rows}
 use Rattle.timew_cmd.proofs.OpenRow.{open_last}
 use Rattle.timew_cmd.proofs.open.open_of.Goals as goal

@@ -1,5 +1,5 @@
 use Rattle.std.proofs.Common.{List, ℕ, subst}
-use Rattle.timew_store.specs.Edit.{edited}
+use Rattle.timew_interval.specs.Edit.{edited}
 use Rattle.timew_cmd.specs.Placing.{place}
 use Rattle.timew_cmd.specs.Planned.{Answers}
 use Rattle.timew_cmd.proofs.placing.place.Goals as goal

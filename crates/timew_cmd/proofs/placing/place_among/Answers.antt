@@ -1,6 +1,6 @@
 use Rattle.std.proofs.Common.{◌≡◌, ℕ, Bool, List, [], Option, None, Ok, sym, ap, ◌∙◌}
-use Rattle.timew_store.specs.declared.interval.Interval.{Interval}
-use Rattle.timew_store.specs.Placing.{inserted, placed}
+use Rattle.timew_interval.specs.declared.interval.Interval.{Interval}
+use Rattle.timew_interval.specs.Placing.{inserted, placed}
 use Rattle.timew_cmd.specs.Numbers.{numbered, without, rows_in}
 use Rattle.timew_cmd.specs.Placing.{overlapped, unless_overlapped, place}
 use Rattle.timew_cmd.proofs.AllRows.{all_rows}

@@ -1,5 +1,5 @@
 use Rattle.std.proofs.Common.{List, [], ◌++◌, sym, ap, subst, ◌∙◌, arith}
-use Rattle.timew_store.specs.declared.interval.Interval.{Interval}
+use Rattle.timew_interval.specs.declared.interval.Interval.{Interval}
 use Rattle.timew_cmd.specs.Placing.{place}
 use Rattle.timew_cmd.specs.Planned.{Fails}
 use Rattle.timew_cmd.proofs.PlacedAside.{behind_front, behind_fails}

@@ -1,5 +1,5 @@
 use Rattle.std.proofs.Common.{◌≡◌, ◌++◌, ◌-◌, ◌≤◌, length, drop, take}
-use Rattle.timew_store.specs.Placing.{inserted}
+use Rattle.timew_interval.specs.Placing.{inserted}
 use Rattle.timew_cmd.proofs.placing.place_of.Given as goal
 
 abbrev pub invariant-loop-at : goal.invariant-loop-at

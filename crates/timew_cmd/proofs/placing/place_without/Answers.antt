@@ -1,6 +1,6 @@
 use Rattle.std.proofs.Common.{◌≡◌, ℕ, Bool, List, Option, None, Ok, sym, ap, ◌∙◌}
-use Rattle.timew_store.specs.declared.interval.Interval.{Interval}
-use Rattle.timew_store.specs.Placing.{placed}
+use Rattle.timew_interval.specs.declared.interval.Interval.{Interval}
+use Rattle.timew_interval.specs.Placing.{placed}
 use Rattle.timew_cmd.specs.Numbers.{numbered, without, rows_in}
 use Rattle.timew_cmd.specs.Placing.{overlapped, unless_overlapped, place}
 use Rattle.timew_cmd.proofs.placing.place_without.Goals as goal

@@ -1,6 +1,6 @@
 use Rattle.std.proofs.Common.{◌-◌, List, length, ap, ◌∙◌, arith}
-use Rattle.timew_store.specs.declared.interval.Interval.{Interval}
-use Rattle.timew_store.specs.Edit.{spliced}
+use Rattle.timew_interval.specs.declared.interval.Interval.{Interval}
+use Rattle.timew_interval.specs.Edit.{spliced}
 use Rattle.timew_cmd.specs.Numbers.{IsWindow}
 use Rattle.timew_cmd.proofs.Window.{placed_edit}
 use Rattle.timew_cmd.proofs.placing.placed_edit.Goals as goal

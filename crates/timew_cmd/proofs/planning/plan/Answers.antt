@@ -1,7 +1,7 @@
 use Rattle.std.specs.Prelude.{IfOk}
 use Rattle.std.proofs.Common.{◌+◌, ◌≤◌, List, length, subst}
-use Rattle.timew_store.specs.declared.interval.Interval.{Interval}
-use Rattle.timew_store.specs.Edit.{edited}
+use Rattle.timew_interval.specs.declared.interval.Interval.{Interval}
+use Rattle.timew_interval.specs.Edit.{edited}
 use Rattle.timew_cmd.specs.Planned.{Answers, planned}
 use Rattle.timew_cmd.proofs.PlannedRows.{planned_edit}
 use Rattle.timew_cmd.proofs.planning.plan.Goals as goal

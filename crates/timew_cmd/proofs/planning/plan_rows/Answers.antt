@@ -1,8 +1,8 @@
 use Rattle.std.proofs.Common.{◌≡◌, ℕ, List, Result, sym, subst}
-use Rattle.timew_store.specs.declared.edit.Edit.{Edit}
-use Rattle.timew_store.specs.declared.interval.Interval.{Interval}
-use Rattle.timew_store.specs.Edit.{edited}
-use Rattle.timew_cmd.specs.declared.command.Changing.{Changing}
+use Rattle.timew_interval.specs.declared.edit.Edit.{Edit}
+use Rattle.timew_interval.specs.declared.interval.Interval.{Interval}
+use Rattle.timew_interval.specs.Edit.{edited}
+use Rattle.timew_words.specs.declared.command.Changing.{Changing}
 use Rattle.timew_cmd.specs.declared.error.TimewError.{TimewError}
 use Rattle.timew_cmd.specs.Planned.{Answers, planned}
 use Rattle.timew_cmd.specs.Commands.Delete.{deleted}

@@ -1,5 +1,5 @@
 use Rattle.std.proofs.Common.{◌<◌, sym, ap, subst, ◌∙◌}
-use Rattle.timew_store.specs.Interval.{limit, AreRows}
+use Rattle.timew_interval.specs.Interval.{limit, AreRows}
 use Rattle.timew_report.specs.Bounds.{last_end}
 use Rattle.timew_report.proofs.LastEnd.{last_of, last_in_range}
 use Rattle.timew_report.proofs.bounds.last_end.Goals as goal

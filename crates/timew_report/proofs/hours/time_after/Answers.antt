@@ -1,5 +1,5 @@
 use Rattle.std.proofs.Common.{sym, ap, subst, ◌∙◌}
-use Rattle.timew_store.specs.Interval.{AreRows}
+use Rattle.timew_interval.specs.Interval.{AreRows}
 use Rattle.timew_cmd.specs.Ranges.{total}
 use Rattle.timew_report.proofs.Seconds.{drop_rows, behind_spent, time_total}
 use Rattle.timew_report.proofs.hours.time_after.Goals as goal

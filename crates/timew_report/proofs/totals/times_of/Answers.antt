@@ -3,7 +3,7 @@ use Rattle.std.proofs.Common.{sym, ap, ◌∙◌}
 use Rattle.std.proofs.lemmas.List.{take_all}
 use Rattle.std.specs.List.{list_any}
 use Rattle.tw_world.specs.Folder.{bytes_cmp, same_bytes}
-use Rattle.timew_store.specs.Interval.{Content}
+use Rattle.timew_interval.specs.Interval.{Content}
 use Rattle.timew_cmd.proofs.Totals.{row_here}
 use Rattle.timew_report.specs.Totals.{unless_zero}
 use Rattle.timew_report.proofs.Seconds.{sums}

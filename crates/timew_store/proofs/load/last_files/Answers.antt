@@ -1,8 +1,8 @@
 use Rattle.std.proofs.Common.{◌∙◌, sym, ap, ◌-◌, arith, Some}
 use Rattle.timew_store.specs.Loading.{files_or}
-use Rattle.timew_store.specs.Writing.{changes_of}
+use Rattle.timew_month.specs.Records.{changes_of}
 use Rattle.timew_store.proofs.AfterLoading.{last_by_number}
-use Rattle.timew_store.proofs.FilesOfBody.{files_of_step}
+use Rattle.timew_store.proofs.StepFiles.{files_of_step}
 use Rattle.timew_store.proofs.LoadRefusals.{passed_on, last_refused}
 use Rattle.timew_store.proofs.Prepares.{file_names}
 use Rattle.timew_store.proofs.load.last_files.Goals as goal

@@ -1,5 +1,5 @@
 use Rattle.std.proofs.Common.{◌≡◌, ◌∙◌, sym, ap, List, ℕ, None}
-use Rattle.timew_store.specs.Body.{step_of}
+use Rattle.timew_month.specs.Body.{step_of}
 use Rattle.timew_store.specs.Held.{magic}
 use Rattle.tw_journal.proofs.Offsets.{still_open}
 use Rattle.tw_journal.specs.Form.{offset_in}

@@ -1,7 +1,7 @@
 use Rattle.std.proofs.Common.{◌≡◌, drop}
-use Rattle.timew_store.specs.Gathered.{files_of}
-use Rattle.timew_store.specs.NamedFiles.{first_edited_in}
-use Rattle.timew_store.specs.Writing.{changes_of}
+use Rattle.timew_month.specs.Gathered.{files_of}
+use Rattle.timew_month.specs.NamedFiles.{first_edited_in}
+use Rattle.timew_month.specs.Records.{changes_of}
 use Rattle.timew_store.proofs.undo.first_edited.Given as goal
 
 abbrev pub invariant-loop-file : goal.invariant-loop-file

@@ -1,6 +1,6 @@
 use Rattle.std.proofs.Common.{sym, subst, arith}
 use Rattle.tw_world.proofs.Moments.{untouched}
-use Rattle.timew_store.specs.declared.body.Record.{Record}
+use Rattle.timew_month.specs.declared.body.Record.{Record}
 use Rattle.timew_store.proofs.LastChange.{Deepens, walk_begun, walk_ended, walking_on, walking_found}
 use Rattle.timew_store.proofs.undo.last_change.Goals as goal
 use Rattle.timew_store.proofs.undo.last_change.Goals.{in-Undo, in-Change+else-depth-eq0}

@@ -1,10 +1,10 @@
 use Rattle.std.proofs.Common.{List, Some, ap, sym, subst, ◌∙◌}
-use Rattle.timew_store.specs.Body.{AreMonths}
-use Rattle.timew_store.specs.Gathered.{NamedBytes, files_of}
-use Rattle.timew_store.specs.Held.{replaced}
-use Rattle.timew_store.specs.Known.{AreKnown}
-use Rattle.timew_store.specs.NamedFiles.{first_edited_in}
-use Rattle.timew_store.specs.Writing.{changes_of}
+use Rattle.timew_month.specs.Body.{AreMonths}
+use Rattle.timew_month.specs.Gathered.{NamedBytes, files_of}
+use Rattle.timew_month.specs.Files.{replaced}
+use Rattle.timew_month.specs.Known.{AreKnown}
+use Rattle.timew_month.specs.NamedFiles.{first_edited_in}
+use Rattle.timew_month.specs.Records.{changes_of}
 use Rattle.timew_store.proofs.FilesRead.{judged_files}
 use Rattle.timew_store.proofs.LoadRefusals.{passed_on}
 use Rattle.timew_store.proofs.MonthsAfter.{months_after, named_after}

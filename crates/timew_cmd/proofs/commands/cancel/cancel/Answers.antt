@@ -1,5 +1,5 @@
 use Rattle.std.proofs.Common.{rules, ◌≡◌, List, ◌++◌, Ok, sym, ap, ◌∙◌, arith, append-nil}
-use Rattle.timew_store.specs.declared.interval.Interval.{Interval}
+use Rattle.timew_interval.specs.declared.interval.Interval.{Interval}
 use Rattle.timew_cmd.specs.Open.{open_of}
 use Rattle.timew_cmd.specs.Commands.Cancel.{cancelled}
 use Rattle.timew_cmd.proofs.PlacedAside.{instead, has_last}

@@ -1,5 +1,5 @@
 use Rattle.std.proofs.Common.{ap, sym, subst, ◌∙◌}
-use Rattle.timew_store.specs.Edit.{edited}
+use Rattle.timew_interval.specs.Edit.{edited}
 use Rattle.timew_cmd.specs.Planned.{Answers}
 use Rattle.timew_cmd.specs.Replacing.{replaced}
 use Rattle.timew_cmd.specs.Commands.Shorten.{shorter}

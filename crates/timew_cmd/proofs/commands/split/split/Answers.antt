@@ -1,10 +1,10 @@
 use Rattle.std.proofs.Common.{List, ℕ, Result, ap, sym, subst}
-use Rattle.timew_store.specs.declared.interval.Interval.{Interval}
-use Rattle.timew_store.specs.Edit.{edited}
+use Rattle.timew_interval.specs.declared.interval.Interval.{Interval}
+use Rattle.timew_interval.specs.Edit.{edited}
 use Rattle.timew_cmd.specs.declared.error.TimewError.{TimewError}
 use Rattle.timew_cmd.specs.Commands.Split.{split}
 use Rattle.timew_cmd.specs.Planned.{Answers}
-use Rattle.timew_cmd.specs.Results.{◌>>=◌}
+use Rattle.timew_words.specs.Results.{◌>>=◌}
 use Rattle.timew_cmd.proofs.commands.split.split.Goals as goal
 
 pub returns-clause-split : goal.returns-clause-split

@@ -1,6 +1,6 @@
 use Rattle.std.proofs.Common.{rules, ◌≡◌, List, [], ◌∷◌, ◌++◌, Ok, Some, sym, ap, ◌∙◌, arith}
-use Rattle.timew_store.specs.declared.interval.Interval.{Interval}
-use Rattle.timew_store.specs.Placing.{spanning}
+use Rattle.timew_interval.specs.declared.interval.Interval.{Interval}
+use Rattle.timew_interval.specs.Placing.{spanning}
 use Rattle.timew_cmd.specs.Open.{open_of}
 use Rattle.timew_cmd.specs.Commands.Stop.{stopped}
 use Rattle.timew_cmd.proofs.PlacedAside.{instead, has_last}

@@ -1,7 +1,7 @@
 use Rattle.std.specs.Prelude.{codes, IfOk}
 use Rattle.std.proofs.Common.{◌≡◌, ◌++◌, map, ap, ap₂, ◌∙◌, subst, List, ℕ}
 use Rattle.tw_text.specs.Table.{table}
-use Rattle.timew_store.specs.declared.interval.Interval.{Interval}
+use Rattle.timew_interval.specs.declared.interval.Interval.{Interval}
 use Rattle.timew_cmd.specs.Ranges.{rows_within, total}
 use Rattle.timew_cmd.specs.Commands.Summary.{columns, cells, summary}
 use Rattle.timew_cmd.specs.Texts.{length_text}

@@ -1,7 +1,7 @@
 use Rattle.std.proofs.Common.{◌≡◌, true, ◌^◌, rules, refl, ap, ◌∙◌, subst}
 use Rattle.timew_store.specs.Prepared.{IsPreparedEdit}
 use Rattle.timew_store.specs.Store.{rows_after}
-use Rattle.timew_store.specs.declared.months.Months.{Months}
+use Rattle.timew_month.specs.declared.months.Months.{Months}
 use Rattle.timew_store.specs.declared.store.Store.{Store}
 use Rattle.timew_store.proofs.Growth.{nothing_grown}
 use Rattle.timew_store.proofs.Prepares.{stays_here, change_closed}

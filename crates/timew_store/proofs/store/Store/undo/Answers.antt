@@ -2,13 +2,14 @@ use Rattle.std.proofs.Common.{◌≡◌, true, ◌^◌, length, List, ℕ, [], �
 use Rattle.tw_world.proofs.Moments.{untouched}
 use Rattle.tw_journal.specs.Record.{rows}
 use Rattle.tw_journal.proofs.Offsets.{still_open}
-use Rattle.timew_store.specs.Body.{FileChange, AreMonths, body_of}
-use Rattle.timew_store.specs.Body.Step.{Undo}
-use Rattle.timew_store.specs.Held.{magic, replaced}
+use Rattle.timew_month.specs.Body.{FileChange, AreMonths, body_of}
+use Rattle.timew_month.specs.Body.Step.{Undo}
+use Rattle.timew_store.specs.Held.{magic}
+use Rattle.timew_month.specs.Files.{replaced}
 use Rattle.timew_store.specs.Store.{HoldMonths}
 use Rattle.timew_store.specs.StoreUndo.{undo_bodies}
 use Rattle.timew_store.specs.Growth.{record_size}
-use Rattle.timew_store.specs.Writing.{changes_of}
+use Rattle.timew_month.specs.Records.{changes_of}
 use Rattle.timew_store.proofs.Growth.{nothing_grown, grows_within, reads_grow, reads_then_grow, undo_size}
 use Rattle.timew_store.proofs.LoadRefusals.{passed_on}
 use Rattle.timew_store.proofs.Undoes.{none_found, some_found, some_holds, exchanged_months, nothing_left, bodies_are, back_is, undo_ready, taken_back_to, undo_closed, undo_reads, undo_writes, walk_undo_refused, write_undo_refused, back_undo_refused}

@@ -2,7 +2,8 @@ use Rattle.std.proofs.Common.{List, ℕ, [], ◌∷◌, ◌++◌, sym, subst}
 use Rattle.tw_journal.specs.declared.journal.Journal.{Journal}
 use Rattle.timew_store.specs.Held.{IsAtRest}
 use Rattle.timew_store.specs.Growth.{JournalGrowsBy, record_size}
-use Rattle.timew_store.specs.Writing.{changes_of, IsReadyFor}
+use Rattle.timew_month.specs.Records.{changes_of}
+use Rattle.timew_store.specs.Writing.{IsReadyFor}
 use Rattle.timew_store.proofs.Prepares.{file_names}
 use Rattle.timew_store.proofs.store.Store.write.Goals as goal
 

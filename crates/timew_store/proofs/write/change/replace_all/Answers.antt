@@ -1,5 +1,5 @@
 use Rattle.std.proofs.Common.{arith, ap, ◌∙◌, List, length, get_or}
-use Rattle.timew_store.specs.declared.write.change.NewFile.{NewFile}
+use Rattle.timew_month.specs.declared.months.NewFile.{NewFile}
 use Rattle.timew_store.proofs.ReplacingByFile.{so_far_too, one_more}
 use Rattle.timew_store.proofs.write.change.replace_all.Goals as goal
 

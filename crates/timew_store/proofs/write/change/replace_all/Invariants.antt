@@ -1,4 +1,4 @@
-use Rattle.timew_store.specs.Writing.{changes_of}
+use Rattle.timew_month.specs.Records.{changes_of}
 use Rattle.timew_store.specs.Held.{Replacing}
 use Rattle.timew_store.proofs.write.change.replace_all.Given as goal
 

@@ -1,7 +1,7 @@
 use Rattle.std.proofs.Common.{◌∙◌, ◌+◌, length, arith}
 use Rattle.timew_store.specs.Held.{magic}
 use Rattle.timew_store.specs.Growth.{record_size}
-use Rattle.timew_store.specs.Writing.{changes_of}
+use Rattle.timew_month.specs.Records.{changes_of}
 use Rattle.timew_store.proofs.Growth.{append_grows, grows_within}
 use Rattle.timew_store.proofs.CrashOfChange.{record_alone, record_then_files, rests_again}
 use Rattle.timew_store.proofs.write.change.write_change.Goals as goal

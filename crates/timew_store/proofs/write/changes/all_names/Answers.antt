@@ -2,7 +2,7 @@ use Rattle.std.proofs.Common.{◌≡◌, ℕ, ◌+◌, ◌<◌, List, ◌∷◌,
 use Rattle.std.proofs.lemmas.List.{drop_more}
 use Rattle.tw_world.specs.Folder.{add_name}
 use Rattle.timew_store.specs.declared.write.month_texts.MonthText.{MonthText}
-use Rattle.timew_store.specs.NamedFiles.{with_names}
+use Rattle.timew_month.specs.NamedFiles.{with_names}
 use Rattle.timew_store.specs.MonthTexts.{texts_of}
 use Rattle.timew_store.proofs.write.changes.all_names.Goals as goal
 

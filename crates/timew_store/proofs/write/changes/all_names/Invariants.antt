@@ -1,6 +1,6 @@
 use Rattle.std.proofs.Common.{◌≡◌, drop}
-use Rattle.timew_store.specs.Gathered.{files_of}
-use Rattle.timew_store.specs.NamedFiles.{with_names, names_in}
+use Rattle.timew_month.specs.Gathered.{files_of}
+use Rattle.timew_month.specs.NamedFiles.{with_names, names_in}
 use Rattle.timew_store.specs.MonthTexts.{texts_of}
 use Rattle.timew_store.proofs.write.changes.all_names.Given as goal
 

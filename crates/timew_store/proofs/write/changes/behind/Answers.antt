@@ -1,5 +1,5 @@
 use Rattle.std.proofs.Common.{List, ℕ, sym, ap, ◌∙◌}
-use Rattle.timew_store.specs.Line.{after}
+use Rattle.timew_month.specs.Line.{after}
 use Rattle.timew_store.proofs.ChangesByName.{both_behind}
 use Rattle.timew_store.proofs.write.changes.behind.Goals as goal
 

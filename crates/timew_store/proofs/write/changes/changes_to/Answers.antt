@@ -1,13 +1,13 @@
 use Rattle.std.proofs.Common.{ap, sym, subst, ◌∙◌, arith}
 use Rattle.std.specs.List.{flat_map}
-use Rattle.timew_store.specs.Body.{AreMonths}
-use Rattle.timew_store.specs.Edit.{edited}
-use Rattle.timew_store.specs.Gathered.{files_of}
-use Rattle.timew_store.specs.NamedFiles.{one_change, names_in, with_names}
+use Rattle.timew_month.specs.Body.{AreMonths}
+use Rattle.timew_interval.specs.Edit.{edited}
+use Rattle.timew_month.specs.Gathered.{files_of}
+use Rattle.timew_month.specs.NamedFiles.{one_change, names_in, with_names}
 use Rattle.timew_store.specs.MonthTexts.{texts_of}
-use Rattle.timew_store.specs.Writing.{changes_of}
+use Rattle.timew_month.specs.Records.{changes_of}
 use Rattle.timew_store.proofs.ChangesByName.{AreMonthNames, changes_same, changed_end, with_good}
-use Rattle.timew_store.proofs.FilesHold.{files_hold_rows}
+use Rattle.timew_month.proofs.FilesHold.{files_hold_rows}
 use Rattle.timew_store.proofs.MonthsAfter.{kept_good}
 use Rattle.timew_store.proofs.Prepares.{each_month}
 use Rattle.timew_store.proofs.write.changes.changes_to.Goals as goal

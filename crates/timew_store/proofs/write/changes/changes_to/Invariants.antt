@@ -1,9 +1,9 @@
 use Rattle.std.proofs.Common.{◌≡◌, ◌++◌, drop}
 use Rattle.std.specs.List.{flat_map}
-use Rattle.timew_store.specs.Gathered.{files_of}
-use Rattle.timew_store.specs.NamedFiles.{one_change}
+use Rattle.timew_month.specs.Gathered.{files_of}
+use Rattle.timew_month.specs.NamedFiles.{one_change}
 use Rattle.timew_store.specs.MonthTexts.{texts_of}
-use Rattle.timew_store.specs.Writing.{changes_of}
+use Rattle.timew_month.specs.Records.{changes_of}
 use Rattle.timew_store.proofs.write.changes.changes_to.Given as goal
 
 abbrev pub invariant-loop-name : goal.invariant-loop-name

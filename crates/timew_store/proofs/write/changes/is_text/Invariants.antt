@@ -1,5 +1,5 @@
 use Rattle.std.proofs.Common.{◌≡◌, drop}
-use Rattle.timew_store.specs.NamedFiles.{text_in}
+use Rattle.timew_month.specs.NamedFiles.{text_in}
 use Rattle.timew_store.specs.MonthTexts.{texts_of}
 use Rattle.timew_store.proofs.write.changes.is_text.Given as goal
 

@@ -2,7 +2,7 @@ use Rattle.std.proofs.Common.{◌≡◌, ◌<◌, ◌+◌, ℕ, cond, List, [], 
 use Rattle.std.proofs.lemmas.List.{drop_more}
 use Rattle.tw_world.specs.Folder.{same_bytes}
 use Rattle.timew_store.specs.declared.write.month_texts.MonthText.{MonthText}
-use Rattle.timew_store.specs.NamedFiles.{text_in}
+use Rattle.timew_month.specs.NamedFiles.{text_in}
 use Rattle.timew_store.specs.MonthTexts.{text_of, texts_of}
 use Rattle.timew_store.proofs.write.changes.text_in.Goals as goal
 

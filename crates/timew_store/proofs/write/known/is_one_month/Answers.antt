@@ -1,7 +1,7 @@
 use Rattle.std.proofs.Common.{◌-◌, sym, ap, ◌∙◌, arith}
-use Rattle.timew_store.specs.declared.interval.Interval.{Interval}
-use Rattle.timew_store.specs.Changes.{month_name}
-use Rattle.timew_store.proofs.KnownMonths.{one_month}
+use Rattle.timew_interval.specs.declared.interval.Interval.{Interval}
+use Rattle.timew_interval.specs.MonthName.{month_name}
+use Rattle.timew_month.proofs.KnownMonths.{one_month}
 use Rattle.timew_store.proofs.write.known.is_one_month.Goals as goal
 
 pub returns : goal.returns

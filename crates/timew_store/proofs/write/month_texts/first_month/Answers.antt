@@ -1,5 +1,6 @@
 use Rattle.std.proofs.Common.{List, ℕ, take, sym, subst}
-use Rattle.timew_store.proofs.MonthTexts.{AreOf, row_at}
+use Rattle.timew_store.proofs.MonthTexts.{AreOf}
+use Rattle.timew_interval.proofs.RowsByIndex.{row_at}
 use Rattle.timew_store.proofs.write.month_texts.first_month.Goals as goal
 
 pub is_in_month-requires : goal.is_in_month-requires

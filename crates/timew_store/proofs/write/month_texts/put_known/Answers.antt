@@ -1,7 +1,7 @@
 use Rattle.std.proofs.Common.{◌≡◌, ◌-◌, ◌≤◌, List, [], ◌∷◌, length, sym, ap, subst, ◌∙◌, arith, length-drop}
 use Rattle.std.proofs.lemmas.List.{map-append}
-use Rattle.timew_store.specs.declared.interval.Interval.{Interval}
-use Rattle.timew_store.specs.Known.{part}
+use Rattle.timew_interval.specs.declared.interval.Interval.{Interval}
+use Rattle.timew_month.specs.Known.{part}
 use Rattle.timew_store.specs.MonthTexts.{text_of, texts_of}
 use Rattle.timew_store.proofs.Edits.{part_rest}
 use Rattle.timew_store.proofs.MonthTexts.{AreTexts, texts_more}

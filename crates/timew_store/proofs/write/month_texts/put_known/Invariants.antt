@@ -1,5 +1,5 @@
 use Rattle.std.proofs.Common.{◌≡◌, ◌≤◌, ◌-◌, length}
-use Rattle.timew_store.specs.Known.{part}
+use Rattle.timew_month.specs.Known.{part}
 use Rattle.timew_store.specs.MonthTexts.{texts_of}
 use Rattle.timew_store.proofs.MonthTexts.{AreTexts}
 use Rattle.timew_store.proofs.write.month_texts.put_known.Given as goal

@@ -1,6 +1,6 @@
 use Rattle.std.proofs.Common.{List, [], ◌∷◌, sym, ap, subst, ◌∙◌}
 use Rattle.std.proofs.lemmas.List.{map-append}
-use Rattle.timew_store.specs.declared.interval.Interval.{Interval}
+use Rattle.timew_interval.specs.declared.interval.Interval.{Interval}
 use Rattle.timew_store.specs.MonthTexts.{text_of, texts_of}
 use Rattle.timew_store.proofs.MonthTexts.{AreTexts, texts_more}
 use Rattle.timew_store.proofs.write.month_texts.put_texts.Goals as goal

@@ -1,13 +1,14 @@
 use Rattle.std.proofs.Common.{◌≡◌, ◌+◌, List, [], ◌++◌, take, drop, sym, ap, subst, ◌∙◌}
 use Rattle.std.proofs.lemmas.List.{drop-drop}
-use Rattle.timew_store.specs.declared.interval.Interval.{Interval}
+use Rattle.timew_interval.specs.declared.interval.Interval.{Interval}
 use Rattle.timew_store.specs.declared.write.month_texts.MonthText.{MonthText}
-use Rattle.timew_store.specs.Edit.{edited}
-use Rattle.timew_store.specs.Interval.{AreRows}
+use Rattle.timew_interval.specs.Edit.{edited}
+use Rattle.timew_interval.specs.Interval.{AreRows}
 use Rattle.timew_store.specs.MonthTexts.{texts_of, AddTexts}
 use Rattle.timew_store.proofs.Edits.{are_front, are_back}
-use Rattle.timew_store.proofs.KnownMonths.{are_take}
-use Rattle.timew_store.proofs.MonthTexts.{are_drop, texts_joined}
+use Rattle.timew_month.proofs.KnownMonths.{are_take}
+use Rattle.timew_interval.proofs.RowsByIndex.{are_drop}
+use Rattle.timew_store.proofs.MonthTexts.{texts_joined}
 use Rattle.timew_store.proofs.write.month_texts.texts_of.Goals as goal
 
 pub put_known-requires-clause-are : goal.put_known-requires-clause-are

@@ -1,5 +1,5 @@
 use Rattle.std.proofs.Common.{refl, sym, subst, rules}
-use Rattle.timew_store.specs.Interval.{AreRows}
+use Rattle.timew_interval.specs.Interval.{AreRows}
 use Rattle.timew_store.proofs.PreparedEdits.{put_back}
 use Rattle.timew_store.proofs.write.prepared.prepared_edit.Goals as goal
 

@@ -1,7 +1,7 @@
 use Rattle.std.proofs.Common.{List, ap, ◌∙◌}
-use Rattle.timew_store.specs.Body.{FileChange}
-use Rattle.timew_store.specs.Held.{replaced}
-use Rattle.timew_store.specs.Rows.{rows_of}
+use Rattle.timew_month.specs.Body.{FileChange}
+use Rattle.timew_month.specs.Files.{replaced}
+use Rattle.timew_month.specs.Rows.{rows_of}
 use Rattle.timew_store.proofs.write.prepared.record_of.Goals as goal
 
 pub returns-clause-rows : goal.returns-clause-rows

@@ -1,5 +1,5 @@
 use Rattle.std.proofs.Common.{◌∙◌, sym, subst}
-use Rattle.timew_store.specs.Known.{AreKnown}
+use Rattle.timew_month.specs.Known.{AreKnown}
 use Rattle.timew_store.proofs.PreparedEdits.{put_back, still_named, still_known}
 use Rattle.timew_store.proofs.write.prepared.PreparedEdit.into_before.Goals as goal
 

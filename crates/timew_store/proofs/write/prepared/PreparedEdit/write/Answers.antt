@@ -2,13 +2,14 @@ use Rattle.std.proofs.Common.{◌≡◌, ◌++◌, ◌∷◌, ◌^◌, ◌+◌, 
 use Rattle.tw_journal.specs.Record.{rows as row_of_records}
 use Rattle.tw_journal.specs.Journal.{IsOpenOn}
 use Rattle.tw_journal.specs.declared.journal.Journal.{Journal}
-use Rattle.timew_store.specs.Changes.{changes_to}
-use Rattle.timew_store.specs.Edit.{edited}
+use Rattle.timew_month.specs.Changes.{changes_to}
+use Rattle.timew_interval.specs.Edit.{edited}
 use Rattle.timew_store.specs.Growth.{record_size}
 use Rattle.timew_store.specs.Held.{magic, IsAtRest}
 use Rattle.timew_store.specs.History.{with_change}
 use Rattle.timew_store.specs.Store.{intervals_of, change_bodies}
-use Rattle.timew_store.specs.Writing.{changes_of, IsReadyFor, WriteRefused}
+use Rattle.timew_month.specs.Records.{changes_of}
+use Rattle.timew_store.specs.Writing.{IsReadyFor, WriteRefused}
 use Rattle.timew_store.proofs.Growth.{nothing_grown, grows_within, change_size}
 use Rattle.timew_store.proofs.PreparedEdits.{device_fault}
 use Rattle.timew_store.proofs.Prepares.{file_names, stays_here, change_ready, moved_nowhere, moved_on, either_on, none_changed, some_changed, one_body, change_refused}

@@ -1,6 +1,0 @@
-use Rattle.std.proofs.Common.{◌≡◌, ◌+◌, drop}
-use Rattle.timew_cmd.specs.Parts.{words_of, leading_ids}
-use Rattle.timew_cmd.proofs.parts.leading_ids.Given as goal
-
-abbrev pub invariant-loop-k : goal.invariant-loop-k
-invariant-loop-k l = l.k + leading_ids (words_of (drop l.k l.words)) ≡ leading_ids (words_of l.words)

@@ -1,0 +1,10 @@
+pub mod SameBytes
+pub mod RowsByIndex
+pub mod InOrder
+pub mod Tests
+pub mod MonthForm
+pub mod Placed
+pub mod RisingTags
+pub mod MonthNames
+pub mod RowsReadBack
+pub mod SplicedRows

@@ -1,0 +1,13 @@
+pub mod Files
+pub mod Records
+pub mod Body
+pub mod Line
+pub mod Month
+pub mod Rows
+pub mod Gathered
+pub mod NamedFiles
+pub mod Changes
+pub mod Tail
+pub mod Exact
+pub mod Known
+pub mod Day

@@ -1,5 +1,0 @@
-use Rattle.timew_store.proofs.Placed.{at-placed}
-use Rattle.timew_store.proofs.laws.a_placed_interval_has_its_seconds.Goals as goal
-
-pub returns : goal.returns
-returns c = at-placed

@@ -1,5 +1,0 @@
-use Rattle.timew_store.proofs.FilesHold.{files_hold_rows}
-use Rattle.timew_store.proofs.laws.month_files_hold_the_intervals.Goals as goal
-
-pub returns : goal.returns
-returns c = files_hold_rows

@@ -1,7 +1,0 @@
-use Rattle.std.proofs.Common.{◌≡◌, ◌++◌, List, drop}
-use Rattle.timew_store.specs.Rows.{Found}
-use Rattle.timew_store.specs.Gathered.{AreLines, files_of, lines_in}
-use Rattle.timew_store.proofs.read.gathered.gather.Given as goal
-
-abbrev pub invariant-loop-file : goal.invariant-loop-file
-invariant-loop-file l = (now : List Found) × AreLines now l.gathered × (now ++ lines_in (files_of (drop l.file-index l.files.items)) ≡ lines_in (files_of l.files.items))

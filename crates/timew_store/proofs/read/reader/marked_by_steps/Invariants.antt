@@ -1,6 +1,0 @@
-use Rattle.std.proofs.Common.{◌≡◌, drop, fold}
-use Rattle.timew_store.specs.Tail.{start, stepped, reading_of}
-use Rattle.timew_store.proofs.read.reader.marked_by_steps.Given as goal
-
-abbrev pub invariant-loop-byte : goal.invariant-loop-byte
-invariant-loop-byte l = fold stepped (reading_of l.reader) (drop l.byte-index l.bytes) ≡ fold stepped start l.bytes

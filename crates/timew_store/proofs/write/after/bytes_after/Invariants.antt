@@ -1,7 +1,0 @@
-use Rattle.std.proofs.Common.{◌≡◌, take}
-use Rattle.timew_store.specs.NamedFiles.{bytes_after}
-use Rattle.timew_store.specs.Writing.{changes_of}
-use Rattle.timew_store.proofs.write.after.bytes_after.Given as goal
-
-abbrev pub invariant-loop-change : goal.invariant-loop-change
-invariant-loop-change l = l.bytes ≡ bytes_after (changes_of (take l.change-index l.changes.items)) l.name l.before

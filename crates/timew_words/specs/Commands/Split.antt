@@ -1,0 +1,12 @@
+-- The words of `split`.
+use Rattle.std.specs.Prelude.{Result, Ok}
+use Rattle.timew_words.specs.Parts.{Words, some_ids}
+use Rattle.timew_words.specs.Results.{◌>>=◌}
+use Rattle.timew_words.specs.declared.command.Changing.TheVariants.{Split}
+use Rattle.timew_words.specs.declared.command.Command.{Command}
+use Rattle.timew_words.specs.declared.command.Command.TheVariants.{Change}
+use Rattle.timew_words.specs.declared.error.BadWord.{BadWord}
+
+-- one id or more
+abbrev pub split_in : Words → Result Command BadWord
+split_in words = some_ids words >>= λ ids. Ok (Change (Split ids))

@@ -1,0 +1,8 @@
+pub mod Results
+pub mod Names
+pub mod Parts
+pub mod Stretch
+pub mod Ranges
+pub mod Given
+pub mod Commands
+pub mod Reading

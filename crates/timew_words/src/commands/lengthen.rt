@@ -1,0 +1,19 @@
+// The words of `lengthen`.
+ghost use Rattle.std.specs.Prelude.{◌≡◌, IfOk};
+ghost use Rattle.timew_words.specs.Commands.Lengthen.{lengthen_in};
+ghost use Rattle.timew_words.specs.Given.{IsGiven};
+ghost use Rattle.timew_words.specs.Parts.{words_of};
+
+use crate::command::{Changing, Command};
+use crate::error::BadWord;
+use crate::stretch::resize_in;
+use crate::word::Word;
+
+/// An id and a length.
+pub fn lengthen_in(adjust: bool, words: &[Word]) -> Result<Command, BadWord>
+    ensures value { result ≡ lengthen_in adjust (words_of words.now) }
+    ensures given { IfOk result IsGiven }
+{
+    let parts = resize_in(adjust, words)?;
+    Ok(Command::Change(Changing::Lengthen(parts)))
+}
