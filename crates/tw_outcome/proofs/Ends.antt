@@ -5,9 +5,9 @@ use Rattle.tw_model.specs.LocalOps.{synced, plain, FitAllLocal, apply_all_local,
 use Rattle.tw_model.specs.declared.Op.{Op}
 use Rattle.tw_model.proofs.LocalOps.{plain_same}
 use Rattle.tw_protocol.specs.Chain.{Version, IsChain, IsBetween, Grows, same_id}
-use Rattle.tw_replica.specs.Pending.{BeginsWithPoint}
-use Rattle.tw_replica.specs.State.{State}
-use Rattle.tw_replica.specs.Sound.{IsSound, start_of}
+use Rattle.tw_state.specs.Pending.{BeginsWithPoint}
+use Rattle.tw_state.specs.State.{State}
+use Rattle.tw_state.specs.Sound.{IsSound, start_of}
 use Rattle.tw_numbers.proofs.PlacedAfter.{assigned_in}
 use Rattle.tw_groups.specs.Groups.{Groups, joined, put_in_front, parts_of, groups_of, pending_on}
 use Rattle.tw_groups.proofs.Grouping.{groups_hold_all, renewed_fits, renewed_goes_back, renewed_is_of_groups}

@@ -6,7 +6,7 @@ use Rattle.tw_model.specs.declared.Op.{Op}
 use Rattle.tw_model.specs.declared.SyncOp.{SyncOp}
 use Rattle.tw_protocol.specs.Chain.{Version, IsBetween, HoldsAll, Grows, same_id}
 use Rattle.tw_numbers.specs.Numbering.{assigned}
-use Rattle.tw_replica.specs.State.{State}
+use Rattle.tw_state.specs.State.{State}
 use Rattle.tw_groups.specs.Groups.{joined, pending_on}
 use Rattle.tw_path.specs.Path.{Reached, Leg, come, IsPath, versions_of, added_of, pulled_of, sent_of}
 use Rattle.tw_path.specs.Path.Leg.{Push}

@@ -2,8 +2,8 @@
 use Rattle.std.specs.Prelude.{◌≡◌, List, []}
 use Rattle.tw_model.specs.Ops.{apply_all, FitAll}
 use Rattle.tw_protocol.specs.Chain.{IsChain}
-use Rattle.tw_replica.specs.State.{State, synced}
-use Rattle.tw_replica.specs.Sound.{IsSound}
+use Rattle.tw_state.specs.State.{State, synced}
+use Rattle.tw_state.specs.Sound.{IsSound}
 use Rattle.tw_groups.specs.Groups.{joined, pending_on}
 use Rattle.tw_path.specs.Path.{Reached, Leg, come, ops_of}
 use Rattle.tw_path.specs.PathLaws.{StandsBeside}

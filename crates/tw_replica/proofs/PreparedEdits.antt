@@ -7,18 +7,18 @@ use Rattle.tw_model.specs.declared.Op.{Op}
 use Rattle.tw_model.specs.Changes.{changed_all, ops_of_all, group_of}
 use Rattle.tw_model.specs.declared.Change.{Change}
 use Rattle.tw_model.proofs.Leading.{changed_all-append, ops_of_all-append}
-use Rattle.tw_replica.specs.Body.{IsOp, is_group, IsStep}
-use Rattle.tw_replica.specs.Body.Step.{Commit}
+use Rattle.tw_bodies.specs.Body.{IsOp, is_group, IsStep}
+use Rattle.tw_bodies.specs.Body.Step.{Commit}
 use Rattle.tw_numbers.specs.Numbering.{assigned}
 use Rattle.tw_numbers.specs.Assigned.{IsAssignedIn, IsAssignedExcept}
-use Rattle.tw_replica.specs.State.{is_idle, packed_if, committed, is_sound}
-use Rattle.tw_replica.specs.Core.{state_of}
+use Rattle.tw_state.specs.State.{is_idle, packed_if, committed, is_sound}
+use Rattle.tw_state.specs.Core.{state_of}
 use Rattle.tw_replica.specs.Prepared.{IsEditing, ChangedAmong}
-use Rattle.tw_replica.specs.declared.state.Core.{Core}
+use Rattle.tw_state.specs.declared.state.Core.{Core}
 use Rattle.tw_replica.specs.declared.step.edit.Editing.{Editing}
 use Rattle.tw_replica.specs.declared.replica.Replica.{Replica}
-use Rattle.tw_replica.proofs.Soundness.{step_sound, held_assigned}
-use Rattle.tw_replica.proofs.CommittedChanges.{no_ops, changes_are_group, idle_is_committed, changes_are_committed}
+use Rattle.tw_state.proofs.Soundness.{step_sound, held_assigned}
+use Rattle.tw_state.proofs.CommittedChanges.{no_ops, changes_are_group, idle_is_committed, changes_are_committed}
 
 -- a step without operations is one of the program
 nothing_is : (renumber : Bool) (ops : List Op) → is_idle renumber (group_of ops) ≡ true → is_group (group_of ops) ≡ true → IsStep (Commit renumber (group_of ops))

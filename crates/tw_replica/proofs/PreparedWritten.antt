@@ -6,16 +6,17 @@ use Rattle.tw_world.proofs.Moments.{weaker}
 use Rattle.tw_journal.specs.Open.{Records}
 use Rattle.tw_journal.specs.Journal.{IsOpenOn}
 use Rattle.tw_journal.specs.declared.journal.Journal.{Journal}
-use Rattle.tw_replica.specs.Body.{Step, body_of}
-use Rattle.tw_replica.specs.Body.Step.{Commit, Undo, Sync, Carried, Partial, Checkpoint}
-use Rattle.tw_replica.specs.State.{State, is_idle, misfit, unless, moved_to, applied, Stands}
+use Rattle.tw_bodies.specs.Body.{Step, body_of}
+use Rattle.tw_bodies.specs.Body.Step.{Commit, Undo, Sync, Carried, Partial, Checkpoint}
+use Rattle.tw_state.specs.State.{State, is_idle, misfit, unless, moved_to, applied, Stands}
 use Rattle.tw_model.specs.LocalOps.{apply_all_local}
 use Rattle.tw_replica.specs.Replica.{magic, OpensToEither, IsReplicaOn, held_state}
 use Rattle.tw_replica.specs.Prepared.{IsPrepared, RecordsOrAll, step_bodies, prepared_bodies, prepared_state}
 use Rattle.tw_replica.specs.declared.step.write.Prepared.{Prepared}
 use Rattle.tw_replica.specs.declared.replica.Replica.{Replica}
-use Rattle.tw_replica.proofs.StepAgain.{step_again}
-use Rattle.tw_replica.proofs.RecordAdded.{stands_more, either_state, last_of}
+use Rattle.tw_bodies.proofs.StepAgain.{step_again}
+use Rattle.tw_replica.proofs.RecordAdded.{either_state, last_of}
+use Rattle.tw_state.proofs.StatesReached.{stands_more}
 
 -- a step writes nothing and changes nothing, or writes its body
 bodies_cases : (step : Step) (old new : State) → applied old step ≡ Some new → ((step_bodies step ≡ []) × (new ≡ old)) ⊎ (step_bodies step ≡ body_of step ∷ [])

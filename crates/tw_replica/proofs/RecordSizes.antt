@@ -6,9 +6,9 @@ use Rattle.tw_world.specs.Disk.{DiskModel, LeavesOnly}
 use Rattle.tw_world.proofs.Moments.{OnlyNow, started}
 use Rattle.tw_journal.specs.Record.{rows, behind_gate, IsLongerBy}
 use Rattle.tw_model.specs.declared.Op.{Op}
-use Rattle.tw_replica.specs.Body.{body_of}
-use Rattle.tw_replica.specs.Body.Step.{Commit}
-use Rattle.tw_replica.specs.State.{is_idle}
+use Rattle.tw_bodies.specs.Body.{body_of}
+use Rattle.tw_bodies.specs.Body.Step.{Commit}
+use Rattle.tw_state.specs.State.{is_idle}
 use Rattle.tw_replica.specs.Prepared.{step_bodies, IsWithinLimit}
 
 pub one_size : (body : List ℕ) → length (rows (body ∷ [])) ≡ length body + 5

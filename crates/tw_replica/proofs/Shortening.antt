@@ -14,15 +14,15 @@ use Rattle.tw_journal.specs.declared.journal.Journal.{Journal}
 use Rattle.tw_journal.specs.declared.error.AppendError.{AppendError}
 use Rattle.tw_journal.specs.declared.error.AppendError.TheVariants as appends
 use Rattle.tw_journal.proofs.Offsets.{left_records, ended_areas}
-use Rattle.tw_replica.specs.Body.{IsStep}
-use Rattle.tw_replica.specs.State.{State, start, Stands, checkpoint}
-use Rattle.tw_replica.specs.Sound.{IsSound}
+use Rattle.tw_bodies.specs.Body.{IsStep}
+use Rattle.tw_state.specs.State.{State, start, Stands, checkpoint}
+use Rattle.tw_state.specs.Sound.{IsSound}
 use Rattle.tw_replica.specs.Replica.{magic, OpensTo, KeepsRecords, OpeningRefused}
 use Rattle.tw_replica.specs.Opening.{is_due, state_body, opened_bodies, IsAtMost, IsOpening, ShorteningRefused, shortening_in_open}
 use Rattle.tw_replica.specs.declared.open.shorten.ShorteningError.{ShorteningError}
 use Rattle.tw_replica.specs.declared.open.shorten.ShorteningError.TheVariants.{Disk, Memory}
-use Rattle.tw_replica.proofs.StepAgain.{step_again}
-use Rattle.tw_replica.proofs.Soundness.{checkpoint_leads, stands_sound}
+use Rattle.tw_bodies.proofs.StepAgain.{step_again}
+use Rattle.tw_state.proofs.Soundness.{checkpoint_leads, stands_sound}
 use Rattle.tw_replica.proofs.Replaying.{opens_as_before}
 
 -- ---- whether it is due

@@ -3,8 +3,8 @@ use Rattle.std.specs.Prelude.{◌≡◌, ◌⊎◌, ◌≤◌, ◌+◌, ◌^◌,
 use Rattle.tw_world.specs.Disk.{DiskModel, LeavesOnly, Rose}
 use Rattle.tw_journal.specs.Form.{Records, has_areas}
 use Rattle.tw_journal.specs.Open.{IsImageThen}
-use Rattle.tw_replica.specs.Body.{body_of}
-use Rattle.tw_replica.specs.State.{State, Stands, checkpoint}
+use Rattle.tw_bodies.specs.Body.{body_of}
+use Rattle.tw_state.specs.State.{State, Stands, checkpoint}
 use Rattle.tw_replica.specs.declared.open.shorten.ShorteningError.{ShorteningError}
 use Rattle.tw_replica.specs.declared.open.shorten.ShorteningError.TheVariants.{Disk, Memory}
 use Rattle.tw_replica.specs.declared.error.OpenError.{OpenError}

@@ -6,10 +6,10 @@ use Rattle.tw_world.specs.Disk.{DiskModel, Rose}
 use Rattle.tw_journal.specs.Open.{Records}
 use Rattle.tw_journal.specs.Journal.{is_closed, journal_end}
 use Rattle.tw_model.specs.Ops.{TasksValue}
-use Rattle.tw_replica.specs.Body.{Step, body_of, IsStep}
-use Rattle.tw_replica.specs.Body.Step.{Commit, Undo, Sync, Carried, Partial, Checkpoint}
-use Rattle.tw_replica.specs.State.{State, is_idle, applied, split_group}
-use Rattle.tw_replica.specs.Core.{state_of}
+use Rattle.tw_bodies.specs.Body.{Step, body_of, IsStep}
+use Rattle.tw_bodies.specs.Body.Step.{Commit, Undo, Sync, Carried, Partial, Checkpoint}
+use Rattle.tw_state.specs.State.{State, is_idle, applied, split_group}
+use Rattle.tw_state.specs.Core.{state_of}
 use Rattle.tw_replica.specs.Replica.{magic, held_state}
 use Rattle.tw_numbers.specs.Assigned.{is_among}
 use Rattle.tw_world.specs.declared.Moment.{Moment}

@@ -10,7 +10,7 @@ use Rattle.tw_segment.specs.Refusals.{IsUnread}
 use Rattle.tw_segment.proofs.Exact.{the_only}
 use Rattle.tw_segment.specs.declared.error.SegmentError.{SegmentError}
 use Rattle.tw_segment.specs.declared.error.SegmentError.TheVariants as segments
-use Rattle.tw_replica.specs.Core.{state_of}
+use Rattle.tw_state.specs.Core.{state_of}
 use Rattle.tw_replica.specs.declared.replica.Replica.{Replica}
 use Rattle.tw_path.specs.Path.{versions_of}
 use Rattle.tw_sync.specs.Refused.{SyncRefused}

@@ -3,7 +3,7 @@ use Rattle.std.proofs.Common.{◌≡◌, ℕ, ◌+◌, ◌≤◌, inr, length, L
 use Rattle.std.proofs.lemmas.List.{append-nil, append_assoc}
 use Rattle.tw_protocol.specs.Chain.{Version, latest, Grows}
 use Rattle.tw_http.specs.Link.{LinkModel, IsHonest}
-use Rattle.tw_replica.specs.State.{State}
+use Rattle.tw_state.specs.State.{State}
 use Rattle.tw_path.specs.Path.{Leg, versions_of, added_of}
 use Rattle.tw_path.specs.Walk.{StandsAt}
 use Rattle.tw_sync.specs.Heard.{Heard, Hears}

@@ -2,7 +2,7 @@
 use Rattle.std.proofs.Common.{ℕ, inl, List, [], refl, sym, arith}
 use Rattle.std.proofs.lemmas.List.{append-nil}
 use Rattle.tw_http.specs.Link.{LinkModel, IsChainOf}
-use Rattle.tw_replica.specs.State.{State}
+use Rattle.tw_state.specs.State.{State}
 use Rattle.tw_sync.specs.Cursor.{IsAtStart}
 use Rattle.tw_sync.specs.Progress.{IsPulling}
 use Rattle.tw_sync.specs.declared.cursor.Cursor.{Cursor}

@@ -7,7 +7,7 @@ use Rattle.tw_protocol.specs.Chain.{Version, latest, IsChain, IsCut, IsBetween, 
 use Rattle.tw_protocol.specs.Answer.{version}
 use Rattle.tw_protocol.proofs.Between.{between_joins}
 use Rattle.tw_segment.specs.Segment.{max_len, segment_text, IsSegment}
-use Rattle.tw_replica.specs.State.{State}
+use Rattle.tw_state.specs.State.{State}
 use Rattle.tw_groups.specs.Groups.{joined}
 use Rattle.tw_groups.specs.Cut.{first}
 use Rattle.tw_path.specs.Path.{Leg, IsPush, is_batch, versions_of, version_on}

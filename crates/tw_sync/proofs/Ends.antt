@@ -2,8 +2,8 @@
 use Rattle.std.proofs.Common.{◌≡◌, ◌⊎◌, List, [], ◌∷◌, ◌++◌, inl, inr, refl, sym, subst}
 use Rattle.std.proofs.lemmas.List.{append_assoc}
 use Rattle.tw_protocol.specs.Chain.{Version, IsBetween}
-use Rattle.tw_replica.specs.State.{State, start}
-use Rattle.tw_replica.proofs.Soundness as replica
+use Rattle.tw_state.specs.State.{State, start}
+use Rattle.tw_state.proofs.Soundness as replica
 use Rattle.tw_path.specs.Path.{Leg, versions_of}
 use Rattle.tw_path.specs.Path.Leg.{Push}
 use Rattle.tw_path.proofs.Sending.{push_was_sent}

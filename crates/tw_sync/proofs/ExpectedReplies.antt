@@ -6,7 +6,7 @@ use Rattle.tw_http.specs.Link.{LinkModel}
 use Rattle.tw_http.specs.declared.message.Response.{Response}
 use Rattle.tw_http.specs.declared.message.Response.TheVariants as replies
 use Rattle.tw_http.specs.declared.message.HttpError.{HttpError}
-use Rattle.tw_replica.specs.State.{State}
+use Rattle.tw_state.specs.State.{State}
 use Rattle.tw_path.specs.Path.{Leg}
 use Rattle.tw_sync.specs.Heard.{Heard, versions_of, conflicts_of, brought_bytes, pulled_bytes, conflicts}
 use Rattle.tw_sync.specs.Refused.{max_pull, EndedBy, LeadsOn, EachBringsNext, IsConflict, IsLastReply, GoesOnFrom, GoesOnFromAllButLast, HeardRefused}

@@ -4,8 +4,8 @@ use Rattle.tw_model.specs.Ops.{TasksValue, apply_all}
 use Rattle.tw_model.specs.LocalOps.{plain}
 use Rattle.tw_model.proofs.LocalOps.{plain_same}
 use Rattle.tw_protocol.specs.Chain.{Version, IsChain}
-use Rattle.tw_replica.specs.State.{State}
-use Rattle.tw_replica.specs.Sound.{start_of}
+use Rattle.tw_state.specs.State.{State}
+use Rattle.tw_state.specs.Sound.{start_of}
 use Rattle.tw_path.specs.Fold.{IsFold}
 use Rattle.tw_path.proofs.Folds.{fold_grows, fold_is_one}
 use Rattle.tw_outcome.specs.Agreement.{Agrees}

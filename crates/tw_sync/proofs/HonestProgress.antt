@@ -8,7 +8,7 @@ use Rattle.tw_protocol.specs.Chain.{Version, latest, last_from, IsChain, IsCut, 
 use Rattle.tw_protocol.specs.Answer.{version, IsKnown}
 use Rattle.tw_protocol.proofs.Chains.{row_is_split_once}
 use Rattle.tw_http.specs.Link.{LinkModel}
-use Rattle.tw_replica.specs.State.{State}
+use Rattle.tw_state.specs.State.{State}
 use Rattle.tw_path.specs.Path.{Leg, versions_of, added_of}
 use Rattle.tw_path.specs.Path.Leg.{Pull}
 use Rattle.tw_outcome.specs.Agreement.{Agrees}

@@ -5,9 +5,9 @@ use Rattle.tw_model.specs.Ops.{TasksValue}
 use Rattle.tw_model.specs.LocalOps.{plain, apply_all_local, take_back_all}
 use Rattle.tw_model.specs.declared.Op.{Op}
 use Rattle.tw_model.proofs.LocalOps.{all_taken_back}
-use Rattle.tw_replica.specs.State.{State, split_group, in_front, misfit, unless, moved_to, is_idle}
-use Rattle.tw_replica.specs.Sound.{IsUndone}
-use Rattle.tw_replica.proofs.Soundness.{undo_leads_back}
+use Rattle.tw_state.specs.State.{State, split_group, in_front, misfit, unless, moved_to, is_idle}
+use Rattle.tw_state.specs.Sound.{IsUndone}
+use Rattle.tw_state.proofs.Soundness.{undo_leads_back}
 use Rattle.tw_sync.specs.LaterOps.{Follows, CommitFollows, UndoStaysBehind, SentForFollowing}
 use Rattle.tw_sync.proofs.PendingOps.{plain-append, back-append, fits_from, some_state}
 use Rattle.tw_path.proofs.Sending.{sent_stays}

@@ -9,7 +9,7 @@ use Rattle.tw_protocol.specs.Answer.{version}
 use Rattle.tw_protocol.proofs.Chains.{last_from-append}
 use Rattle.tw_http.specs.Link.{LinkModel, IsHonest}
 use Rattle.tw_http.specs.declared.message.Response.TheVariants as replies
-use Rattle.tw_replica.specs.State.{State}
+use Rattle.tw_state.specs.State.{State}
 use Rattle.tw_groups.specs.Groups.{Groups, joined}
 use Rattle.tw_groups.specs.Cut.{first}
 use Rattle.tw_groups.proofs.Cutting.{cut_is_first}

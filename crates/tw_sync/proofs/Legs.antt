@@ -3,7 +3,7 @@ use Rattle.std.proofs.Common.{◌≡◌, ◌+◌, length, List, [], ◌∷◌, �
 use Rattle.std.proofs.lemmas.List.{append-nil, append_assoc}
 use Rattle.tw_model.specs.declared.SyncOp.{SyncOp}
 use Rattle.tw_protocol.specs.Chain.{Version}
-use Rattle.tw_replica.specs.State.{State}
+use Rattle.tw_state.specs.State.{State}
 use Rattle.tw_path.specs.Path.{Reached, Leg, passed, versions_of, version_on, ops_of, ops_on, added_of, added_on, pulled_of, sent_of}
 use Rattle.tw_path.specs.Path.Leg.{Pull, Push}
 use Rattle.tw_path.proofs.Paths.{come-append}

@@ -5,14 +5,14 @@ use Rattle.tw_model.specs.LocalOps.{apply_local, apply_all_local, FitAllLocal, t
 use Rattle.tw_model.specs.declared.Op.{Op}
 use Rattle.tw_model.proofs.LocalOps.{all_taken_back}
 use Rattle.tw_protocol.specs.Chain.{Version}
-use Rattle.tw_replica.specs.Body.{is_group}
+use Rattle.tw_bodies.specs.Body.{is_group}
 use Rattle.tw_fields.specs.Reading.{◌>>=◌}
 use Rattle.tw_numbers.specs.Numbering.{assigned}
-use Rattle.tw_replica.specs.State.{State, misfit, is_idle, unless, moved_to, split_group, undone}
-use Rattle.tw_replica.specs.Sound.{start_of, IsSound, IsUndone}
+use Rattle.tw_state.specs.State.{State, misfit, is_idle, unless, moved_to, split_group, undone}
+use Rattle.tw_state.specs.Sound.{start_of, IsSound, IsUndone}
 use Rattle.tw_numbers.proofs.PlacedAfter.{assigned_in, packed_if_in}
-use Rattle.tw_replica.proofs.Groups.{group_begins, begins-append}
-use Rattle.tw_replica.proofs.Soundness.{undo_sound, undo_leads_back}
+use Rattle.tw_state.proofs.Groups.{group_begins, begins-append}
+use Rattle.tw_state.proofs.Soundness.{undo_sound, undo_leads_back}
 use Rattle.tw_path.specs.Fold.{IsFold}
 use Rattle.tw_outcome.specs.Agreement.{Agrees}
 use Rattle.tw_sync.specs.LocalSteps.{CommitAgrees, UndoAgrees}

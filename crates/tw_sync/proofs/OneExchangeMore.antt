@@ -6,7 +6,7 @@ use Rattle.tw_protocol.specs.Chain.{Version}
 use Rattle.tw_protocol.specs.Answer.{version}
 use Rattle.tw_http.specs.Link.{LinkModel, IsHonest}
 use Rattle.tw_http.specs.declared.message.Response.TheVariants as replies
-use Rattle.tw_replica.specs.State.{State}
+use Rattle.tw_state.specs.State.{State}
 use Rattle.tw_path.specs.Fold.{Reads}
 use Rattle.tw_path.specs.Path.{Leg, versions_of, added_of}
 use Rattle.tw_path.specs.Path.Leg.{Pull}

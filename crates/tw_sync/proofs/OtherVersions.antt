@@ -7,7 +7,7 @@ use Rattle.std.proofs.lemmas.Bool.{false≢true}
 use Rattle.uuid.specs.Parts.{zero_bytes}
 use Rattle.tw_protocol.specs.Chain.{Version, same_id, has_id, Differ, IsChain, Grows}
 use Rattle.tw_http.specs.Link.{LinkModel, OwnAreOfChain}
-use Rattle.tw_replica.specs.State.{State}
+use Rattle.tw_state.specs.State.{State}
 use Rattle.tw_path.specs.Path.{added_of}
 use Rattle.tw_sync.specs.Sync.{server_chain}
 use Rattle.tw_sync.specs.Heard.{conflicts}

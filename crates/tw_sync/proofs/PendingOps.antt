@@ -5,7 +5,7 @@ use Rattle.tw_model.specs.Ops.{TasksValue}
 use Rattle.tw_model.specs.LocalOps.{synced, plain, put_some, fits_local, apply_local, FitAllLocal, take_back, take_back_all}
 use Rattle.tw_model.specs.declared.Op.{Op}
 use Rattle.tw_model.specs.declared.SyncOp.{SyncOp}
-use Rattle.tw_replica.specs.State.{State, misfit}
+use Rattle.tw_state.specs.State.{State, misfit}
 
 put_some-append : (o : Option SyncOp) (xs ys : List SyncOp) → put_some o (xs ++ ys) ≡ put_some o xs ++ ys
 put_some-append None xs ys = refl

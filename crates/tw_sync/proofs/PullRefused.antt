@@ -12,7 +12,7 @@ use Rattle.tw_http.specs.declared.message.Request.TheVariants as asks
 use Rattle.tw_http.specs.declared.message.Response.{Response}
 use Rattle.tw_http.specs.declared.message.HttpError.{HttpError}
 use Rattle.tw_http.specs.declared.message.Response.TheVariants as replies
-use Rattle.tw_replica.specs.State.{State}
+use Rattle.tw_state.specs.State.{State}
 use Rattle.tw_path.specs.Path.{Leg, IsPath, versions_of, added_of}
 use Rattle.tw_outcome.specs.End.{ServerChain, starts_at, Went}
 use Rattle.tw_sync.specs.Heard.{Heard, Hears, HearsUntil, brought, pulled_bytes, versions_in, told_in, told_as, added_as, most_exchanges}

@@ -10,8 +10,8 @@ use Rattle.tw_journal.specs.Journal.{is_closed}
 use Rattle.tw_journal.specs.declared.error.AppendError.{AppendError}
 use Rattle.tw_journal.specs.declared.error.AppendError.TheVariants as journal
 use Rattle.tw_http.specs.Link.{LinkModel}
-use Rattle.tw_replica.specs.State.{State, synced}
-use Rattle.tw_replica.specs.Core.{state_of}
+use Rattle.tw_state.specs.State.{State, synced}
+use Rattle.tw_state.specs.Core.{state_of}
 use Rattle.tw_replica.specs.Replica.{IsReplicaOn, OpensToEither, StepRefused}
 use Rattle.tw_replica.specs.declared.error.RecordError.{RecordError}
 use Rattle.tw_replica.specs.declared.error.RecordError.TheVariants as records

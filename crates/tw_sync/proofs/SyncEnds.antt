@@ -7,9 +7,9 @@ use Rattle.tw_model.specs.declared.SyncOp.{SyncOp}
 use Rattle.tw_protocol.specs.Chain.{IsChain, IsBetween, Grows}
 use Rattle.tw_journal.specs.Journal.{is_closed}
 use Rattle.tw_http.specs.Link.{LinkModel, IsHonest, IsChainOf}
-use Rattle.tw_replica.specs.Core.{state_of}
-use Rattle.tw_replica.specs.Sound.{IsSound}
-use Rattle.tw_replica.specs.State.{State}
+use Rattle.tw_state.specs.Core.{state_of}
+use Rattle.tw_state.specs.Sound.{IsSound}
+use Rattle.tw_state.specs.State.{State}
 use Rattle.tw_replica.specs.Replica.{IsReplicaOn, OpensToEither}
 use Rattle.tw_replica.specs.declared.replica.Replica.{Replica}
 use Rattle.tw_replica.specs.declared.error.RecordError.{RecordError}

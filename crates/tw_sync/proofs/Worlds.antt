@@ -15,7 +15,7 @@ use Rattle.tw_http.specs.Serving.{demand_of, account_after}
 use Rattle.tw_http.specs.Messages.{max_body, request_body}
 use Rattle.tw_http.specs.declared.message.Request.{Request}
 use Rattle.tw_http.specs.declared.message.Request.TheVariants.{Add, Child, AddSnapshot, Snapshot}
-use Rattle.tw_replica.specs.State.{State, start}
+use Rattle.tw_state.specs.State.{State, start}
 use Rattle.tw_outcome.specs.Agreement.{Agrees}
 use Rattle.tw_sync.specs.World.{World, AllAgree, IsGood, IsAmong, Makes, with_next, Runs, Crashes, Event, OnMachine, Answers, Leads, IsNew, ReachedIsGood, FollowsTheChain, ReachedFollows}
 use Rattle.tw_sync.specs.World.Event.{Run, Crash, Answer}

@@ -4,8 +4,8 @@ use Rattle.tw_world.specs.Disk.{DiskModel}
 use Rattle.tw_model.specs.declared.SyncOp.{SyncOp}
 use Rattle.tw_protocol.specs.Chain.{Version, Grows}
 use Rattle.tw_http.specs.Link.{LinkModel, IsHonest}
-use Rattle.tw_replica.specs.State.{State}
-use Rattle.tw_replica.specs.Core.{state_of}
+use Rattle.tw_state.specs.State.{State}
+use Rattle.tw_state.specs.Core.{state_of}
 use Rattle.tw_replica.specs.Replica.{IsReplicaOn}
 use Rattle.tw_replica.specs.declared.replica.Replica.{Replica}
 use Rattle.tw_outcome.specs.Agreement.{Agrees}

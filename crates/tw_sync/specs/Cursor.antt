@@ -8,7 +8,7 @@ use Rattle.tw_segment.specs.Segment.{IsSegment}
 use Rattle.tw_segment.specs.Refusals.{IsUnread}
 use Rattle.tw_segment.specs.declared.error.SegmentError.{SegmentError}
 use Rattle.tw_segment.specs.declared.error.SegmentError.TheVariants as segments
-use Rattle.tw_replica.specs.State.{State}
+use Rattle.tw_state.specs.State.{State}
 use Rattle.tw_path.specs.Path.{Reached, Leg, come, IsPath, versions_of, ops_of, pulled_of, sent_of}
 use Rattle.tw_path.specs.Path.Leg.{Pull, Push}
 use Rattle.tw_path.specs.Walk.{StandsAt, GoesOverPull, GoesOverPush}

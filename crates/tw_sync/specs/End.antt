@@ -1,5 +1,5 @@
 -- Where a sync ends that is done (TaskChampion book, "Synchronization Model").
-use Rattle.tw_replica.specs.State.{State}
+use Rattle.tw_state.specs.State.{State}
 use Rattle.tw_outcome.specs.End.{ServerChain, Counts, End}
 use Rattle.tw_outcome.specs.End.Answer.{Done}
 use Rattle.tw_sync.specs.declared.report.SyncReport.{SyncReport}

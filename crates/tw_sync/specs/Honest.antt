@@ -10,8 +10,8 @@ use Rattle.tw_segment.specs.Segment.{max_len, segment_text, IsSegment}
 use Rattle.tw_segment.specs.Refusals.{IsUnread}
 use Rattle.tw_segment.specs.declared.error.SegmentError.{SegmentError}
 use Rattle.tw_segment.specs.declared.error.SegmentError.TheVariants as segments
-use Rattle.tw_replica.specs.Core.{state_of}
-use Rattle.tw_replica.specs.State.{State}
+use Rattle.tw_state.specs.Core.{state_of}
+use Rattle.tw_state.specs.State.{State}
 use Rattle.tw_replica.specs.declared.replica.Replica.{Replica}
 use Rattle.tw_groups.specs.Groups.{joined}
 use Rattle.tw_groups.specs.Cut.{first}

@@ -4,8 +4,8 @@ use Rattle.tw_model.specs.Ops.{TasksValue, apply_all}
 use Rattle.tw_model.specs.LocalOps.{plain}
 use Rattle.tw_model.specs.declared.SyncOp.{SyncOp}
 use Rattle.tw_protocol.specs.Chain.{Version, IsChain, Grows}
-use Rattle.tw_replica.specs.State.{State, start}
-use Rattle.tw_replica.specs.Sound.{IsSound}
+use Rattle.tw_state.specs.State.{State, start}
+use Rattle.tw_state.specs.Sound.{IsSound}
 use Rattle.tw_groups.specs.Groups.{joined}
 use Rattle.tw_groups.specs.Cut.{rest}
 use Rattle.tw_path.specs.Fold.{IsFold}

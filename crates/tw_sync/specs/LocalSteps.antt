@@ -2,8 +2,8 @@
 use Rattle.std.specs.Prelude.{◌≡◌, Bool, true, List, Some}
 use Rattle.tw_model.specs.declared.Op.{Op}
 use Rattle.tw_protocol.specs.Chain.{Version}
-use Rattle.tw_replica.specs.Body.{is_group}
-use Rattle.tw_replica.specs.State.{State, committed, undone}
+use Rattle.tw_bodies.specs.Body.{is_group}
+use Rattle.tw_state.specs.State.{State, committed, undone}
 use Rattle.tw_outcome.specs.Agreement.{Agrees}
 
 -- a commit of a group keeps agreement

@@ -2,7 +2,7 @@
 use Rattle.std.specs.Prelude.{◌≡◌, ℕ, List, [], length}
 use Rattle.tw_journal.specs.declared.error.AppendError.TheVariants.{TooLong, Disk, Closed}
 use Rattle.tw_segment.specs.Segment.{segment_text}
-use Rattle.tw_replica.specs.State.{State}
+use Rattle.tw_state.specs.State.{State}
 use Rattle.tw_groups.specs.Groups.{joined}
 use Rattle.tw_groups.specs.Cut.{first}
 use Rattle.tw_path.specs.Path.{Leg, IsPath, is_batch, versions_of, ops_of}

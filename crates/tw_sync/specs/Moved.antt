@@ -2,8 +2,8 @@
 use Rattle.std.specs.Prelude.{◌≡◌, ℕ, ◌≤◌, ◌^◌, cond, List, ◌∷◌, [], ◌++◌, length, Option, Some, None}
 use Rattle.tw_world.specs.Disk.{DiskModel, LeavesOnly}
 use Rattle.tw_protocol.specs.Chain.{same_id}
-use Rattle.tw_replica.specs.State.{State, synced}
-use Rattle.tw_replica.specs.Core.{state_of}
+use Rattle.tw_state.specs.State.{State, synced}
+use Rattle.tw_state.specs.Core.{state_of}
 use Rattle.tw_replica.specs.Replica.{IsReplicaOn, IsSame, OpensToEither, SyncingRefused}
 use Rattle.tw_replica.specs.declared.replica.Replica.{Replica}
 use Rattle.tw_sync.specs.Sync.{record_body, record_size}

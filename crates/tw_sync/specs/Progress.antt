@@ -7,7 +7,7 @@ use Rattle.tw_world.specs.Disk.{Rose}
 use Rattle.tw_protocol.specs.Chain.{Version, IsChain, Grows, latest}
 use Rattle.tw_http.specs.Link.{LinkModel, IsHonest}
 use Rattle.tw_segment.specs.Segment.{max_len}
-use Rattle.tw_replica.specs.State.{State}
+use Rattle.tw_state.specs.State.{State}
 use Rattle.tw_groups.specs.Groups.{joined}
 use Rattle.tw_path.specs.Fold.{Reads}
 use Rattle.tw_path.specs.Path.{Leg, IsPath, versions_of, added_of}

@@ -14,7 +14,7 @@ use Rattle.tw_segment.specs.Segment.{max_len}
 use Rattle.tw_segment.specs.Refusals.{IsUnread}
 use Rattle.tw_segment.specs.declared.error.SegmentError.{SegmentError}
 use Rattle.tw_segment.specs.declared.error.SegmentError.TheVariants as segments
-use Rattle.tw_replica.specs.Core.{state_of}
+use Rattle.tw_state.specs.Core.{state_of}
 use Rattle.tw_replica.specs.Replica.{IsSame}
 use Rattle.tw_replica.specs.declared.replica.Replica.{Replica}
 use Rattle.tw_sync.specs.Heard.{Heard, versions_of, conflicts_of, conflicts, pulled_bytes}

@@ -3,7 +3,7 @@ use Rattle.std.specs.Prelude.{◌≡◌, ℕ, ◌+◌, ◌<◌, ◌≤◌, List,
 use Rattle.tw_model.specs.declared.SyncOp.{SyncOp}
 use Rattle.tw_http.specs.Link.{LinkModel}
 use Rattle.tw_segment.specs.Segment.{max_len, segment_text}
-use Rattle.tw_replica.specs.State.{State}
+use Rattle.tw_state.specs.State.{State}
 use Rattle.tw_sync.specs.Progress.{HasPulled, IsLate}
 use Rattle.tw_sync.specs.declared.pushing.Sent.{Sent}
 use Rattle.tw_sync.specs.declared.pushing.Sent.TheVariants.{Added, Late}

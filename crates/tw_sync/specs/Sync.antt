@@ -4,10 +4,10 @@ use Rattle.tw_world.specs.Disk.{DiskModel, LeavesOnly}
 use Rattle.tw_model.specs.declared.SyncOp.{SyncOp}
 use Rattle.tw_protocol.specs.Chain.{Version}
 use Rattle.tw_http.specs.Link.{LinkModel}
-use Rattle.tw_replica.specs.Body.{body_of}
-use Rattle.tw_replica.specs.Body.Step.{Sync}
-use Rattle.tw_replica.specs.State.{State, synced}
-use Rattle.tw_replica.specs.Core.{state_of}
+use Rattle.tw_bodies.specs.Body.{body_of}
+use Rattle.tw_bodies.specs.Body.Step.{Sync}
+use Rattle.tw_state.specs.State.{State, synced}
+use Rattle.tw_state.specs.Core.{state_of}
 use Rattle.tw_replica.specs.Replica.{IsReplicaOn, IsSame, OpensToEither}
 use Rattle.tw_replica.specs.declared.replica.Replica.{Replica}
 use Rattle.tw_path.specs.Fold.{Reads, ReadsBetween}

@@ -2,7 +2,7 @@
 use Rattle.std.specs.Prelude.{◌≡◌, ◌⊎◌, ℕ, List, [], ◌∷◌, ◌++◌}
 use Rattle.tw_protocol.specs.Chain.{Version}
 use Rattle.tw_http.specs.Link.{LinkModel, IsHonest}
-use Rattle.tw_replica.specs.State.{State}
+use Rattle.tw_state.specs.State.{State}
 use Rattle.tw_path.specs.Path.{Leg, IsPath, versions_of}
 use Rattle.tw_outcome.specs.End.{ServerChain, starts_at, Went, IsUntold}
 use Rattle.tw_sync.specs.Heard.{Heard, HearsUntilThat, told_in}

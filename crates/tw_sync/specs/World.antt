@@ -11,8 +11,8 @@ use Rattle.tw_http.specs.Link.{IsServedChain}
 use Rattle.tw_http.specs.Messages.{max_body, request_body}
 use Rattle.tw_http.specs.Serving.{account_after}
 use Rattle.tw_http.specs.declared.message.Request.{Request}
-use Rattle.tw_replica.specs.Body.{is_group}
-use Rattle.tw_replica.specs.State.{State, start, committed, undone}
+use Rattle.tw_bodies.specs.Body.{is_group}
+use Rattle.tw_state.specs.State.{State, start, committed, undone}
 use Rattle.tw_path.specs.Fold.{IsFold}
 use Rattle.tw_outcome.specs.Agreement.{Agrees}
 use Rattle.tw_outcome.specs.End.{Answer as EndAnswer, End}

@@ -6,7 +6,7 @@ ghost use Rattle.tw_journal.specs.declared.error.AppendError.TheVariants as jour
 ghost use Rattle.tw_http.specs.Link.{IsHonest};
 ghost use Rattle.tw_http.specs.Messages.{IsHost};
 ghost use Rattle.tw_protocol.specs.Chain.{Grows};
-ghost use Rattle.tw_replica.specs.Core.{state_of};
+ghost use Rattle.tw_state.specs.Core.{state_of};
 ghost use Rattle.tw_replica.specs.Replica.{IsLengthKept};
 ghost use Rattle.tw_sync.specs.Heard.{HearsThat};
 ghost use Rattle.tw_sync.specs.Answers.{IsLinkKept};

@@ -1,7 +1,7 @@
 // Records of syncs that leave the tasks at hand in place, and of those that were cut short.
 ghost use Rattle.std.specs.Prelude.{◌≡◌, true, IfOk};
 ghost use Rattle.tw_model.specs.Ops.{TasksValue};
-ghost use Rattle.tw_replica.specs.State.{may_pend};
+ghost use Rattle.tw_state.specs.State.{may_pend};
 
 use super::{ADDED, Counts, counts, disk_of, milk, opened, refusal, undone, version};
 use std::alloc::Global;

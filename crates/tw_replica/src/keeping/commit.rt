@@ -6,28 +6,24 @@ ghost use Rattle.tw_journal.specs.Journal.{RecordsOrMore, is_closed, journal_end
 ghost use Rattle.tw_model.specs.declared.Op.{Op as AnyOp};
 ghost use Rattle.tw_model.specs.LocalOps.{apply_all_local};
 ghost use Rattle.tw_numbers.specs.Assigned.{IsAssignedIn};
-ghost use Rattle.tw_replica.specs.Body.{body_size, is_group};
-ghost use Rattle.tw_replica.specs.Body.Step.{Commit};
-ghost use Rattle.tw_replica.specs.State.{committed, misfit, renewed};
-ghost use Rattle.tw_replica.specs.Core.{state_of};
-ghost use Rattle.tw_replica.specs.Groups.{group_in};
-ghost use Rattle.tw_replica.specs.Next.{after, IsNextOf};
+ghost use Rattle.tw_bodies.specs.Body.{body_size, is_group};
+ghost use Rattle.tw_bodies.specs.Body.Step.{Commit};
+ghost use Rattle.tw_state.specs.State.{committed, misfit, renewed};
+ghost use Rattle.tw_state.specs.Core.{state_of};
+ghost use Rattle.tw_state.specs.Groups.{group_in};
+ghost use Rattle.tw_state.specs.Next.{after, IsNextOf};
 ghost use Rattle.tw_replica.specs.Prepared.{step_bodies, IsWithinLimit};
 ghost use Rattle.tw_replica.specs.Replica.{IsLengthKept, StandsAfter, LeavesStep, GrowsBy, RecordsAfter, LeavesRecords, JournalGrowsBy, bodies_after, one_more};
 ghost use Rattle.tw_replica.specs.Replica.{magic, is_replica_closed, CommitRefused, NextRefused, RecordRefused};
 
-use crate::body::step::commit_body;
 use crate::error::{CommitError, RecordError};
-use crate::keeping::copies::part_of;
-use crate::keeping::next::{Next, next_on};
 use crate::keeping::record::write_next;
-use crate::pending::{Pending, copy_of};
 use crate::replica::Replica;
-use crate::state::{Core, apply_ops, is_idle};
-use crate::touched::touched_uuids;
 use std::alloc::Global;
+use tw_bodies::commit_body;
 use tw_journal::{AppendError, Journal};
 use tw_model::Op;
+use tw_state::{Core, Next, Pending, apply_ops, copy_of, is_idle, next_on, part_of, touched_uuids};
 use tw_world::{Disk, Memory};
 
 /// Why operations lead to nothing.

@@ -1,25 +1,24 @@
 // The end of a sync that was cut short.
-ghost use Rattle.std.specs.Prelude.{◌≡◌, length, None, Some, true, false, Err as AnErr, IfOk, OnOk, IfErr};
+ghost use Rattle.std.specs.Prelude.{◌≡◌, length, Some, true, false, Err as AnErr, IfOk, OnOk, IfErr};
 ghost use Rattle.tw_world.specs.Disk.{FaultsRise};
 ghost use Rattle.tw_journal.specs.Record.{rows};
-ghost use Rattle.tw_model.specs.Ops.{apply_all};
-ghost use Rattle.tw_replica.specs.Body.{body_of, body_size};
-ghost use Rattle.tw_replica.specs.Body.Step.{Partial};
-ghost use Rattle.tw_replica.specs.State.{misfit_synced, may_pend, partly};
-ghost use Rattle.tw_replica.specs.Core.{state_of};
+ghost use Rattle.tw_bodies.specs.Body.{body_of};
+ghost use Rattle.tw_bodies.specs.Body.Step.{Partial};
+ghost use Rattle.tw_state.specs.State.{partly};
+ghost use Rattle.tw_state.specs.Core.{state_of};
 ghost use Rattle.tw_replica.specs.Prepared.{step_bodies, IsWithinLimit};
 ghost use Rattle.tw_replica.specs.Replica.{IsLengthKept, StandsAfter, LeavesStep, GrowsBy, one_more};
-ghost use Rattle.tw_replica.specs.Replica.{is_replica_closed, CarryingRefused};
+ghost use Rattle.tw_replica.specs.Replica.{is_replica_closed, MayPendThen, PartialRefused};
 
-use crate::body::partial::partial_body;
 use crate::error::CommitError;
 use crate::keeping::finish_carried::next_of_carried;
 use crate::keeping::record::write_next;
-use crate::pends::pending_of;
 use crate::replica::Replica;
 use std::alloc::Global;
+use tw_bodies::partial_body;
 use tw_journal::AppendError;
 use tw_model::{Op, SyncOp};
+use tw_state::pending_of;
 use tw_world::Disk;
 use uuid::Uuid;
 
@@ -36,7 +35,7 @@ impl Replica {
         pending: Vec<Op>,
     ) -> Result<(), CommitError>
         requires length { IsLengthKept D.model self.old disk.old }
-        requires pends { misfit_synced 0 self.old.core.tasks ops.items ≡ None → may_pend (apply_all self.old.core.tasks ops.items) pending.items ≡ true }
+        requires pends { MayPendThen self.old.core.tasks ops.items pending.items }
         ensures partly { OnOk result (partly base ops.items pending.items (state_of self.old.core) ≡ Some (state_of self.new.core)) }
         ensures stands { OnOk result (StandsAfter D.model self.old self.new disk.old disk.new (one_more (body_of (Partial base ops.items pending.items)))) }
         ensures any_moment { LeavesStep D.model self.old disk.old disk.new (partly base ops.items pending.items (state_of self.old.core)) }
@@ -45,7 +44,7 @@ impl Replica {
         ensures closed { is_replica_closed self.old ≡ true → result ≡ AnErr (CommitError.Journal AppendError.Closed) }
         ensures live { OnOk result (is_replica_closed self.new ≡ false) }
         ensures length { IsLengthKept D.model self.new disk.new }
-        ensures refused { IfErr result (λ e. CarryingRefused D.model self.old self.new disk.old disk.new ops.items (body_size (Partial base ops.items pending.items)) e) }
+        ensures refused { IfErr result (λ e. PartialRefused D.model self.old self.new disk.old disk.new base ops.items pending.items e) }
         ensures kept { FaultsRise D.model disk.old disk.new }
     {
         if self.journal.is_closed() {

@@ -5,27 +5,26 @@ ghost use Rattle.tw_journal.specs.Record.{rows};
 ghost use Rattle.tw_model.specs.Ops.{apply_all};
 ghost use Rattle.tw_numbers.specs.Numbering.{assigned};
 ghost use Rattle.tw_numbers.specs.Assigned.{IsAssignedIn};
-ghost use Rattle.tw_replica.specs.Body.{body_of, body_size};
-ghost use Rattle.tw_replica.specs.Body.Step.{Sync};
-ghost use Rattle.tw_replica.specs.State.{start_of, synced};
-ghost use Rattle.tw_replica.specs.Core.{state_of};
-ghost use Rattle.tw_replica.specs.Next.{after, IsNextOf};
+ghost use Rattle.tw_bodies.specs.Body.{body_of, body_size};
+ghost use Rattle.tw_bodies.specs.Body.Step.{Sync};
+ghost use Rattle.tw_state.specs.State.{start_of, synced};
+ghost use Rattle.tw_state.specs.Core.{state_of};
+ghost use Rattle.tw_state.specs.Next.{after, IsNextOf};
 ghost use Rattle.tw_replica.specs.Prepared.{step_bodies, IsWithinLimit};
 ghost use Rattle.tw_replica.specs.Replica.{IsLengthKept, StandsAfter, LeavesStep, GrowsBy, one_more};
 ghost use Rattle.tw_replica.specs.Replica.{is_replica_closed, SyncingRefused};
 
-use crate::body::sync_op::sync_body;
 use crate::error::RecordError;
-use crate::keeping::copies::part_of;
-use crate::keeping::next::{Next, next_on};
 use crate::keeping::record::write_next;
-use crate::pending::Pending;
 use crate::replica::Replica;
-use crate::state::{Core, apply_sync_ops, take_back_from};
-use crate::touched::{add_all_synced, touched_uuids};
 use std::alloc::Global;
+use tw_bodies::sync_body;
 use tw_journal::AppendError;
 use tw_model::SyncOp;
+use tw_state::{
+    Core, Next, Pending, add_all_synced, apply_sync_ops, next_on, part_of, take_back_from,
+    touched_uuids,
+};
 use tw_world::{Disk, Memory};
 use uuid::Uuid;
 

@@ -2,18 +2,16 @@
 ghost use Rattle.std.specs.Prelude.{◌≡◌, ◌≤◌, ◌+◌, ◌^◌, length, false, IfOk, OnOk, OnErr, IfErr};
 ghost use Rattle.tw_world.specs.Disk.{FaultsRise};
 ghost use Rattle.tw_journal.specs.Journal.{RecordsOrMore, is_closed, journal_end};
-ghost use Rattle.tw_replica.specs.Part.{with_room};
-ghost use Rattle.tw_replica.specs.Next.{after, IsNextOf};
+ghost use Rattle.tw_state.specs.Part.{with_room};
+ghost use Rattle.tw_state.specs.Next.{after, IsNextOf};
 ghost use Rattle.tw_replica.specs.Replica.{magic, RecordsAfter, LeavesRecords, JournalGrowsBy, one_more};
 ghost use Rattle.tw_replica.specs.Replica.{WritingRefused, RecordRefused};
 
 use crate::error::RecordError;
-use crate::keeping::copies::{make_room, take_out};
-use crate::keeping::next::Next;
-use crate::state::Core;
 use std::alloc::Global;
 use tw_journal::Journal;
 use tw_model::Tasks;
+use tw_state::{Core, Next, make_room, take_out};
 use tw_world::Disk;
 
 // Writes a record once there is room for the tasks that its step adds, so that no memory is taken after it. If it is refused, the room is taken out again.

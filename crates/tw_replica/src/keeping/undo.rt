@@ -5,26 +5,23 @@ ghost use Rattle.tw_journal.specs.Record.{rows};
 ghost use Rattle.tw_model.specs.LocalOps.{take_back_all};
 ghost use Rattle.tw_numbers.specs.Numbering.{assigned};
 ghost use Rattle.tw_numbers.specs.Assigned.{IsAssignedIn};
-ghost use Rattle.tw_replica.specs.Body.{body_of};
-ghost use Rattle.tw_replica.specs.Body.Step.{Undo};
-ghost use Rattle.tw_replica.specs.State.{undone};
-ghost use Rattle.tw_replica.specs.Core.{state_of};
-ghost use Rattle.tw_replica.specs.Next.{after, IsNextOf};
+ghost use Rattle.tw_bodies.specs.Body.{body_of};
+ghost use Rattle.tw_bodies.specs.Body.Step.{Undo};
+ghost use Rattle.tw_state.specs.State.{undone};
+ghost use Rattle.tw_state.specs.Core.{state_of};
+ghost use Rattle.tw_state.specs.Next.{after, IsNextOf};
 ghost use Rattle.tw_replica.specs.Prepared.{step_bodies, IsWithinLimit};
 ghost use Rattle.tw_replica.specs.Replica.{IsLengthKept, StandsAfter, LeavesStep, GrowsBy, one_more};
 ghost use Rattle.tw_replica.specs.Replica.{held_state, is_replica_closed, UndoRefused};
 
-use crate::body::step::UNDO;
 use crate::error::UndoError;
-use crate::keeping::copies::part_of;
-use crate::keeping::next::{Next, next_on};
 use crate::keeping::record::write_next;
 use crate::replica::Replica;
-use crate::state::{Core, take_back_from};
-use crate::touched::touched_uuids;
 use std::alloc::Global;
+use tw_bodies::UNDO;
 use tw_journal::AppendError;
 use tw_model::Op;
+use tw_state::{Core, Next, next_on, part_of, take_back_from, touched_uuids};
 use tw_world::{Disk, Memory};
 
 // What it leads to that the operations after an undo point are taken back.

@@ -3,16 +3,15 @@ ghost use Rattle.std.specs.Prelude.{◌≡◌, ◌<◌, List, ℕ, true, false, 
 ghost use Rattle.tw_world.specs.Disk.{Untouched};
 ghost use Rattle.tw_journal.specs.Window.{IsWindowOn};
 ghost use Rattle.tw_journal.specs.Journal.{IsOpenOn, is_closed, journal_count, journal_end};
-ghost use Rattle.tw_replica.specs.State.{Stands, is_sound};
-ghost use Rattle.tw_replica.specs.Core.{state_of};
-ghost use Rattle.tw_replica.specs.Indexed.{IsUpToDate};
+ghost use Rattle.tw_state.specs.State.{Stands, is_sound};
+ghost use Rattle.tw_state.specs.Core.{state_of};
+ghost use Rattle.tw_state.specs.Indexed.{IsUpToDate};
 ghost use Rattle.tw_replica.specs.Replica.{magic, TakesRecord, TakingRefused, ReplayRefused};
 
 use crate::error::{OpenError, read_error};
-use crate::open::indexed::Indexed;
-use crate::state::Core;
 use std::alloc::Global;
 use tw_journal::{Journal, Window};
+use tw_state::{Core, Indexed};
 use tw_world::Disk;
 
 // Takes the step of the record with number `n`.

@@ -2,18 +2,18 @@
 ghost use Rattle.std.specs.Prelude.{◌≡◌, ◌+◌, ◌^◌, false, IfOk, OnOk, IfErr};
 ghost use Rattle.tw_world.specs.Disk.{FaultsRise};
 ghost use Rattle.tw_journal.specs.Journal.{is_closed, journal_end};
-ghost use Rattle.tw_replica.specs.Body.{IsStep};
-ghost use Rattle.tw_replica.specs.State.{checkpoint, start_of};
-ghost use Rattle.tw_replica.specs.Core.{state_of};
+ghost use Rattle.tw_bodies.specs.Body.{IsStep};
+ghost use Rattle.tw_state.specs.State.{checkpoint, start_of};
+ghost use Rattle.tw_state.specs.Core.{state_of};
 ghost use Rattle.tw_replica.specs.Replica.{RecordsAfter};
 ghost use Rattle.tw_replica.specs.Opening.{state_body, shortened, StandsOpened, LeavesState, GrowsAtMost, ShorteningRefused};
 
-use crate::body::state::checkpoint_body;
 use crate::error::OpenError;
-use crate::state::{Core, take_back_from};
 use std::alloc::Global;
+use tw_bodies::checkpoint_body;
 use tw_journal::Journal;
 use tw_model::Tasks;
+use tw_state::{Core, take_back_from};
 use tw_world::{Disk, Memory};
 
 /// Why the state is not written in place of the records.

@@ -3,16 +3,16 @@ ghost use Rattle.std.specs.Prelude.{◌≡◌, ◌++◌, OnOk};
 ghost use Rattle.tw_model.specs.Maps.{same_bytes};
 ghost use Rattle.tw_model.specs.Changes.{changed, changed_all, ops_of, ops_of_all};
 ghost use Rattle.tw_model.specs.Ops.{TasksValue};
-ghost use Rattle.tw_replica.specs.Touched.{Gains};
+ghost use Rattle.tw_state.specs.Touched.{Gains};
 ghost use Rattle.tw_replica.specs.Prepared.{ChangedAmong};
 
-use crate::state::Core;
 use crate::step::prepare::commit_core;
 use crate::step::write::Prepared;
 use std::alloc::Global;
 use std::collections::BTreeSet;
 use tw_journal::Journal;
 use tw_model::{Change, Op, Tasks, make};
+use tw_state::Core;
 use tw_world::{Memory, Moment};
 use uuid::Uuid;
 

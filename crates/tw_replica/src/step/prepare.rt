@@ -5,21 +5,19 @@ ghost use Rattle.tw_model.specs.LocalOps.{take_back_all};
 ghost use Rattle.tw_model.specs.Changes.{group_of};
 ghost use Rattle.tw_numbers.specs.Numbering.{assigned};
 ghost use Rattle.tw_numbers.specs.Assigned.{IsAssignedIn};
-ghost use Rattle.tw_replica.specs.Body.{IsOp, is_group};
-ghost use Rattle.tw_replica.specs.Body.Step.{Commit};
-ghost use Rattle.tw_replica.specs.Groups.{group_in, IsLastOf};
-ghost use Rattle.tw_replica.specs.State.{is_idle};
-ghost use Rattle.tw_replica.specs.Core.{RenewsNumbers};
+ghost use Rattle.tw_bodies.specs.Body.{IsOp, is_group};
+ghost use Rattle.tw_bodies.specs.Body.Step.{Commit};
+ghost use Rattle.tw_state.specs.Groups.{group_in, IsLastOf};
+ghost use Rattle.tw_state.specs.State.{is_idle};
+ghost use Rattle.tw_state.specs.Core.{RenewsNumbers};
 ghost use Rattle.tw_replica.specs.Prepared.{bodies_in, step_bodies};
 
-use crate::body::step::commit_body;
-use crate::pending::{Pending, copy_of};
-use crate::state::{Core, is_idle, take_back_from};
-use crate::touched::touched_uuids;
 use std::alloc::Global;
 use std::collections::BTreeSet;
+use tw_bodies::commit_body;
 use tw_model::Op;
 use tw_numbers::renew_places;
+use tw_state::{Core, Pending, copy_of, is_idle, take_back_from, touched_uuids};
 use tw_world::Memory;
 use uuid::Uuid;
 

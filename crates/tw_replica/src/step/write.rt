@@ -1,14 +1,13 @@
 // A step that is made in memory, and then written.
 ghost use Rattle.std.specs.Prelude.{◌≡◌, true};
-ghost use Rattle.tw_replica.specs.State.{is_sound};
-ghost use Rattle.tw_replica.specs.Core.{state_of};
+ghost use Rattle.tw_state.specs.State.{is_sound};
+ghost use Rattle.tw_state.specs.Core.{state_of};
 
 use crate::error::WriteError;
-use crate::pending::Pending;
 use crate::replica::Replica;
-use crate::state::Core;
 use tw_journal::Journal;
 use tw_model::Tasks;
+use tw_state::{Core, Pending};
 use tw_world::Disk;
 use uuid::Uuid;
 

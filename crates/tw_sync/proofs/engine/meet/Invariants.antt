@@ -1,5 +1,5 @@
 use Rattle.std.proofs.Common.{◌≡◌, ◌+◌, ◌-◌, ◌≤◌}
-use Rattle.tw_replica.specs.State.{State}
+use Rattle.tw_state.specs.State.{State}
 use Rattle.tw_sync.specs.Progress.{IsPulling, HasPulled}
 use Rattle.tw_sync.proofs.engine.meet.Given as goal
 

@@ -2,9 +2,9 @@ use Rattle.std.specs.Prelude.{Option, List, IfErr}
 use Rattle.std.proofs.Common.{◌≡◌, ◌≤◌, ◌^◌, ◌∙◌, ℕ, Some, None, cond, length, ap, refl, sym, subst, true, false}
 use Rattle.tw_world.specs.Disk.{LeavesOnly}
 use Rattle.tw_protocol.specs.Chain.{same_id}
-use Rattle.tw_replica.specs.Core.{state_of}
+use Rattle.tw_state.specs.Core.{state_of}
 use Rattle.tw_replica.specs.Replica.{OpensToEither, SyncingRefused}
-use Rattle.tw_replica.specs.State.{State, synced}
+use Rattle.tw_state.specs.State.{State, synced}
 use Rattle.tw_replica.proofs.RecordAdded.{nothing_written}
 use Rattle.tw_model.specs.declared.SyncOp.{SyncOp}
 use Rattle.tw_sync.specs.Sync.{record_body, record_size}

@@ -1,5 +1,5 @@
 use Rattle.std.proofs.Common.{◌≡◌, ◌-◌}
-use Rattle.tw_replica.specs.State.{State}
+use Rattle.tw_state.specs.State.{State}
 use Rattle.tw_sync.specs.Refused.{max_pull}
 use Rattle.tw_sync.specs.Progress.{IsPulling}
 use Rattle.tw_sync.proofs.pulling.pull.Given as goal

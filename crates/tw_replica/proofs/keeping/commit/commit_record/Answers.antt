@@ -3,8 +3,8 @@ use Rattle.tw_world.proofs.Moments.{started}
 use Rattle.tw_journal.specs.Journal.{RecordsOrMore}
 use Rattle.tw_journal.proofs.Offsets.{left_records}
 use Rattle.tw_replica.specs.Replica.{magic}
-use Rattle.tw_replica.specs.Groups.{group_in}
-use Rattle.tw_replica.proofs.PendingBodies.{group_is}
+use Rattle.tw_state.specs.Groups.{group_in}
+use Rattle.tw_state.proofs.PendingBodies.{group_is}
 use Rattle.tw_replica.proofs.keeping.commit.commit_record.Goals as goal
 
 pub returns-in-Err-clause-refused : goal.returns-in-Err-clause-refused

@@ -1,7 +1,7 @@
 use Rattle.std.proofs.Common.{◌∙◌, sym}
 use Rattle.tw_model.specs.LocalOps.{apply_all_local}
-use Rattle.tw_replica.proofs.StepsTaken.{if_none}
-use Rattle.tw_replica.proofs.MadeOnPart.{IsMade, made_after, made_ready, misfit_there, applied_made}
+use Rattle.tw_state.proofs.StepsTaken.{if_none}
+use Rattle.tw_state.proofs.MadeOnPart.{IsMade, made_after, made_ready, misfit_there, applied_made}
 use Rattle.tw_replica.proofs.keeping.commit.next_of_commit.Goals as goal
 
 pub returns-in-Some-clause-refused : goal.returns-in-Some-clause-refused

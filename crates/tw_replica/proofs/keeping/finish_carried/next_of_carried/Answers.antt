@@ -1,7 +1,7 @@
 use Rattle.std.proofs.Common.{◌∙◌, sym}
 use Rattle.tw_model.specs.Ops.{apply_all}
-use Rattle.tw_replica.proofs.StepsTaken.{if_none}
-use Rattle.tw_replica.proofs.MadeOnPart.{IsMade, made_after, made_ready, misfit_synced_there, carried_made}
+use Rattle.tw_state.proofs.StepsTaken.{if_none}
+use Rattle.tw_state.proofs.MadeOnPart.{IsMade, made_after, made_ready, misfit_synced_there, carried_made}
 use Rattle.tw_replica.proofs.keeping.finish_carried.next_of_carried.Goals as goal
 
 pub returns-in-Some-clause-refused : goal.returns-in-Some-clause-refused

@@ -2,8 +2,8 @@ use Rattle.std.proofs.Common.{◌||◌, ◌∙◌, List, ap, subst}
 use Rattle.tw_model.specs.Ops.{apply_all}
 use Rattle.tw_model.specs.LocalOps.{take_back_all}
 use Rattle.tw_model.specs.declared.Op.{Op}
-use Rattle.tw_replica.specs.Touched.{is_touched_by_synced}
-use Rattle.tw_replica.proofs.MadeOnPart.{IsMade, made_after, made_ready, synced_made}
+use Rattle.tw_state.specs.Touched.{is_touched_by_synced}
+use Rattle.tw_state.proofs.MadeOnPart.{IsMade, made_after, made_ready, synced_made}
 use Rattle.tw_replica.proofs.keeping.finish_sync.next_of_sync.Goals as goal
 
 made : (c : goal.After-drop-pending-2) → IsMade c.add_all_synced.new.touched.keys c.args.core.now.tasks (apply_all (take_back_all c.args.core.now.tasks c.args.core.now.pending) c.args.ops.now.items) c.apply_sync_ops.new.tasks

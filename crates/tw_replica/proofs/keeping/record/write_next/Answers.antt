@@ -1,4 +1,4 @@
-use Rattle.tw_replica.proofs.MadeOnPart.{next_room, next_taken}
+use Rattle.tw_state.proofs.MadeOnPart.{next_room, next_taken}
 use Rattle.tw_replica.proofs.keeping.record.write_next.Goals as goal
 
 pub take_over-requires : goal.take_over-requires

@@ -4,7 +4,7 @@ use Rattle.tw_journal.specs.Journal.{RecordsOrMore}
 use Rattle.tw_journal.specs.Record.{IsLongerBy}
 use Rattle.tw_journal.proofs.Offsets.{left_records}
 use Rattle.tw_replica.specs.Replica.{magic}
-use Rattle.tw_replica.proofs.MadeOnPart.{next_free, next_left}
+use Rattle.tw_state.proofs.MadeOnPart.{next_free, next_left}
 use Rattle.tw_replica.proofs.keeping.record.write_record.Goals as goal
 
 pub make_room-requires : goal.make_room-requires

@@ -1,6 +1,6 @@
 use Rattle.std.proofs.Common.{◌∙◌, drop}
 use Rattle.tw_model.specs.LocalOps.{take_back_all}
-use Rattle.tw_replica.proofs.MadeOnPart.{IsMade, made_after, made_ready, taken_back_made}
+use Rattle.tw_state.proofs.MadeOnPart.{IsMade, made_after, made_ready, taken_back_made}
 use Rattle.tw_replica.proofs.keeping.undo.next_of_undo.Goals as goal
 
 made : (c : goal.In_ok-next) → IsMade c.in_ok-touched.touched.keys c.args.core.now.tasks (take_back_all c.args.core.now.tasks (drop 1 c.args.group.now.items)) c.take_back_from.new.tasks

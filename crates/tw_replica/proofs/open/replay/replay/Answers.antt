@@ -1,7 +1,10 @@
-use Rattle.std.proofs.Common.{arith}
+use Rattle.std.proofs.Common.{◌≡◌, ◌∙◌, Some, ap, sym, take, arith}
+use Rattle.std.proofs.lemmas.List.{take_all}
 use Rattle.std.proofs.lemmas.Result.{err_from_is_err_and}
 use Rattle.tw_world.proofs.Moments.{untouched_join}
-use Rattle.tw_replica.specs.Core.{state_of}
+use Rattle.tw_state.specs.State.{start, replayed}
+use Rattle.tw_state.specs.Core.{state_of}
+use Rattle.tw_state.specs.declared.state.Core.{Core}
 use Rattle.tw_journal.proofs.Offsets.{still_open}
 use Rattle.tw_replica.specs.Replica.{magic}
 use Rattle.tw_replica.proofs.Replaying.{replayed_more, replay_refused}
@@ -24,3 +27,14 @@ loop-n-preserved g c =
       c.in_ok-take_record.ensures.window,
       c.in_ok-take_record.ensures.sound c.loop-n.invariant.4,
     )
+
+pub returns-in_err-take_record-clause-untouched : goal.returns-in_err-take_record-clause-untouched
+returns-in_err-take_record-clause-untouched g c = untouched_join g.D.Disk.model c.args.disk.now c.loop-n.disk c.take_record.new.disk c.loop-n.invariant.0 c.take_record.ensures.untouched
+
+pub returns-clause-untouched : goal.returns-clause-untouched
+returns-clause-untouched g c = c.loop-n.invariant.0
+
+pub returns-clause-stands : goal.returns-clause-stands
+returns-clause-stands g c = λ bodies on.
+    let whole : take c.loop-n.n bodies ≡ bodies = take_all c.loop-n.n bodies (omega (arith, on.count)) in
+    ap (replayed start) (sym whole) ∙ c.loop-n.invariant.1 bodies on ∙ ap (λ (core : Core). Some (state_of core)) (sym c.into_core.ensures)

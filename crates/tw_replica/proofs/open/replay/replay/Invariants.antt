@@ -2,10 +2,10 @@ use Rattle.std.proofs.Common.{◌≡◌, List, ℕ, true, Some, take}
 use Rattle.tw_world.specs.Disk.{Untouched}
 use Rattle.tw_journal.specs.Journal.{IsOpenOn}
 use Rattle.tw_journal.specs.Window.{IsWindowOn}
-use Rattle.tw_replica.specs.State.{start, replayed, is_sound}
-use Rattle.tw_replica.specs.Core.{state_of}
+use Rattle.tw_state.specs.State.{start, replayed, is_sound}
+use Rattle.tw_state.specs.Core.{state_of}
 use Rattle.tw_replica.specs.Replica.{magic}
-use Rattle.tw_replica.specs.Indexed.{IsUpToDate}
+use Rattle.tw_state.specs.Indexed.{IsUpToDate}
 use Rattle.tw_replica.proofs.open.replay.replay.Given as goal
 
 abbrev pub invariant-loop-n : goal.invariant-loop-n

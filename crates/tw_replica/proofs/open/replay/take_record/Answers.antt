@@ -1,11 +1,11 @@
 use Rattle.std.proofs.Common.{◌∙◌, List, ℕ, ap, sym}
 use Rattle.tw_journal.specs.Form.{offset_in}
-use Rattle.tw_world.proofs.Moments.{untouched}
-use Rattle.tw_replica.specs.State.{stepped}
-use Rattle.tw_replica.specs.Core.{state_of}
+use Rattle.tw_world.proofs.Moments.{untouched, untouched_join}
+use Rattle.tw_state.specs.State.{stepped}
+use Rattle.tw_state.specs.Core.{state_of}
 use Rattle.tw_journal.proofs.Offsets.{still_open}
 use Rattle.tw_replica.specs.Replica.{magic}
-use Rattle.tw_replica.proofs.Soundness.{body_sound}
+use Rattle.tw_state.proofs.Soundness.{body_sound}
 use Rattle.tw_replica.proofs.Replaying.{step_taken, step_not_taken, reads_only, read_refused}
 use Rattle.tw_replica.proofs.open.replay.take_record.Goals as goal
 
@@ -33,3 +33,18 @@ read_error-requires-in-Err-offset g c = reads_only g.D.Disk.model c.body_through
 
 pub returns-in-Err-offset-clause-refused : goal.returns-in-Err-offset-clause-refused
 returns-in-Err-offset-clause-refused g c = read_refused g.D.Disk.model c.args.disk.now c.body_through.new.disk c.offset.new.disk c.args.journal.now c.args.n (state_of c.args.indexed.now.core) c.read_error-in-Err-offset.result c.in-Err-offset.error c.read_error-in-Err-offset.ensures c.body_through.ensures.untouched c.in-Err-offset.ensures.refused
+
+pub returns-in-Err-clause-untouched : goal.returns-in-Err-clause-untouched
+returns-in-Err-clause-untouched g c = c.body_through.ensures.untouched
+
+pub returns-then-branch-clause-untouched : goal.returns-then-branch-clause-untouched
+returns-then-branch-clause-untouched g c = c.body_through.ensures.untouched
+
+pub returns-in_err-step-clause-untouched : goal.returns-in_err-step-clause-untouched
+returns-in_err-step-clause-untouched g c = c.body_through.ensures.untouched
+
+pub returns-in-Ok-offset-clause-untouched : goal.returns-in-Ok-offset-clause-untouched
+returns-in-Ok-offset-clause-untouched g c = untouched_join g.D.Disk.model c.args.disk.now c.body_through.new.disk c.offset.new.disk c.body_through.ensures.untouched c.offset.ensures.untouched
+
+pub returns-in-Err-offset-clause-untouched : goal.returns-in-Err-offset-clause-untouched
+returns-in-Err-offset-clause-untouched g c = untouched_join g.D.Disk.model c.args.disk.now c.body_through.new.disk c.offset.new.disk c.body_through.ensures.untouched c.offset.ensures.untouched

@@ -1,12 +1,41 @@
 use Rattle.std.proofs.Common.{◌≡◌, ◌+◌, ◌^◌, ◌≤◌, ◌∷◌, [], List, ℕ, ap, arith, length, subst, sym, ◌∙◌}
-use Rattle.std.proofs.lemmas.Bool.{le-leb}
+use Rattle.std.proofs.lemmas.Bool.{le-leb, lt-leb}
 use Rattle.tw_journal.specs.Journal.{IsOpenOn, RecordsOrOne}
 use Rattle.tw_world.specs.Disk.{LeavesOnly}
-use Rattle.tw_replica.specs.Core.{state_of}
+use Rattle.tw_state.specs.State.{Stands}
+use Rattle.tw_state.specs.Core.{state_of}
 use Rattle.tw_replica.specs.Replica.{magic}
 use Rattle.tw_replica.specs.Opening.{state_body, opened_bodies}
-use Rattle.tw_replica.proofs.Shortening.{now_due, still_stands, opens_still, opens_either, grows_still, grows_once, disk_failed}
+use Rattle.tw_replica.proofs.Shortening.{in_rows, too_few, too_long, now_due, still_stands, opens_still, opens_either, grows_still, grows_once, disk_failed}
 use Rattle.tw_replica.proofs.open.shorten.shorten.Goals as goal
+
+-- the records stay where none is put in their place
+pub returns-then-not-can_checkpoint-clause-any_moment : goal.returns-then-not-can_checkpoint-clause-any_moment
+returns-then-not-can_checkpoint-clause-any_moment g c = λ bodies on stands. opens_still g.D.Disk.model g.met.D.Disk.only_now c.args.journal.now c.args.disk.now bodies (state_of c.args.core.now) on stands
+
+pub returns-then-not-can_checkpoint-clause-records : goal.returns-then-not-can_checkpoint-clause-records
+returns-then-not-can_checkpoint-clause-records g c = λ bodies on.
+    subst (IsOpenOn g.D.Disk.model magic c.args.journal.now c.args.disk.now) (sym (in_rows _ (state_of c.args.core.now) bodies (sym c.can_checkpoint.ensures.journal ∙ c.if-not-can_checkpoint.true))) on
+
+pub returns-then-not-can_checkpoint-clause-stands : goal.returns-then-not-can_checkpoint-clause-stands
+returns-then-not-can_checkpoint-clause-stands g c = λ bodies on stands.
+    subst (λ (l : List (List ℕ)). Stands l (state_of c.args.core.now)) (sym (in_rows _ (state_of c.args.core.now) bodies (sym c.can_checkpoint.ensures.journal ∙ c.if-not-can_checkpoint.true))) stands
+
+pub returns-then-count-lt-MANY-clause-records : goal.returns-then-count-lt-MANY-clause-records
+returns-then-count-lt-MANY-clause-records g c = λ bodies on.
+    subst (IsOpenOn g.D.Disk.model magic c.args.journal.now c.args.disk.now) (sym (too_few _ (state_of c.args.core.now) bodies (lt-leb _ _ (omega (arith, on.count, c.if-count-lt-MANY.true))))) on
+
+pub returns-then-count-lt-MANY-clause-stands : goal.returns-then-count-lt-MANY-clause-stands
+returns-then-count-lt-MANY-clause-stands g c = λ bodies on stands.
+    subst (λ (l : List (List ℕ)). Stands l (state_of c.args.core.now)) (sym (too_few _ (state_of c.args.core.now) bodies (lt-leb _ _ (omega (arith, on.count, c.if-count-lt-MANY.true))))) stands
+
+pub returns-then-len-gt-MAX_RECORD-clause-records : goal.returns-then-len-gt-MAX_RECORD-clause-records
+returns-then-len-gt-MAX_RECORD-clause-records g c = λ bodies on.
+    subst (IsOpenOn g.D.Disk.model magic c.args.journal.now c.args.disk.now) (sym (too_long _ (state_of c.args.core.now) bodies (lt-leb _ _ (omega (arith, c.if-len-gt-MAX_RECORD.true, ap length c.in_ok-body.ensures.body))))) on
+
+pub returns-then-len-gt-MAX_RECORD-clause-stands : goal.returns-then-len-gt-MAX_RECORD-clause-stands
+returns-then-len-gt-MAX_RECORD-clause-stands g c = λ bodies on stands.
+    subst (λ (l : List (List ℕ)). Stands l (state_of c.args.core.now)) (sym (too_long _ (state_of c.args.core.now) bodies (lt-leb _ _ (omega (arith, c.if-len-gt-MAX_RECORD.true, ap length c.in_ok-body.ensures.body))))) stands
 
 pub returns-then-count-lt-MANY-clause-any_moment : goal.returns-then-count-lt-MANY-clause-any_moment
 returns-then-count-lt-MANY-clause-any_moment g c = λ bodies on stands. opens_still g.D.Disk.model g.met.D.Disk.only_now c.args.journal.now c.args.disk.now bodies (state_of c.args.core.now) on stands

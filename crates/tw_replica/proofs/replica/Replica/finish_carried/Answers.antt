@@ -1,12 +1,13 @@
 use Rattle.std.proofs.Common.{◌∙◌, ◌∷◌, [], List, ℕ, length, ap, sym, refl}
 use Rattle.tw_journal.specs.Record.{rows}
-use Rattle.tw_replica.specs.Body.Step.{Carried}
-use Rattle.tw_replica.specs.State.{State, carried}
+use Rattle.tw_bodies.specs.Body.Step.{Carried}
+use Rattle.tw_state.specs.State.{State, carried}
 use Rattle.tw_replica.specs.Prepared.{step_bodies}
-use Rattle.tw_replica.specs.Core.{state_of}
+use Rattle.tw_state.specs.Core.{state_of}
 use Rattle.tw_replica.proofs.RecordSizes.{bodies_size, bodies_within, grows_by, nothing_grown}
-use Rattle.tw_replica.proofs.Soundness.{stays_sound, step_sound, held_assigned}
-use Rattle.tw_replica.proofs.RecordAdded.{either_moment, stands_then, nothing_written, is_carried, carries_on}
+use Rattle.tw_state.proofs.Soundness.{stays_sound, step_sound, held_assigned}
+use Rattle.tw_replica.proofs.RecordAdded.{either_moment, stands_then, nothing_written}
+use Rattle.tw_state.proofs.StatesReached.{is_carried, carries_on}
 use Rattle.tw_replica.proofs.replica.Replica.finish_carried.Goals as goal
 
 pub next_of_carried-requires : goal.next_of_carried-requires

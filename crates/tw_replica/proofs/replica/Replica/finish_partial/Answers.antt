@@ -1,12 +1,13 @@
 use Rattle.std.proofs.Common.{◌∙◌, ◌∷◌, [], List, ℕ, length, ap, sym, refl}
 use Rattle.tw_journal.specs.Record.{rows}
-use Rattle.tw_replica.specs.Body.Step.{Partial}
-use Rattle.tw_replica.specs.State.{State, begins_with_point, partly}
+use Rattle.tw_bodies.specs.Body.Step.{Partial}
+use Rattle.tw_state.specs.State.{State, begins_with_point, partly}
 use Rattle.tw_replica.specs.Prepared.{step_bodies}
-use Rattle.tw_replica.specs.Core.{state_of}
+use Rattle.tw_state.specs.Core.{state_of}
 use Rattle.tw_replica.proofs.RecordSizes.{bodies_size, bodies_within, grows_by, nothing_grown}
-use Rattle.tw_replica.proofs.Soundness.{stays_sound, step_sound, held_assigned}
-use Rattle.tw_replica.proofs.RecordAdded.{either_moment, stands_then, nothing_written, is_partly, partly_on}
+use Rattle.tw_state.proofs.Soundness.{stays_sound, step_sound, held_assigned}
+use Rattle.tw_replica.proofs.RecordAdded.{either_moment, stands_then, nothing_written}
+use Rattle.tw_state.proofs.StatesReached.{is_partly, partly_on}
 use Rattle.tw_numbers.proofs.Basics.{both_hold}
 use Rattle.tw_replica.proofs.replica.Replica.finish_partial.Goals as goal
 

@@ -1,10 +1,10 @@
 use Rattle.std.proofs.Common.{◌∙◌, ◌∷◌, [], List, ℕ, refl, drop, ap}
-use Rattle.tw_replica.specs.Body.Step.{Undo}
-use Rattle.tw_replica.specs.Core.{state_of}
+use Rattle.tw_bodies.specs.Body.Step.{Undo}
+use Rattle.tw_state.specs.Core.{state_of}
 use Rattle.tw_numbers.specs.Numbering.{assigned}
-use Rattle.tw_replica.proofs.RecordAdded.{is_undone}
-use Rattle.tw_replica.proofs.Soundness.{step_sound, held_assigned}
-use Rattle.tw_replica.proofs.PendingBodies.{last_told, last_split}
+use Rattle.tw_state.proofs.StatesReached.{is_undone}
+use Rattle.tw_state.proofs.Soundness.{step_sound, held_assigned}
+use Rattle.tw_state.proofs.PendingBodies.{last_told, last_split}
 use Rattle.tw_replica.proofs.replica.Replica.take_back.Goals as goal
 
 pub take_back_core-requires-clause-assigned : goal.take_back_core-requires-clause-assigned

@@ -2,7 +2,7 @@ use Rattle.std.proofs.Common.{◌++◌}
 use Rattle.std.specs.Vec.Iter.{into_iter_items}
 use Rattle.tw_model.specs.Changes.{changed_all, ops_of_all}
 use Rattle.tw_numbers.specs.Assigned.{is_among}
-use Rattle.tw_replica.proofs.CommittedChanges.{tasks_more, ops_more, among_more}
+use Rattle.tw_state.proofs.CommittedChanges.{tasks_more, ops_more, among_more}
 use Rattle.tw_replica.proofs.step.edit.make_all.Goals as goal
 
 pub loop-change-preserved : goal.loop-change-preserved

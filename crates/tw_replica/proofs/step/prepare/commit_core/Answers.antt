@@ -1,7 +1,7 @@
 use Rattle.std.proofs.Common.{◌≡◌, ◌++◌, ◌∙◌, List, length, sym, ap, arith}
 use Rattle.tw_model.specs.declared.Op.{Op}
-use Rattle.tw_replica.specs.Body.{is_group}
-use Rattle.tw_replica.proofs.PendingBodies.{written_holds}
+use Rattle.tw_bodies.specs.Body.{is_group}
+use Rattle.tw_state.proofs.PendingBodies.{written_holds}
 use Rattle.tw_replica.proofs.step.prepare.commit_core.Goals as goal
 
 pub keep_body-requires : goal.keep_body-requires

@@ -1,5 +1,5 @@
 use Rattle.std.proofs.Common.{◌∙◌, ◌++◌, List, ℕ, length, sym, ap, subst, ◌<◌, ◌^◌}
-use Rattle.tw_replica.specs.Groups.{group_in}
+use Rattle.tw_state.specs.Groups.{group_in}
 use Rattle.tw_numbers.proofs.Basics.{on_ok_map}
 use Rattle.tw_replica.proofs.step.prepare.keep_body.Goals as goal
 

@@ -1,5 +1,5 @@
 use Rattle.std.proofs.Common.{drop}
-use Rattle.tw_replica.proofs.StepsTaken.{taken_back_ready}
+use Rattle.tw_state.proofs.StepsTaken.{taken_back_ready}
 use Rattle.tw_replica.proofs.step.prepare.take_back_core.Goals as goal
 
 pub returns-clause-numbers : goal.returns-clause-numbers

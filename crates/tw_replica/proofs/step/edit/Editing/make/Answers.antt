@@ -1,5 +1,5 @@
 use Rattle.std.proofs.Common.{refl}
-use Rattle.tw_replica.proofs.RecordAdded.{on_ok_three}
+use Rattle.tw_state.proofs.StatesReached.{on_ok_three}
 use Rattle.tw_replica.proofs.PreparedEdits.{made_more}
 use Rattle.tw_replica.proofs.step.edit.Editing.make.Goals as goal
 

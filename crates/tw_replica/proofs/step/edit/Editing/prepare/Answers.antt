@@ -1,11 +1,11 @@
 use Rattle.std.proofs.Common.{◌∙◌, List, ap}
 use Rattle.tw_model.specs.Changes.{group_of}
-use Rattle.tw_replica.specs.Body.Step.{Commit}
+use Rattle.tw_bodies.specs.Body.Step.{Commit}
 use Rattle.tw_replica.specs.Prepared.{step_bodies}
 use Rattle.tw_replica.proofs.PreparedEdits.{edited_leads, edited_sound, edited_is}
 use Rattle.tw_model.specs.declared.Op.{Op}
-use Rattle.tw_replica.specs.Body.{is_group}
-use Rattle.tw_replica.proofs.CommittedChanges.{changes_are_group}
+use Rattle.tw_bodies.specs.Body.{is_group}
+use Rattle.tw_state.proofs.CommittedChanges.{changes_are_group}
 use Rattle.tw_replica.proofs.step.edit.Editing.prepare.Goals as goal
 
 pub commit_core-requires : goal.commit_core-requires

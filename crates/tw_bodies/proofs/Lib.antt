@@ -1,0 +1,9 @@
+pub mod TaskWritten
+pub mod TaskAgain
+pub mod OpsAgain
+pub mod StateAgain
+pub mod StepAgain
+pub mod TaskSpelled
+pub mod OpsSpelled
+pub mod StateSpelled
+pub mod StepSpelled

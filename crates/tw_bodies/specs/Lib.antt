@@ -1,0 +1,4 @@
+pub mod Body
+pub mod Reading
+pub mod Spelling
+pub mod Views

@@ -1,0 +1,5 @@
+/// For how many items room is made at first. Each takes some bytes, so that a count which is wrong takes little memory.
+pub fn room_for(count: u32, bytes: &[u8]) -> usize {
+    let most = bytes.len() / 16 + 1;
+    most.min(count as usize)
+}

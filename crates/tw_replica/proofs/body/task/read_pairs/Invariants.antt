@@ -1,8 +1,0 @@
-use Rattle.std.proofs.Common.{◌≡◌, ◌-◌}
-use Rattle.tw_replica.specs.Reading.{pair_at}
-use Rattle.tw_fields.specs.Reading.{many_at}
-use Rattle.tw_fields.proofs.ReadLoop.{with_front}
-use Rattle.tw_replica.proofs.body.task.read_pairs.Given as goal
-
-abbrev pub invariant-loop : goal.invariant-loop
-invariant-loop l = with_front l.pairs.items (many_at pair_at (l.count - l.counter) l.rest) ≡ many_at pair_at l.count l.bytes

@@ -1,5 +1,0 @@
-use Rattle.tw_replica.proofs.Soundness.{checkpoint_leads}
-use Rattle.tw_replica.proofs.laws.a_checkpoint_leads_to_its_state.Goals as goal
-
-pub returns : goal.returns
-returns c = checkpoint_leads

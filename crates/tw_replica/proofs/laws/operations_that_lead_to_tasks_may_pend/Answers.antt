@@ -1,5 +1,0 @@
-use Rattle.tw_replica.proofs.Soundness.{leading_may_pend}
-use Rattle.tw_replica.proofs.laws.operations_that_lead_to_tasks_may_pend.Goals as goal
-
-pub returns : goal.returns
-returns c = leading_may_pend

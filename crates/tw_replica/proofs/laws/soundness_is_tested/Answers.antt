@@ -1,5 +1,0 @@
-use Rattle.tw_replica.proofs.Soundness.{sound_is_tested}
-use Rattle.tw_replica.proofs.laws.soundness_is_tested.Goals as goal
-
-pub returns : goal.returns
-returns c = sound_is_tested

@@ -1,0 +1,11 @@
+pub mod Part
+pub mod State
+pub mod Sound
+pub mod Pending
+pub mod Groups
+pub mod Core
+pub mod Next
+pub mod Indexed
+pub mod Applied
+pub mod Restoring
+pub mod Touched

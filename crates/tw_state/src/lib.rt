@@ -1,0 +1,24 @@
+//! The state of a replica in memory: its tasks, what is pending on them, and the numbers of open tasks.
+//! Each step leads to the state that its definition says, or to none; each state that records lead to is sound.
+//! It stands on tw_bodies (the steps, as records spell them), tw_numbers (the places of open tasks) and tw_model (tasks and operations).
+#![tactic(auto)]
+
+mod apply;
+mod copies;
+mod in_place;
+mod indexed;
+pub mod laws;
+mod next;
+mod pending;
+mod pends;
+mod restore;
+mod state;
+mod touched;
+
+pub use copies::{make_room, part_of, take_out};
+pub use indexed::Indexed;
+pub use next::{Next, next_on};
+pub use pending::{Pending, copy_of};
+pub use pends::pending_of;
+pub use state::{Core, apply_carried, apply_ops, apply_sync_ops, is_idle, take_back_from};
+pub use touched::{add_all_synced, synced_uuids, touched_uuids};
