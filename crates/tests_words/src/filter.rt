@@ -4,11 +4,9 @@ mod modifiers;
 use std::alloc::Global;
 use std::collections::BTreeSet;
 use std::test::Fail;
-use tw_filter::{
-    BadWord, Filter, FilterError, Looks, View, WordKind, chosen_of, number_in, read_filter, select,
-    uuid_of_36,
-};
+use tw_filter::{Filter, FilterError, Looks, read_filter, select};
 use tw_model::{TaskMap, Tasks};
+use tw_terms::{BadWord, View, WordKind, chosen_of, number_in, uuid_of_36};
 use tw_time::Zone;
 use tw_world::{Memory, Moment};
 use uuid::Uuid;

@@ -1,8 +1,10 @@
-//! Tests of filters, command lines and settings, over the public calls of tw_filter and tw_words.
+//! Tests of filters, command lines and settings, over the public calls of tw_terms, tw_filter, tw_settings and tw_words.
 //! A module is named after the crate that it tests.
 #![tactic(auto)]
 
 #[cfg(test)]
 mod filter;
+#[cfg(test)]
+mod settings;
 #[cfg(test)]
 mod words;

@@ -1,11 +1,11 @@
 mod judged;
 mod modified;
-mod settings;
 
 use std::alloc::Global;
 use std::test::Fail;
-use tw_filter::{BadWord, WordKind};
-use tw_words::{Line, WordError, cut_words};
+use tw_settings::WordError;
+use tw_terms::{BadWord, WordKind};
+use tw_words::{Line, cut_words};
 use tw_world::{Memory, Moment};
 
 // 2026-03-04T10:00:00Z, a Wednesday.
@@ -15,7 +15,7 @@ const NOW: Moment = Moment {
 };
 
 // The words between bars.
-fn words_of(alloc: Global, line: &str) -> Result<Vec<String>, Memory> {
+pub(crate) fn words_of(alloc: Global, line: &str) -> Result<Vec<String>, Memory> {
     let mut words = Vec::new(alloc);
     for word in line.split('|') {
         words.push(String::from_str(alloc, word)?)?;
@@ -29,7 +29,7 @@ fn line_of(alloc: Global, line: &str) -> Result<Line, Memory> {
 }
 
 // What is around the sign of a row.
-fn halves(row: &str) -> Result<(&str, &str), Fail> {
+pub(crate) fn halves(row: &str) -> Result<(&str, &str), Fail> {
     Ok(row.split_once(" > ").ok_or("no row")?)
 }
 
@@ -59,7 +59,10 @@ fn fault_of(alloc: Global, error: WordError) -> Result<String, Memory> {
     }
 }
 
-fn verdict<T: Drop>(alloc: Global, judged: Result<T, WordError>) -> Result<String, Memory> {
+pub(crate) fn verdict<T: Drop>(
+    alloc: Global,
+    judged: Result<T, WordError>,
+) -> Result<String, Memory> {
     match judged {
         Ok(_) => Ok(String::from_str(alloc, "right")?),
         Err(error) => fault_of(alloc, error),

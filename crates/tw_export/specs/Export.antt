@@ -15,7 +15,7 @@ use Rattle.tw_text.specs.Decimal.{decimal3}
 use Rattle.tw_time.specs.Basic.{basic}
 use Rattle.tw_model.specs.Maps.{bytes_cmp, same_bytes}
 use Rattle.tw_model.specs.Ops.{TaskValue, TasksValue}
-use Rattle.tw_filter.specs.Chosen.{chosen}
+use Rattle.tw_terms.specs.Chosen.{chosen}
 use Rattle.tw_urgency.specs.Stored.{in_years, annotated, is_annotation}
 use Rattle.tw_urgency.specs.Status.{status_of}
 use Rattle.tw_urgency.specs.Dependencies.{dependency_in}

@@ -3,22 +3,22 @@ use Rattle.std.proofs.Common.{◌≡◌, ◌⊎◌, inl, inr, ℕ, ◌+◌, ◌-
 use Rattle.std.specs.List.{slice_range}
 use Rattle.std.proofs.lemmas.List.{drop_more, take-map, drop-map}
 use Rattle.tw_time.specs.Moments.{TimeZone}
-use Rattle.tw_filter.specs.declared.bad_word.BadWord.{BadWord}
-use Rattle.tw_filter.specs.declared.bad_word.WordKind.{WordKind}
-use Rattle.tw_filter.specs.declared.id_word.Name.{Name}
-use Rattle.tw_filter.specs.declared.term.Term.{Term}
-use Rattle.tw_filter.specs.declared.token.Token.{Token}
-use Rattle.tw_filter.specs.declared.token.Token.TheVariants.{Named, Asked}
-use Rattle.tw_filter.specs.declared.token.Mark.{Mark}
+use Rattle.tw_terms.specs.declared.bad_word.BadWord.{BadWord}
+use Rattle.tw_terms.specs.declared.bad_word.WordKind.{WordKind}
+use Rattle.tw_terms.specs.declared.id_word.Name.{Name}
+use Rattle.tw_terms.specs.declared.term.Term.{Term}
+use Rattle.tw_terms.specs.declared.token.Token.{Token}
+use Rattle.tw_terms.specs.declared.token.Token.TheVariants.{Named, Asked}
+use Rattle.tw_terms.specs.declared.token.Mark.{Mark}
 use Rattle.tw_filter.specs.declared.grammar.Behind.{Behind}
 use Rattle.tw_filter.specs.declared.grammar.Behind.TheVariants.{Nothing, Bracket, Part}
 use Rattle.tw_filter.specs.declared.grammar.Behind.TheVariants as behind
 use Rattle.tw_filter.specs.declared.grammar.Progress.{Progress}
-use Rattle.tw_filter.specs.declared.term.Test.TheVariants.{Mentions}
-use Rattle.tw_filter.specs.Values.{asks}
-use Rattle.tw_filter.specs.IdWords.{names_in}
-use Rattle.tw_filter.specs.Terms.{term_of}
-use Rattle.tw_filter.specs.Tokens.{mark_of, token_of, asked, named, marked, tokens_of}
+use Rattle.tw_terms.specs.declared.term.Test.TheVariants.{Mentions}
+use Rattle.tw_terms.specs.Values.{asks}
+use Rattle.tw_terms.specs.IdWords.{names_in}
+use Rattle.tw_terms.specs.Terms.{term_of}
+use Rattle.tw_terms.specs.Tokens.{mark_of, token_of, asked, named, marked, tokens_of}
 use Rattle.tw_filter.specs.Grammar.{next, after_word, placed, read_word, with_front, going_on, run_from, run, start, is_whole, is_end, is_end_behind, is_filter, Reads}
 
 -- ---- what a word gives

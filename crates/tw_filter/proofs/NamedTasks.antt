@@ -13,14 +13,16 @@ use Rattle.tw_model.specs.Ops.{TaskValue}
 use Rattle.tw_model.specs.Places.{Places, has_uuid, id_from, id_of}
 use Rattle.tw_urgency.specs.Dependencies.{is_that}
 use Rattle.tw_filter.specs.Evaluation.{fresh, value, whole_frame, with_tokens, all_hold}
-use Rattle.tw_filter.specs.Tokens.{is_name}
-use Rattle.tw_filter.specs.Holds.{Scene, passes, name_holds, term_holds, holds_there, holds, are_names}
+use Rattle.tw_terms.specs.Tokens.{is_name}
+use Rattle.tw_terms.specs.Scenes.{Scene}
+use Rattle.tw_terms.specs.Holds.{passes, name_holds, term_holds}
+use Rattle.tw_filter.specs.Selected.{holds_there, holds, are_names}
 use Rattle.tw_filter.specs.NamedTasks.{names_number, uuid_in, names, AreFlags}
-use Rattle.tw_filter.specs.declared.id_word.Name.{Name}
-use Rattle.tw_filter.specs.declared.id_word.Name.TheVariants.{Numbers, One}
-use Rattle.tw_filter.specs.declared.term.Term.{Term}
-use Rattle.tw_filter.specs.declared.token.Token.{Token}
-use Rattle.tw_filter.specs.declared.token.Token.TheVariants.{Xor, Or, And, Not, Open, Close, Named, Asked}
+use Rattle.tw_terms.specs.declared.id_word.Name.{Name}
+use Rattle.tw_terms.specs.declared.id_word.Name.TheVariants.{Numbers, One}
+use Rattle.tw_terms.specs.declared.term.Term.{Term}
+use Rattle.tw_terms.specs.declared.token.Token.{Token}
+use Rattle.tw_terms.specs.declared.token.Token.TheVariants.{Xor, Or, And, Not, Open, Close, Named, Asked}
 
 -- ---- truth
 

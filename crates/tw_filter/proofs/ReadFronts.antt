@@ -1,8 +1,8 @@
 -- Tokens that are read so far can be led to an end.
 use Rattle.std.proofs.Common.{◌≡◌, inl, inr, ℕ, zero, suc, ◌+◌, true, List, [], ◌∷◌, ◌++◌, Option, Some, None, is_some, refl, sym, ap, ◌∙◌, arith}
-use Rattle.tw_filter.specs.declared.term.Test.TheVariants.{IsBlocked}
-use Rattle.tw_filter.specs.declared.token.Token.{Token}
-use Rattle.tw_filter.specs.declared.token.Token.TheVariants.{Close, Asked}
+use Rattle.tw_terms.specs.declared.term.Test.TheVariants.{IsBlocked}
+use Rattle.tw_terms.specs.declared.token.Token.{Token}
+use Rattle.tw_terms.specs.declared.token.Token.TheVariants.{Close, Asked}
 use Rattle.tw_filter.specs.declared.grammar.Behind.TheVariants.{Part}
 use Rattle.tw_filter.specs.declared.grammar.Progress.{Progress}
 use Rattle.tw_filter.specs.Grammar.{run, start}

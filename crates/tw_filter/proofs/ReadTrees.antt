@@ -1,10 +1,10 @@
 -- The tokens that spell a tree are read to the end.
 use Rattle.std.proofs.Common.{◌≡◌, ℕ, ◌+◌, ◌-◌, ◌≤◌, ◌==◌, max, nat_lt, nat_le, Bool, true, false, cond, ◌&&◌, List, [], ◌∷◌, ◌++◌, map, Err, append_assoc, append-nil, refl, sym, ap, ◌∙◌, arith}
 use Rattle.std.proofs.lemmas.Bool.Decides.{nat_tests}
-use Rattle.tw_filter.specs.declared.bad_word.WordKind.TheVariants as bad
-use Rattle.tw_filter.specs.declared.id_word.Name.{Name}
-use Rattle.tw_filter.specs.declared.token.Token.{Token}
-use Rattle.tw_filter.specs.declared.token.Token.TheVariants.{Xor, Or, And, Open, Close, Named}
+use Rattle.tw_terms.specs.declared.bad_word.WordKind.TheVariants as bad
+use Rattle.tw_terms.specs.declared.id_word.Name.{Name}
+use Rattle.tw_terms.specs.declared.token.Token.{Token}
+use Rattle.tw_terms.specs.declared.token.Token.TheVariants.{Xor, Or, And, Open, Close, Named}
 use Rattle.tw_filter.specs.declared.grammar.Behind.{Behind}
 use Rattle.tw_filter.specs.declared.grammar.Behind.TheVariants.{Nothing, Bracket, Mark, Part}
 use Rattle.tw_filter.specs.declared.grammar.Progress.{Progress}

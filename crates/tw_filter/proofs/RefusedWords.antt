@@ -2,10 +2,10 @@
 use Rattle.std.proofs.Common.{◌≡◌, ℕ, ◌+◌, Bool, true, false, cond, List, [], ◌∷◌, ◌++◌, length, Some, is_some, Result, Ok, Err, append_assoc, append-nil, refl, sym, ap, subst, ◌∙◌, arith}
 use Rattle.std.specs.List.{slice_range}
 use Rattle.tw_time.specs.Moments.{TimeZone}
-use Rattle.tw_filter.specs.declared.bad_word.BadWord.{BadWord}
-use Rattle.tw_filter.specs.declared.bad_word.WordKind.{WordKind}
-use Rattle.tw_filter.specs.declared.bad_word.WordKind.TheVariants as bad
-use Rattle.tw_filter.specs.declared.token.Token.{Token}
+use Rattle.tw_terms.specs.declared.bad_word.BadWord.{BadWord}
+use Rattle.tw_terms.specs.declared.bad_word.WordKind.{WordKind}
+use Rattle.tw_terms.specs.declared.bad_word.WordKind.TheVariants as bad
+use Rattle.tw_terms.specs.declared.token.Token.{Token}
 use Rattle.tw_filter.specs.declared.grammar.Progress.{Progress}
 use Rattle.tw_filter.specs.Grammar.{after_word, bad_at, placed, read_word, is_end, with_front, going_on, read_on, start, filter_in, run}
 use Rattle.tw_filter.specs.Trees.{is_at_end, are_read, AreTokensOf}

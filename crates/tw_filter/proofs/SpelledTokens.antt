@@ -2,14 +2,14 @@
 use Rattle.std.proofs.Common.{◌≡◌, inl, inr, ℕ, ◌+◌, ◌-◌, ◌<◌, ◌≤◌, ◌==◌, nat_le, Bool, true, false, cond, ◌&&◌, List, [], ◌∷◌, ◌++◌, map, length, Err, append_assoc, append-nil, refl, sym, ap, subst, ◌∙◌, arith}
 use Rattle.std.proofs.lemmas.Bool.Decides.{nat_tests}
 use Rattle.std.proofs.lemmas.List.{map-append}
-use Rattle.tw_filter.specs.declared.bad_word.WordKind.TheVariants as bad
-use Rattle.tw_filter.specs.declared.id_word.Name.{Name}
-use Rattle.tw_filter.specs.declared.token.Token.{Token}
-use Rattle.tw_filter.specs.declared.token.Token.TheVariants.{Xor, Or, And, Not, Open, Close, Named, Asked}
+use Rattle.tw_terms.specs.declared.bad_word.WordKind.TheVariants as bad
+use Rattle.tw_terms.specs.declared.id_word.Name.{Name}
+use Rattle.tw_terms.specs.declared.token.Token.{Token}
+use Rattle.tw_terms.specs.declared.token.Token.TheVariants.{Xor, Or, And, Not, Open, Close, Named, Asked}
 use Rattle.tw_filter.specs.declared.grammar.Behind.{Behind}
 use Rattle.tw_filter.specs.declared.grammar.Behind.TheVariants.{Nothing, Bracket, Mark, Part}
 use Rattle.tw_filter.specs.Grammar.{at, run, run_from}
-use Rattle.tw_filter.specs.Tokens.{is_name}
+use Rattle.tw_terms.specs.Tokens.{is_name}
 use Rattle.tw_filter.specs.Trees.{ends_with_name, is_at_end, are_read, ReadIsSpelled}
 use Rattle.tw_filter.proofs.ReadTrees.{place}
 use Rattle.tw_filter.proofs.TreeFronts.{Spells, part_is_both, both_is_any, any_is_odd, names_spell, term_spells, beside_spell, FrontOfXor, FrontOfOr, FrontOfPart, FrontOfNames, FrontOfBracket, behind_xor, behind_or, behind_and, no_name, behind_part_not, behind_not, behind_part_open, behind_open, last_of_more, last_of_brackets}

@@ -3,13 +3,13 @@ use Rattle.std.proofs.Common.{◌≡◌, ◌∙◌, Bool, true, false, not, cond
 use Rattle.std.proofs.lemmas.List.{append_assoc, append-nil}
 use Rattle.std.specs.List.{list_any}
 use Rattle.tw_filter.specs.Evaluation.{Standing, differ, with_part, turned, fresh, value, whole_frame, standing, close, or_named, with_token, with_tokens, beginning, all_hold}
-use Rattle.tw_filter.specs.Tokens.{is_name}
+use Rattle.tw_terms.specs.Tokens.{is_name}
 use Rattle.tw_filter.specs.Trees.{Tree, tree_holds, spelled, TreesHold, begins_with_name, is_name_last, ends_with_name, beside, AndIsImplied}
 use Rattle.tw_filter.specs.Trees.Tree.{OneName, Ask, Unless, Within, Both, Beside, OneAtLeast, OneOnly}
-use Rattle.tw_filter.specs.declared.id_word.Name.{Name}
-use Rattle.tw_filter.specs.declared.term.Term.{Term}
-use Rattle.tw_filter.specs.declared.token.Token.{Token}
-use Rattle.tw_filter.specs.declared.token.Token.TheVariants.{Xor, Or, And, Not, Open, Close, Named, Asked}
+use Rattle.tw_terms.specs.declared.id_word.Name.{Name}
+use Rattle.tw_terms.specs.declared.term.Term.{Term}
+use Rattle.tw_terms.specs.declared.token.Token.{Token}
+use Rattle.tw_terms.specs.declared.token.Token.TheVariants.{Xor, Or, And, Not, Open, Close, Named, Asked}
 use Rattle.tw_filter.specs.declared.evaluation.Frame.{Frame}
 
 abbrev frame : (odd any all : Bool) → Frame

@@ -2,12 +2,12 @@
 use Rattle.std.proofs.Common.{◌≡◌, ℕ, ◌+◌, nat_le, Bool, true, false, cond, List, [], ◌∷◌, ◌++◌, Result, Ok, Err, refl, sym, ap, subst, ◌∙◌}
 use Rattle.std.specs.List.{slice_range}
 use Rattle.tw_time.specs.Moments.{TimeZone}
-use Rattle.tw_filter.specs.declared.bad_word.BadWord.{BadWord}
-use Rattle.tw_filter.specs.declared.bad_word.WordKind.{WordKind}
-use Rattle.tw_filter.specs.declared.bad_word.WordKind.TheVariants as bad
-use Rattle.tw_filter.specs.declared.token.Token.{Token}
+use Rattle.tw_terms.specs.declared.bad_word.BadWord.{BadWord}
+use Rattle.tw_terms.specs.declared.bad_word.WordKind.{WordKind}
+use Rattle.tw_terms.specs.declared.bad_word.WordKind.TheVariants as bad
+use Rattle.tw_terms.specs.declared.token.Token.{Token}
 use Rattle.tw_filter.specs.declared.grammar.Progress.{Progress}
-use Rattle.tw_filter.specs.Tokens.{tokens_of}
+use Rattle.tw_terms.specs.Tokens.{tokens_of}
 use Rattle.tw_filter.specs.Grammar.{after_word, bad_at, placed, read_word, is_end, with_front, going_on, read_on, start, filter_in, run_from, run}
 use Rattle.tw_filter.specs.Trees.{is_at_end, AreTokensOf, WordsAreSpelled}
 use Rattle.tw_filter.proofs.AcceptedWords.{AreOfWord, of_word, then_run, run_front, tokens_lead}

@@ -1,10 +1,10 @@
 -- Trees from their parts, and the fronts of tokens that may go on to one.
 use Rattle.std.proofs.Common.{◌≡◌, ℕ, ◌+◌, ◌≤◌, Bool, true, false, cond, ◌&&◌, List, [], ◌∷◌, ◌++◌, map, append_assoc, refl, sym, ap, subst, ◌∙◌, arith}
-use Rattle.tw_filter.specs.declared.id_word.Name.{Name}
-use Rattle.tw_filter.specs.declared.term.Term.{Term}
-use Rattle.tw_filter.specs.declared.token.Token.{Token}
-use Rattle.tw_filter.specs.declared.token.Token.TheVariants.{Xor, Or, And, Not, Open, Close, Named, Asked}
-use Rattle.tw_filter.specs.Tokens.{is_name}
+use Rattle.tw_terms.specs.declared.id_word.Name.{Name}
+use Rattle.tw_terms.specs.declared.term.Term.{Term}
+use Rattle.tw_terms.specs.declared.token.Token.{Token}
+use Rattle.tw_terms.specs.declared.token.Token.TheVariants.{Xor, Or, And, Not, Open, Close, Named, Asked}
+use Rattle.tw_terms.specs.Tokens.{is_name}
 use Rattle.tw_filter.specs.Trees.{Tree, begins_with_name, is_name_last, ends_with_name, beside, spelled, depth_of}
 use Rattle.tw_filter.specs.Trees.Tree.{OneName, Ask, Unless, Within, Both, Beside, OneAtLeast, OneOnly}
 

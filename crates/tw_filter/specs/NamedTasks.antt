@@ -3,10 +3,10 @@ use Rattle.std.specs.Prelude.{◌≡◌, ℕ, ◌+◌, ◌<◌, ◌&&◌, nat_le
 use Rattle.std.specs.List.{list_any}
 use Rattle.tw_model.specs.Maps.{same_bytes}
 use Rattle.tw_model.specs.Places.{Places, id_of}
-use Rattle.tw_filter.specs.Holds.{passes}
-use Rattle.tw_filter.specs.declared.id_word.Name.TheVariants.{Numbers, One}
-use Rattle.tw_filter.specs.declared.token.Token.{Token}
-use Rattle.tw_filter.specs.declared.token.Token.TheVariants.{Named}
+use Rattle.tw_terms.specs.Holds.{passes}
+use Rattle.tw_terms.specs.declared.id_word.Name.TheVariants.{Numbers, One}
+use Rattle.tw_terms.specs.declared.token.Token.{Token}
+use Rattle.tw_terms.specs.declared.token.Token.TheVariants.{Named}
 
 -- whether a token names a number
 abbrev pub names_number : ℕ → Token → Bool

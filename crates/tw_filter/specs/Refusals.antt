@@ -3,11 +3,11 @@ use Rattle.std.specs.Prelude.{◌≡◌, ℕ, ◌+◌, nat_le, List, [], ◌∷�
 use Rattle.std.specs.List.{slice_range}
 use Rattle.tw_time.specs.Moments.{TimeZone}
 use Rattle.tw_filter.specs.Grammar.{filter_in}
-use Rattle.tw_filter.specs.Tokens.{tokens_of}
+use Rattle.tw_terms.specs.Tokens.{tokens_of}
 use Rattle.tw_filter.specs.Trees.{SpellAFilter, AreTokensOf}
-use Rattle.tw_filter.specs.declared.bad_word.BadWord.{BadWord}
-use Rattle.tw_filter.specs.declared.bad_word.WordKind.{WordKind}
-use Rattle.tw_filter.specs.declared.token.Token.{Token}
+use Rattle.tw_terms.specs.declared.bad_word.BadWord.{BadWord}
+use Rattle.tw_terms.specs.declared.bad_word.WordKind.{WordKind}
+use Rattle.tw_terms.specs.declared.token.Token.{Token}
 
 -- after these tokens no filter goes on with those of a word
 abbrev pub NoneGoesOn : List Token → Result (List Token) WordKind → Type 0

@@ -7,16 +7,16 @@ ghost use Rattle.std.specs.FinMap as map;
 ghost use Rattle.tw_model.specs.Maps.{bytes_cmp};
 ghost use Rattle.tw_model.specs.Places.{has_uuid, id_of};
 ghost use Rattle.tw_urgency.specs.Dependencies.{is_that};
-ghost use Rattle.tw_filter.specs.Tokens.{is_name};
-ghost use Rattle.tw_filter.specs.Holds.{scene_of, passes, are_names, selected};
+ghost use Rattle.tw_terms.specs.Tokens.{is_name};
+ghost use Rattle.tw_terms.specs.Scenes.{scene_of};
+ghost use Rattle.tw_terms.specs.Holds.{passes};
+ghost use Rattle.tw_filter.specs.Selected.{are_names, selected};
 ghost use Rattle.tw_filter.specs.NamedTasks.{names_number, uuid_in, names, AreFlags};
 
-use crate::id_word::Name;
-use crate::token::Token;
-use crate::view::View;
 use std::alloc::Global;
 use std::collections::BTreeSet;
 use tw_model::Tasks;
+use tw_terms::{Name, Token, View};
 use tw_world::Memory;
 use uuid::Uuid;
 

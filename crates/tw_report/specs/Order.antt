@@ -9,7 +9,7 @@ use Rattle.tw_model.specs.Ops.{TaskValue}
 use Rattle.tw_urgency.specs.Stored.{moment_at}
 use Rattle.tw_urgency.specs.Urgency.{urgency}
 use Rattle.tw_report.specs.Sight.{Sight}
-use Rattle.tw_filter.specs.Chosen.{Entry}
+use Rattle.tw_terms.specs.Chosen.{Entry}
 use Rattle.tw_report.specs.declared.report.Report.{Report}
 use Rattle.tw_report.specs.declared.report.Report.TheVariants.{List as Listed, Next, All, Completed, Waiting, Blocked}
 

@@ -6,8 +6,8 @@ use Rattle.tw_model.specs.Ops.{TasksValue}
 use Rattle.tw_model.specs.Places.{Places}
 use Rattle.tw_urgency.specs.Urgency.{AreWeights}
 use Rattle.tw_urgency.specs.declared.coefficients.Coefficients.{Coefficients}
-use Rattle.tw_filter.specs.Indexes.{AreIds, AreBlocking}
-use Rattle.tw_filter.specs.declared.view.View.{View}
+use Rattle.tw_terms.specs.Indexes.{AreIds, AreBlocking}
+use Rattle.tw_terms.specs.declared.view.View.{View}
 use Rattle.tw_report.specs.declared.look.Look.{Look}
 
 -- what is looked at

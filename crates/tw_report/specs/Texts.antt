@@ -12,7 +12,7 @@ use Rattle.tw_model.specs.Places.{id_of}
 use Rattle.tw_urgency.specs.Urgency.{urgency}
 use Rattle.tw_text.specs.Table.{table}
 use Rattle.tw_report.specs.Sight.{Sight}
-use Rattle.tw_filter.specs.Chosen.{Entry, chosen}
+use Rattle.tw_terms.specs.Chosen.{Entry, chosen}
 use Rattle.tw_report.specs.Order.{Rank, with_ranks}
 use Rattle.tw_report.specs.Fields.{fields_of, layout, number_text, field_text}
 use Rattle.tw_report.specs.declared.report.Report.{Report}

@@ -1,6 +1,6 @@
 //! Tasks as texts for people: the reports, and what is told of each task.
 //! Each text is one function of the rows, the tasks, their numbers, the moment, the zone and the weights of urgency.
-//! It stands on `tw_text` for columns, on `tw_urgency` for status and urgency, and on `tw_filter`'s view.
+//! It stands on `tw_text` for columns, on `tw_urgency` for status and urgency, and on `tw_terms`' view.
 #![tactic(auto)]
 
 mod count;

@@ -9,8 +9,8 @@ ghost use Rattle.tw_report.specs.Sight.{IsLook, IsModest, sight_in, sight_of};
 
 use std::alloc::Global;
 use std::collections::{BTreeMap, BTreeSet};
-use tw_filter::{View, all_ids};
 use tw_model::id_of;
+use tw_terms::{View, all_ids};
 use tw_urgency::{Coefficients, all_blocking, blocking, task_urgency};
 use tw_world::Memory;
 use uuid::Uuid;

@@ -1,13 +1,13 @@
 // The names that tasks have, and how often they occur.
 ghost use Rattle.std.specs.Prelude.{◌≡◌, IfOk, OnOk};
 ghost use Rattle.std.specs.Option.{option_copied};
-ghost use Rattle.tw_filter.specs.Chosen.{chosen};
+ghost use Rattle.tw_terms.specs.Chosen.{chosen};
 ghost use Rattle.tw_report.specs.Texts.{tag_in, count_name, count_project, count_tags, count_of, count_all, projects_text, tags_text};
 
 use crate::count::Counts;
 use std::alloc::Global;
-use tw_filter::{View, chosen_of};
 use tw_model::TaskMap;
+use tw_terms::{View, chosen_of};
 use tw_world::Memory;
 use uuid::Uuid;
 

@@ -2,15 +2,15 @@
 ghost use Rattle.std.specs.Prelude.{◌≡◌, ◌<◌, [], IfOk, IfSome, OnOk};
 ghost use Rattle.std.specs.BTreeSet.{insert_key};
 ghost use Rattle.tw_report.specs.Sight.{IsLook, IsModest, sight_in};
-ghost use Rattle.tw_filter.specs.Chosen.{chosen};
+ghost use Rattle.tw_terms.specs.Chosen.{chosen};
 ghost use Rattle.tw_report.specs.Order.{absent_last, rank_number, rank_of, rank_cmp, with_ranks};
 
 use crate::look::{Look, urgency_in};
 use crate::report::Report;
 use std::alloc::Global;
 use std::collections::BTreeSet;
-use tw_filter::chosen_of;
 use tw_model::TaskMap;
+use tw_terms::chosen_of;
 use tw_urgency::moment_at;
 use tw_world::{MOMENT_LIMIT, Memory};
 use uuid::Uuid;

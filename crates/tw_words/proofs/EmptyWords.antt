@@ -1,8 +1,8 @@
 -- Words of which none is empty are taken alike, whether one text among them may be empty or not.
 use Rattle.std.proofs.Common.{◌≡◌, ◌∙◌, ap, sym, refl, ℕ, ◌==◌, ◌&&◌, ◌||◌, not, ◌+◌, Bool, true, false, List, [], ◌∷◌, length, Option, Some, None, Result, Ok, Err}
-use Rattle.tw_filter.specs.Holds.{Scene}
-use Rattle.tw_filter.specs.declared.bad_word.WordKind.{WordKind}
-use Rattle.tw_filter.specs.declared.bad_word.WordKind.TheVariants as bad
+use Rattle.tw_terms.specs.Scenes.{Scene}
+use Rattle.tw_terms.specs.declared.bad_word.WordKind.{WordKind}
+use Rattle.tw_terms.specs.declared.bad_word.WordKind.TheVariants as bad
 use Rattle.tw_words.specs.Lines.{Parts}
 use Rattle.tw_words.specs.Modifications.{Clock, unless, is_plain, is_add, tag_of, pair_of, text_fault, untagged_fault, tagged_fault}
 use Rattle.tw_words.specs.Changed.{Draft, unless_wrong, clock_in, tag_or_pair, with_word, going_on_behind, with_words, has_empty}

@@ -1,6 +1,6 @@
 -- The first fault, by one word after another.
 use Rattle.std.proofs.Common.{◌≡◌, ℕ, ◌+◌, ◌∙◌, Bool, List, ◌∷◌, Option, drop, ap, sym}
-use Rattle.tw_filter.specs.declared.bad_word.BadWord.{BadWord}
+use Rattle.tw_terms.specs.declared.bad_word.BadWord.{BadWord}
 use Rattle.tw_words.specs.Modifications.{Clock, first_fault, first_of, at_word, word_fault, is_plain, is_add}
 use Rattle.tw_words.specs.Lines.{Parts}
 

@@ -8,16 +8,16 @@ use Rattle.tw_model.proofs.Maps.{same_bytes_exact, get-set_at_apart}
 use Rattle.tw_time.specs.Moments.{moment}
 use Rattle.tw_time.specs.declared.error.DateError.{DateError}
 use Rattle.tw_urgency.specs.Dependencies.{dependency_in}
-use Rattle.tw_filter.specs.Cuts.{parts}
-use Rattle.tw_filter.specs.Holds.{Scene}
-use Rattle.tw_filter.specs.declared.bad_word.WordKind.{WordKind}
+use Rattle.tw_terms.specs.Cuts.{parts}
+use Rattle.tw_terms.specs.Scenes.{Scene}
+use Rattle.tw_terms.specs.declared.bad_word.WordKind.{WordKind}
 use Rattle.tw_words.specs.Lines.{Parts}
 use Rattle.tw_words.specs.Modifications.{field_named, takes_out, is_plain, is_add, tag_of, pair_of, word_fault, tally_of, rest_words}
 use Rattle.tw_words.specs.Changed.{Draft, part_task, set_to, dependency_on, going_on, with_items, without, draft_of, dated, with_value, without_value, with_pair, pair_or_text, tag_or_pair, unless_wrong, with_word}
 use Rattle.tw_words.specs.Changed.{with_words, going_on_behind, with_description, made, made_of, beginning, changed}
 use Rattle.tw_words.specs.declared.changes.field.Field.{Field}
 use Rattle.tw_words.specs.declared.changes.field.Field.TheVariants as field
-use Rattle.tw_words.specs.declared.word_error.WordError.{WordError}
+use Rattle.tw_settings.specs.declared.word_error.WordError.{WordError}
 
 abbrev modified : List ℕ
 modified = codes "modified"

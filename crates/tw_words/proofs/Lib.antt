@@ -1,8 +1,3 @@
-pub mod Newlines
-pub mod Slashes
-pub mod Spaces
-pub mod Utf8
-pub mod Decimals
 pub mod FirstFaults
 pub mod UnnamedWords
 pub mod PlacedWords

@@ -3,7 +3,7 @@ use Rattle.std.proofs.Common.{◌≡◌, ◌∙◌, ◌⊎◌, inl, inr, ℕ, �
 use Rattle.std.proofs.lemmas.List.{append-nil, append_assoc, map-append}
 use Rattle.std.specs.List.{slice_get}
 use Rattle.tw_model.specs.Maps.{same_bytes}
-use Rattle.tw_words.specs.Settings.{Pair}
+use Rattle.tw_settings.specs.Settings.{Pair}
 use Rattle.tw_words.specs.Commands.{command_named, rest_of}
 use Rattle.tw_words.specs.Lines.{Taken, override_in, first_command, taking, dashed, named, overriding, as_command, as_override, as_word, with_word, taken_from, nothing, filter_end, line_with, line_by}
 use Rattle.tw_words.specs.Places.{Pile, is_pile, picked, first_dash, IsNamedBy, RisesFrom, ArePlaced, EachWordHasItsPlace}

@@ -4,25 +4,25 @@ use Rattle.tw_model.specs.Maps.{set_at}
 use Rattle.tw_model.specs.Ops.{TaskValue}
 use Rattle.tw_time.specs.Moments.{moment}
 use Rattle.tw_time.specs.declared.error.DateError.{DateError}
-use Rattle.tw_filter.specs.Cuts.{parts}
-use Rattle.tw_filter.specs.Holds.{Scene}
-use Rattle.tw_filter.specs.declared.bad_word.BadWord.{BadWord}
-use Rattle.tw_filter.specs.declared.bad_word.WordKind.{WordKind}
-use Rattle.tw_filter.specs.declared.bad_word.WordKind.TheVariants as bad
+use Rattle.tw_terms.specs.Cuts.{parts}
+use Rattle.tw_terms.specs.Scenes.{Scene}
+use Rattle.tw_terms.specs.declared.bad_word.BadWord.{BadWord}
+use Rattle.tw_terms.specs.declared.bad_word.WordKind.{WordKind}
+use Rattle.tw_terms.specs.declared.bad_word.WordKind.TheVariants as bad
 use Rattle.tw_words.specs.Lines.{Parts}
 use Rattle.tw_words.specs.Modifications.{takes_out, is_plain, is_add, tag_of, pair_of, field_named, word_fault, full_fault, field_fault, date_fault, first_fault, at_word, first_of, rest_words, tally_of, number_at, unless}
 use Rattle.tw_words.specs.Modifications.{untagged_fault, tagged_fault}
 use Rattle.tw_words.specs.Changed.{Draft, part_task, set_to, dependency_on, going_on, with_items, with_task, given, draft_of, dated, with_value, without_value, with_pair, with_text, pair_or_text, tag_or_pair, unless_wrong, with_word, with_words, made, made_of, beginning}
 use Rattle.tw_words.specs.Changed.{going_on_behind}
 use Rattle.tw_time.specs.Moments.{TimeZone}
-use Rattle.tw_filter.specs.declared.token.Token.{Token}
+use Rattle.tw_terms.specs.declared.token.Token.{Token}
 use Rattle.tw_words.specs.Commands.{filtering_of}
 use Rattle.tw_words.specs.Faults.{filter_fault, lack_fault, rest_fault, rest_fault_by, fault_of, unless_bad, filter_by, with_rest}
 use Rattle.tw_words.specs.Unnamed.{lacks_task, value_unnamed, field_unnamed, pair_unnamed, tag_or_pair_unnamed, word_unnamed, unnamed_from, first_unnamed, IsRefusedAt, ChangesWhereNamed}
 use Rattle.tw_words.specs.declared.changes.field.Field.{Field}
 use Rattle.tw_words.specs.declared.changes.field.Field.TheVariants as field
-use Rattle.tw_words.specs.declared.word_error.WordError.{WordError}
-use Rattle.tw_words.specs.declared.word_error.WordError.TheVariants.{Bad}
+use Rattle.tw_settings.specs.declared.word_error.WordError.{WordError}
+use Rattle.tw_settings.specs.declared.word_error.WordError.TheVariants.{Bad}
 
 -- refused for a task that is not there, or made
 abbrev IsMade : {X : Type 0} → Bool → Result X WordKind → Type 0

@@ -12,12 +12,12 @@ use Rattle.tw_model.specs.Ops.{TaskValue, TasksValue}
 use Rattle.tw_time.specs.Moments.{moment}
 use Rattle.tw_time.specs.declared.error.DateError.{DateError}
 use Rattle.tw_urgency.specs.Dependencies.{dependency_in}
-use Rattle.tw_filter.specs.Cuts.{parts}
-use Rattle.tw_filter.specs.Holds.{Scene}
-use Rattle.tw_filter.specs.Tags.{is_virtual}
+use Rattle.tw_terms.specs.Cuts.{parts}
+use Rattle.tw_terms.specs.Scenes.{Scene}
+use Rattle.tw_terms.specs.Tags.{is_virtual}
 use Rattle.tw_model.specs.Places.{uuid_of}
-use Rattle.tw_filter.specs.declared.bad_word.WordKind.{WordKind}
-use Rattle.tw_filter.specs.declared.bad_word.WordKind.TheVariants as bad
+use Rattle.tw_terms.specs.declared.bad_word.WordKind.{WordKind}
+use Rattle.tw_terms.specs.declared.bad_word.WordKind.TheVariants as bad
 use Rattle.tw_words.specs.Lines.{Parts}
 use Rattle.tw_words.specs.Modifications.{Clock, field_named, item_in, takes_out, are_items, is_plain, is_add, tag_of, pair_of}
 use Rattle.tw_words.specs.Modifications.{unless, moment_fault, full_fault, field_fault, word_fault, tally_of, rest_words, number_at}
@@ -25,8 +25,8 @@ use Rattle.tw_words.specs.declared.changes.field.Field.{Field}
 use Rattle.tw_words.specs.declared.changes.field.Field.TheVariants as field
 use Rattle.tw_words.specs.declared.changes.depends_part.Named.{Named}
 use Rattle.tw_words.specs.declared.changes.depends_part.Named.TheVariants.{Task, Number}
-use Rattle.tw_words.specs.declared.word_error.WordError.{WordError}
-use Rattle.tw_words.specs.declared.word_error.WordError.TheVariants.{Bad}
+use Rattle.tw_settings.specs.declared.word_error.WordError.{WordError}
+use Rattle.tw_settings.specs.declared.word_error.WordError.TheVariants.{Bad}
 
 -- a task that is being modified: its properties, the texts so far, the value of the last word of a description, and whether a text came after that
 pub record Draft : Type 0 where

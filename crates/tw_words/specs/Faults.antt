@@ -6,10 +6,10 @@ use Rattle.tw_time.specs.Moments.{TimeZone}
 use Rattle.tw_model.specs.Maps.{same_bytes}
 use Rattle.tw_text.specs.Natural.{natural}
 use Rattle.tw_filter.specs.Grammar.{filter_in}
-use Rattle.tw_filter.specs.declared.bad_word.BadWord.{BadWord}
-use Rattle.tw_filter.specs.declared.bad_word.WordKind.{WordKind}
-use Rattle.tw_filter.specs.declared.bad_word.WordKind.TheVariants as bad
-use Rattle.tw_filter.specs.declared.token.Token.{Token}
+use Rattle.tw_terms.specs.declared.bad_word.BadWord.{BadWord}
+use Rattle.tw_terms.specs.declared.bad_word.WordKind.{WordKind}
+use Rattle.tw_terms.specs.declared.bad_word.WordKind.TheVariants as bad
+use Rattle.tw_terms.specs.declared.token.Token.{Token}
 use Rattle.tw_words.specs.Lines.{Parts, parts_of_line}
 use Rattle.tw_words.specs.Commands.{filtering_of, rest_of}
 use Rattle.tw_words.specs.Modifications.{Clock, tally_of, rest_words, number_at, at_word, first_of, first_fault, text_fault, unless}
@@ -21,8 +21,8 @@ use Rattle.tw_words.specs.declared.command.Filtering.{Filtering}
 use Rattle.tw_words.specs.declared.command.Filtering.TheVariants as filtering
 use Rattle.tw_words.specs.declared.command.Rest.{Rest}
 use Rattle.tw_words.specs.declared.command.Rest.TheVariants as rest
-use Rattle.tw_words.specs.declared.word_error.WordError.{WordError}
-use Rattle.tw_words.specs.declared.word_error.WordError.TheVariants.{Bad}
+use Rattle.tw_settings.specs.declared.word_error.WordError.{WordError}
+use Rattle.tw_settings.specs.declared.word_error.WordError.TheVariants.{Bad}
 
 -- a word before a command that has no filter
 abbrev pub filter_fault_by : Filtering → Parts → Option BadWord

@@ -1,7 +1,3 @@
-pub mod Gives
-pub mod Address
-pub mod Settings
-pub mod Weights
 pub mod Commands
 pub mod Lines
 pub mod Places
@@ -11,6 +7,4 @@ pub mod Clocks
 pub mod Changed
 pub mod Makes
 pub mod Unnamed
-pub mod Switches
-pub mod Servers
-pub mod Folder
+pub mod Links

@@ -2,8 +2,8 @@
 use Rattle.std.specs.Prelude.{ℕ, ◌<◌, ◌≤◌, All, ◌+◌, cond, List, [], ◌∷◌, ◌++◌, Option, Some, None, nat_eq, nat_lt, length, drop, codes}
 use Rattle.std.specs.List.{starts_with}
 use Rattle.tw_model.specs.Maps.{same_bytes}
-use Rattle.tw_filter.specs.Cuts.{parted}
-use Rattle.tw_words.specs.Settings.{Pair}
+use Rattle.tw_terms.specs.Cuts.{parted}
+use Rattle.tw_settings.specs.Settings.{Pair}
 use Rattle.tw_words.specs.Commands.{command_named, rest_of}
 use Rattle.tw_words.specs.declared.command.AnyCommand.{AnyCommand}
 use Rattle.tw_words.specs.declared.command.AnyCommand.TheVariants.{Tasks}

@@ -9,13 +9,13 @@ use Rattle.tw_time.specs.Lengths.{duration}
 use Rattle.tw_time.specs.Tables.{look_up}
 use Rattle.tw_time.specs.declared.error.DateError.{DateError}
 use Rattle.tw_time.specs.declared.length.Length.{Length}
-use Rattle.tw_filter.specs.Attributes.{is_priority, pair_in}
-use Rattle.tw_filter.specs.Cuts.{parts}
-use Rattle.tw_filter.specs.IdWords.{uuid_of_36, number_in}
-use Rattle.tw_filter.specs.Tags.{tag_in, is_virtual}
-use Rattle.tw_filter.specs.declared.bad_word.BadWord.{BadWord}
-use Rattle.tw_filter.specs.declared.bad_word.WordKind.{WordKind}
-use Rattle.tw_filter.specs.declared.bad_word.WordKind.TheVariants as bad
+use Rattle.tw_terms.specs.Attributes.{is_priority, pair_in}
+use Rattle.tw_terms.specs.Cuts.{parts}
+use Rattle.tw_terms.specs.IdWords.{uuid_of_36, number_in}
+use Rattle.tw_terms.specs.Tags.{tag_in, is_virtual}
+use Rattle.tw_terms.specs.declared.bad_word.BadWord.{BadWord}
+use Rattle.tw_terms.specs.declared.bad_word.WordKind.{WordKind}
+use Rattle.tw_terms.specs.declared.bad_word.WordKind.TheVariants as bad
 use Rattle.tw_words.specs.Lines.{Parts}
 use Rattle.tw_words.specs.Commands.{rest_of}
 use Rattle.tw_words.specs.declared.command.AnyCommand.{AnyCommand}

@@ -2,7 +2,7 @@
 use Rattle.std.specs.Prelude.{◌≡◌, ◌⊎◌, ◌≤◌, ◌+◌, ℕ, Bool, true, false, cond, List, [], ◌∷◌, Some, map, codes}
 use Rattle.std.specs.List.{slice_get}
 use Rattle.tw_model.specs.Maps.{same_bytes}
-use Rattle.tw_words.specs.Settings.{Pair}
+use Rattle.tw_settings.specs.Settings.{Pair}
 use Rattle.tw_words.specs.Commands.{command_named}
 use Rattle.tw_words.specs.Lines.{Parts, override_in, parts_of_line}
 use Rattle.tw_words.specs.declared.command.AnyCommand.TheVariants.{Tasks}

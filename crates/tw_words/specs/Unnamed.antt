@@ -2,11 +2,11 @@
 use Rattle.std.specs.Prelude.{◌≡◌, ℕ, ◌+◌, not, Bool, false, is_none, List, [], ◌∷◌, Option, Some, None, Result, Ok, Err}
 use Rattle.std.specs.List.{list_any}
 use Rattle.tw_model.specs.Ops.{TaskValue}
-use Rattle.tw_filter.specs.Cuts.{parts}
-use Rattle.tw_filter.specs.Holds.{Scene}
-use Rattle.tw_filter.specs.declared.bad_word.BadWord.{BadWord}
-use Rattle.tw_filter.specs.declared.bad_word.WordKind.TheVariants as bad
-use Rattle.tw_filter.specs.declared.token.Token.{Token}
+use Rattle.tw_terms.specs.Cuts.{parts}
+use Rattle.tw_terms.specs.Scenes.{Scene}
+use Rattle.tw_terms.specs.declared.bad_word.BadWord.{BadWord}
+use Rattle.tw_terms.specs.declared.bad_word.WordKind.TheVariants as bad
+use Rattle.tw_terms.specs.declared.token.Token.{Token}
 use Rattle.tw_words.specs.Lines.{Parts}
 use Rattle.tw_words.specs.Commands.{rest_of}
 use Rattle.tw_words.specs.Modifications.{is_plain, is_add, tag_of, pair_of, field_named, at_word, first_of, rest_words, unless}
@@ -15,8 +15,8 @@ use Rattle.tw_words.specs.Faults.{judged}
 use Rattle.tw_words.specs.declared.command.Rest.TheVariants as rest
 use Rattle.tw_words.specs.declared.changes.field.Field.{Field}
 use Rattle.tw_words.specs.declared.changes.field.Field.TheVariants as field
-use Rattle.tw_words.specs.declared.word_error.WordError.{WordError}
-use Rattle.tw_words.specs.declared.word_error.WordError.TheVariants.{Bad}
+use Rattle.tw_settings.specs.declared.word_error.WordError.{WordError}
+use Rattle.tw_settings.specs.declared.word_error.WordError.TheVariants.{Bad}
 
 -- whether a part of `depends:` is to name a task and names none
 abbrev pub names_none : Scene → List ℕ → Bool

@@ -1,10 +1,11 @@
 // What modification words make of a task: task(1), under "MODIFICATIONS".
 ghost use Rattle.std.specs.Prelude.{◌≡◌, ◌<◌, ◌+◌, ◌&&◌, ◌==◌, length};
-ghost use Rattle.tw_filter.specs.Holds.{scene_of};
+ghost use Rattle.tw_terms.specs.Scenes.{scene_of};
 ghost use Rattle.tw_words.specs.Changed.{has_empty, with_words, with_rest, changed};
 ghost use Rattle.tw_words.specs.Modifications.{rest_words, tally_of};
-ghost use Rattle.tw_words.specs.Gives.{Gives};
-ghost use Rattle.tw_words.specs.Makes.{MakesAll, Takes};
+ghost use Rattle.tw_settings.specs.Gives.{Gives};
+ghost use Rattle.tw_settings.specs.Gives.{MakesAll};
+ghost use Rattle.tw_words.specs.Makes.{Takes};
 
 pub(crate) mod dependencies;
 pub(crate) mod depends_part;
@@ -16,10 +17,10 @@ use crate::changes::draft::Draft;
 use crate::changes::modification::{is_add, is_plain, number_at};
 use crate::judging::tally::tally_of;
 use crate::line::Line;
-use crate::word_error::WordError;
 use std::alloc::Global;
-use tw_filter::{BadWord, KindError, View};
 use tw_model::TaskMap;
+use tw_settings::WordError;
+use tw_terms::{BadWord, KindError, View};
 
 // Takes a word of a line.
 fn take_word(

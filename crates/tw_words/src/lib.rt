@@ -1,6 +1,6 @@
-//! The words of a command line, and the settings: their parts, and the first that is wrong.
+//! The words of a command line: its parts, what they change, and the first that is wrong.
 //! Each call gives exactly what one definition of `specs/` gives, refusals included.
-//! It stands on `tw_filter` for the words that select tasks, and on `tw_time` for moments.
+//! It stands on `tw_filter` for the words that select tasks, on `tw_settings` for overrides, and on `tw_time` for moments.
 #![tactic(auto)]
 
 mod changes;
@@ -9,8 +9,7 @@ mod command;
 mod judging;
 pub mod laws;
 mod line;
-mod settings;
-mod word_error;
+mod link;
 
 pub use changes::changed;
 pub use clock::Clock;
@@ -18,8 +17,4 @@ pub use command::{AnyCommand, Command, Filtering, Rest};
 pub use judging::unnamed::first_unnamed;
 pub use judging::{fault_of, judge_line, read_line};
 pub use line::{Line, cut_words};
-pub use settings::address::{Address, link_address};
-pub use settings::folder::data_folder;
-pub use settings::server::ServerSettings;
-pub use settings::{Settings, read_settings};
-pub use word_error::WordError;
+pub use link::link_address;

@@ -3,8 +3,8 @@
 use super::{NOW, fault_of, halves, line_of};
 use std::alloc::Global;
 use std::test::Fail;
-use tw_filter::{BadWord, View, WordKind};
 use tw_model::{TaskMap, Tasks};
+use tw_terms::{BadWord, View, WordKind};
 use tw_time::Zone;
 use tw_words::{Line, changed, first_unnamed};
 use tw_world::Memory;

@@ -1,8 +1,8 @@
 // The dependencies of a task, as the values of `depends:` name them.
 ghost use Rattle.std.specs.Prelude.{◌≡◌, ◌++◌, ◌∷◌, [], filter, is_some, string_bytes, IfOk, OnOk};
 ghost use Rattle.uuid.specs.Text.{hyphenated_text, lower};
-ghost use Rattle.tw_filter.specs.Cuts.{parts};
-ghost use Rattle.tw_filter.specs.Holds.{scene_of};
+ghost use Rattle.tw_terms.specs.Cuts.{parts};
+ghost use Rattle.tw_terms.specs.Scenes.{scene_of};
 ghost use Rattle.tw_urgency.specs.Dependencies.{dependency_in};
 ghost use Rattle.tw_words.specs.Changed.{dependency_on, if_task, task_named, task_in, named_out, dependency_out, part_task};
 ghost use Rattle.tw_words.specs.Changed.{set_to, with_items, without_dependencies, dependencies};
@@ -10,8 +10,8 @@ ghost use Rattle.tw_words.specs.Makes.{Makes};
 
 use crate::changes::depends_part::{Named, item_in, takes_out};
 use std::alloc::Global;
-use tw_filter::{KindError, View, WordKind, cut_part};
 use tw_model::{TaskMap, uuid_of};
+use tw_terms::{KindError, View, WordKind, cut_part};
 use tw_urgency::dependency_in;
 use tw_world::{Memory, Text};
 use uuid::Uuid;

@@ -1,9 +1,9 @@
 // What `depends:` names.
 ghost use Rattle.std.specs.Prelude.{◌≡◌, is_some, option_map, drop, cond};
-ghost use Rattle.tw_filter.specs.Cuts.{parts};
+ghost use Rattle.tw_terms.specs.Cuts.{parts};
 ghost use Rattle.tw_words.specs.Modifications.{named_number, named_in, takes_out, item_in, are_items};
 
-use tw_filter::{cut_part, number_in, uuid_of_36};
+use tw_terms::{cut_part, number_in, uuid_of_36};
 use uuid::Uuid;
 
 /// A task, by its uuid or its number.

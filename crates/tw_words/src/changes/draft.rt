@@ -3,9 +3,9 @@ ghost use Rattle.std.specs.Prelude.{◌≡◌, ◌++◌, codes, Some, Ok, option
 ghost use Rattle.std.specs.Option.{option_copied};
 ghost use Rattle.std.specs.Fmt.{decimal};
 ghost use Rattle.tw_model.specs.Maps.{set_at};
-ghost use Rattle.tw_filter.specs.Holds.{scene_of};
-ghost use Rattle.tw_filter.specs.Cuts.{parts};
-ghost use Rattle.tw_filter.specs.declared.bad_word.WordKind.TheVariants as bad;
+ghost use Rattle.tw_terms.specs.Scenes.{scene_of};
+ghost use Rattle.tw_terms.specs.Cuts.{parts};
+ghost use Rattle.tw_terms.specs.declared.bad_word.WordKind.TheVariants as bad;
 ghost use Rattle.tw_words.specs.Changed.{given, with_task, without_value, with_text, with_word, with_description, made, beginning};
 ghost use Rattle.tw_words.specs.Changed.{unless_wrong, taken_tag, taken_date, taken_items, taken_value, taken_pair};
 ghost use Rattle.tw_words.specs.Modifications.{unless, empty_fault, text_fault};
@@ -18,8 +18,8 @@ use crate::changes::modification::{pair_of, tag_of};
 use crate::judging::fault::{empty_fault, text_fault};
 use std::alloc::Global;
 use std::marker::Model;
-use tw_filter::{KindError, View, WordKind, is_priority, is_virtual};
 use tw_model::TaskMap;
+use tw_terms::{KindError, View, WordKind, is_priority, is_virtual};
 use tw_time::{read_duration, read_moment};
 use tw_world::Memory;
 

@@ -5,7 +5,7 @@ ghost use Rattle.tw_words.specs.declared.command.AnyCommand.TheVariants.{Tasks};
 
 use crate::command::{AnyCommand, Command, Rest};
 use crate::line::Line;
-use tw_filter::{pair_in, tag_in};
+use tw_terms::{pair_in, tag_in};
 
 // Whether the rest is a text as it stands.
 fn is_text_rest(rest: Rest) -> bool

@@ -1,6 +1,6 @@
 // What is wrong with modification words.
 ghost use Rattle.std.specs.Prelude.{◌≡◌, ◌<◌, ◌+◌, length, drop};
-ghost use Rattle.tw_filter.specs.Cuts.{parts};
+ghost use Rattle.tw_terms.specs.Cuts.{parts};
 ghost use Rattle.tw_words.specs.Modifications.{unless, moment_fault, length_fault, full_fault, empty_fault, value_fault, pair_fault};
 ghost use Rattle.tw_words.specs.Modifications.{text_fault, word_fault, at_word, first_fault, rest_words};
 ghost use Rattle.tw_words.specs.Clocks.{clock_of};
@@ -10,7 +10,7 @@ use crate::changes::field::{Field, field_named};
 use crate::changes::modification::{is_add, is_plain, number_at, pair_of, tag_of};
 use crate::clock::Clock;
 use crate::line::Line;
-use tw_filter::{BadWord, WordKind, is_priority, is_virtual};
+use tw_terms::{BadWord, WordKind, is_priority, is_virtual};
 use tw_time::{read_duration, read_moment};
 
 pub(crate) fn unless(right: bool, kind: WordKind) -> Option<WordKind>

@@ -1,7 +1,7 @@
 // Words that name no task.
 ghost use Rattle.std.specs.Prelude.{◌≡◌};
-ghost use Rattle.tw_filter.specs.Cuts.{parts};
-ghost use Rattle.tw_filter.specs.Holds.{scene_of};
+ghost use Rattle.tw_terms.specs.Cuts.{parts};
+ghost use Rattle.tw_terms.specs.Scenes.{scene_of};
 ghost use Rattle.tw_words.specs.Unnamed.{names_none, lacks_task, value_unnamed, field_unnamed, word_unnamed, first_unnamed};
 
 use crate::changes::dependencies::part_task;
@@ -9,7 +9,7 @@ use crate::changes::field::{Field, field_named};
 use crate::changes::modification::{is_add, is_plain, pair_of, tag_of};
 use crate::judging::fault::{at_word, unless};
 use crate::line::Line;
-use tw_filter::{BadWord, View, WordKind, cut_part};
+use tw_terms::{BadWord, View, WordKind, cut_part};
 
 fn names_none(view: &View<'_>, text: &str) -> bool
     ensures { result ≡ names_none (scene_of view.entry.now) text.now }

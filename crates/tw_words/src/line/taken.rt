@@ -1,15 +1,15 @@
 // What is taken of a command line, one word after another.
 ghost use Rattle.std.specs.Prelude.{◌≡◌, ◌∷◌, ◌++◌, [], ◌==◌, ◌||◌, ◌≤◌, ◌<◌, option_map, length, OnOk, codes};
-ghost use Rattle.tw_filter.specs.Cuts.{parted};
+ghost use Rattle.tw_terms.specs.Cuts.{parted};
 ghost use Rattle.tw_words.specs.Commands.{command_named};
 ghost use Rattle.tw_words.specs.Lines.{round_mark, override_in, first_command, taking, dashed, named, overriding, with_word, nothing};
 ghost use Rattle.tw_words.specs.Lines.{filter_end, line_with, line_by};
 
 use crate::command::{AnyCommand, Command, Rest, command_named};
 use crate::line::Line;
-use crate::settings::pair::parted_at_equals;
 use std::alloc::Global;
 use std::marker::Model;
+use tw_settings::parted_at_equals;
 use tw_world::{Memory, Text};
 
 /// What is taken of a line.

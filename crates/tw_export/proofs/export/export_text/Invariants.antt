@@ -3,7 +3,7 @@ use Rattle.std.specs.List.{list_any}
 use Rattle.std.specs.FinMap.Entries.{where_key}
 use Rattle.tw_model.specs.Maps.{bytes_cmp, same_bytes}
 use Rattle.tw_export.specs.Export.{lines}
-use Rattle.tw_filter.specs.Chosen.{chosen}
+use Rattle.tw_terms.specs.Chosen.{chosen}
 use Rattle.tw_export.specs.Export.{entry_text}
 use Rattle.tw_export.proofs.TaskLines.{to_follow}
 use Rattle.tw_export.proofs.export.export_text.Given as goal

@@ -3,7 +3,7 @@ use Rattle.std.proofs.Common.{◌≡◌, ◌≤◌, ◌+◌, ◌-◌, ℕ, List,
 use Rattle.std.specs.BTreeSet as set
 use Rattle.tw_model.specs.Maps.{bytes_cmp}
 use Rattle.tw_model.specs.Places.{id_from}
-use Rattle.tw_filter.specs.Holds.{passes}
+use Rattle.tw_terms.specs.Holds.{passes}
 use Rattle.tw_filter.proofs.named_tasks.flagged.Given as goal
 
 abbrev pub invariant-loop-at : goal.invariant-loop-at

@@ -1,5 +1,6 @@
 use Rattle.std.proofs.Common.{◌∙◌, sym}
-use Rattle.tw_filter.specs.Holds.{scene_of, holds}
+use Rattle.tw_terms.specs.Scenes.{scene_of}
+use Rattle.tw_filter.specs.Selected.{holds}
 use Rattle.tw_filter.proofs.FoundEntries.{found_keys}
 use Rattle.tw_filter.proofs.NamedTasks.{if_ok_with, holds_named}
 use Rattle.tw_filter.proofs.named_tasks.named_tasks.Goals as goal

@@ -3,7 +3,7 @@ use Rattle.std.proofs.lemmas.List.{take_all}
 use Rattle.std.specs.List.{list_any}
 use Rattle.tw_model.specs.Places.{id_of}
 use Rattle.tw_urgency.specs.Dependencies.{is_that}
-use Rattle.tw_filter.specs.Holds.{passes}
+use Rattle.tw_terms.specs.Holds.{passes}
 use Rattle.tw_filter.specs.NamedTasks.{uuid_in}
 use Rattle.tw_filter.proofs.NamedTasks.{flags_and_uuids}
 use Rattle.tw_filter.proofs.named_tasks.named_uuids.Goals as goal

@@ -2,7 +2,7 @@ use Rattle.std.proofs.Common.{◌≡◌}
 use Rattle.std.specs.List.{list_any}
 use Rattle.std.specs.FinMap.Entries.{where_key}
 use Rattle.tw_model.specs.Maps.{bytes_cmp, same_bytes}
-use Rattle.tw_filter.specs.Chosen.{chosen}
+use Rattle.tw_terms.specs.Chosen.{chosen}
 use Rattle.tw_report.specs.Texts.{count_all, count_of}
 use Rattle.tw_report.proofs.names.count_rows.Given as goal
 

@@ -3,7 +3,7 @@ use Rattle.std.specs.List.{list_any}
 use Rattle.std.specs.FinMap.Entries.{where_key}
 use Rattle.tw_model.specs.Maps.{bytes_cmp, same_bytes}
 use Rattle.tw_report.specs.Sight.{sight_in}
-use Rattle.tw_filter.specs.Chosen.{chosen}
+use Rattle.tw_terms.specs.Chosen.{chosen}
 use Rattle.tw_report.specs.Order.{with_ranks}
 use Rattle.tw_report.proofs.rank.ranks_of.Given as goal
 

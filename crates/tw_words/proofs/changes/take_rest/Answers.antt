@@ -1,7 +1,7 @@
 use Rattle.std.proofs.Common.{◌∙◌, ◌==◌, ap, subst}
-use Rattle.tw_filter.specs.Holds.{scene_of}
+use Rattle.tw_terms.specs.Scenes.{scene_of}
 use Rattle.tw_words.specs.Changed.{with_words}
-use Rattle.tw_words.specs.Makes.{MakesAll}
+use Rattle.tw_settings.specs.Gives.{MakesAll}
 use Rattle.tw_words.specs.Modifications.{rest_words, tally_of}
 use Rattle.tw_words.proofs.EmptyWords.{sole_if_empty}
 use Rattle.tw_words.proofs.changes.take_rest.Goals as goal

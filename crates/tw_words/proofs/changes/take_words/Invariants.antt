@@ -1,6 +1,6 @@
 -- the words left, after what is made, give what all give
 use Rattle.std.proofs.Common.{◌≡◌, drop}
-use Rattle.tw_filter.specs.Holds.{scene_of}
+use Rattle.tw_terms.specs.Scenes.{scene_of}
 use Rattle.tw_words.specs.Changed.{with_words}
 use Rattle.tw_words.specs.Modifications.{rest_words}
 use Rattle.tw_words.proofs.changes.take_words.Given as goal

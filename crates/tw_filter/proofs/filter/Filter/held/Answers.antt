@@ -1,7 +1,8 @@
 use Rattle.std.proofs.Common.{◌≡◌, ◌+◌, ◌++◌, ◌∙◌, filter, length, map, ap, subst, sym, arith}
 use Rattle.std.proofs.lemmas.List.{length-map}
 use Rattle.std.specs.FinMap.{entries, len-entries}
-use Rattle.tw_filter.specs.Holds.{scene_of, holds}
+use Rattle.tw_terms.specs.Scenes.{scene_of}
+use Rattle.tw_filter.specs.Selected.{holds}
 use Rattle.tw_filter.proofs.TaskEntries.{AreFound, entries_found, uuid_in}
 use Rattle.tw_filter.proofs.filter.Filter.held.Goals as goal
 

@@ -1,8 +1,8 @@
 -- the parts left, after those that are done, give what all give
 use Rattle.std.proofs.Common.{◌≡◌, option_copied}
-use Rattle.tw_filter.specs.Cuts.{parts, parts_of}
-use Rattle.tw_filter.specs.Holds.{scene_of}
-use Rattle.tw_filter.proofs.FirstParts.{left_len}
+use Rattle.tw_terms.specs.Cuts.{parts, parts_of}
+use Rattle.tw_terms.specs.Scenes.{scene_of}
+use Rattle.tw_terms.proofs.FirstParts.{left_len}
 use Rattle.tw_words.specs.Changed.{with_items}
 use Rattle.tw_words.proofs.changes.dependencies.put_items.Given as goal
 

@@ -1,7 +1,7 @@
 -- the parts left are right where all are
 use Rattle.std.proofs.Common.{◌≡◌, option_copied}
-use Rattle.tw_filter.specs.Cuts.{parts, parts_of}
-use Rattle.tw_filter.proofs.FirstParts.{left_len}
+use Rattle.tw_terms.specs.Cuts.{parts, parts_of}
+use Rattle.tw_terms.proofs.FirstParts.{left_len}
 use Rattle.tw_words.specs.Modifications.{are_items}
 use Rattle.tw_words.proofs.changes.depends_part.are_items.Given as goal
 

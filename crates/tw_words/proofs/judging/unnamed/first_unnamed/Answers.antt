@@ -1,6 +1,6 @@
 use Rattle.std.proofs.Common.{◌+◌, ◌∙◌, not, ap, sym, drop, Bool}
-use Rattle.tw_filter.specs.Holds.{scene_of}
-use Rattle.tw_filter.specs.declared.bad_word.WordKind.TheVariants as bad
+use Rattle.tw_terms.specs.Scenes.{scene_of}
+use Rattle.tw_terms.specs.declared.bad_word.WordKind.TheVariants as bad
 use Rattle.tw_words.specs.Modifications.{first_of, at_word, unless}
 use Rattle.tw_words.specs.Unnamed.{unnamed_from, word_unnamed}
 use Rattle.tw_words.proofs.UnnamedWords.{one_unnamed}

@@ -1,6 +1,6 @@
 -- the first of what is left is that of all
 use Rattle.std.proofs.Common.{◌≡◌, drop}
-use Rattle.tw_filter.specs.Holds.{scene_of}
+use Rattle.tw_terms.specs.Scenes.{scene_of}
 use Rattle.tw_words.specs.Modifications.{is_add}
 use Rattle.tw_words.specs.Unnamed.{unnamed_from, first_unnamed}
 use Rattle.tw_words.proofs.judging.unnamed.first_unnamed.Given as goal

@@ -1,8 +1,8 @@
 -- one of the parts left names no task where one of all does
 use Rattle.std.proofs.Common.{◌≡◌, option_copied}
-use Rattle.tw_filter.specs.Cuts.{parts, parts_of}
-use Rattle.tw_filter.specs.Holds.{scene_of}
-use Rattle.tw_filter.proofs.FirstParts.{left_len}
+use Rattle.tw_terms.specs.Cuts.{parts, parts_of}
+use Rattle.tw_terms.specs.Scenes.{scene_of}
+use Rattle.tw_terms.proofs.FirstParts.{left_len}
 use Rattle.tw_words.specs.Unnamed.{lacks_task}
 use Rattle.tw_words.proofs.judging.unnamed.lacks_task.Given as goal
 

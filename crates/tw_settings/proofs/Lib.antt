@@ -1,0 +1,5 @@
+pub mod Newlines
+pub mod Slashes
+pub mod Spaces
+pub mod Utf8
+pub mod Decimals

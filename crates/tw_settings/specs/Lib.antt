@@ -1,0 +1,7 @@
+pub mod Gives
+pub mod Address
+pub mod Settings
+pub mod Weights
+pub mod Switches
+pub mod Servers
+pub mod Folder

@@ -1,0 +1,21 @@
+//! The settings of a run: the lines of a file, the overrides of a line, and what their values mean (taskrc(5)).
+//! `read_settings` gives exactly the pairs that both set, or the first that is no setting; each other call reads a value as one definition of `specs/`.
+//! It stands on `tw_urgency` for weights, and on `tw_terms` for cuts of texts and bad words.
+#![tactic(auto)]
+
+mod address;
+mod folder;
+mod known;
+mod pair;
+mod server;
+mod settings;
+mod switches;
+mod weights;
+mod word_error;
+
+pub use address::Address;
+pub use folder::data_folder;
+pub use pair::parted_at_equals;
+pub use server::ServerSettings;
+pub use settings::{Settings, read_settings};
+pub use word_error::WordError;

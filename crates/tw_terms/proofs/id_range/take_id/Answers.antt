@@ -1,0 +1,20 @@
+use Rattle.std.proofs.Common.{cond, Some, None, sym, ap, ◌∙◌}
+use Rattle.std.specs.BTreeMap as tree
+use Rattle.tw_model.specs.Maps.{bytes_cmp}
+use Rattle.tw_model.specs.Places.{has_uuid}
+use Rattle.tw_terms.proofs.IndexKeys.{same_key}
+use Rattle.tw_terms.proofs.id_range.take_id.Goals as goal
+
+pub returns-in_ok-insert : goal.returns-in_ok-insert
+returns-in_ok-insert c = λ u.
+    let before = tree.get bytes_cmp c.args.ids.now u in
+    c.in_ok-insert.ensures.updates.0 u
+    ∙ ap (λ b. cond b (Some c.args.id) before) (same_key u c.in-Some.uuid)
+    ∙ (λ i. cond (has_uuid u (sym c.in-Some.is i)) (cond (sym c.if-is_within.true i) (Some c.args.id) None) before)
+
+pub returns-else-is_within : goal.returns-else-is_within
+returns-else-is_within c = λ u.
+    let before = tree.get bytes_cmp c.args.ids.now u in
+    c.remove.ensures.updates.0 u
+    ∙ ap (λ b. cond b None before) (same_key u c.in-Some.uuid)
+    ∙ (λ i. cond (has_uuid u (sym c.in-Some.is i)) (cond (sym c.if-is_within.false i) (Some c.args.id) None) before)

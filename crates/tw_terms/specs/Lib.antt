@@ -1,0 +1,15 @@
+pub mod Gives
+pub mod Cuts
+pub mod IdWords
+pub mod Tags
+pub mod Attributes
+pub mod Values
+pub mod Modifiers
+pub mod Terms
+pub mod Tokens
+pub mod Occurs
+pub mod Indexes
+pub mod Facts
+pub mod Chosen
+pub mod Scenes
+pub mod Holds
