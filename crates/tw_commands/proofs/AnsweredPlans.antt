@@ -4,7 +4,7 @@ use Rattle.tw_model.specs.Ops.{TaskValue, TasksValue}
 use Rattle.tw_commands.specs.Plan.{Plan, Work}
 use Rattle.tw_commands.specs.Plan.Work.{Changes, TakeBack}
 use Rattle.tw_commands.specs.Asks.{answered_all, answered_work, answered_with}
-use Rattle.tw_commands.specs.declared.refusal.Refusal.{Refusal}
+use Rattle.tw_changes.specs.declared.refusal.Refusal.{Refusal}
 
 unanswered : (tasks : TasksValue) (work : Work) → answered_work [] tasks work ≡ work
 unanswered tasks (Changes renumber changes marks) = refl

@@ -8,20 +8,20 @@ use Rattle.tw_model.specs.Changes.{changed_all, ops_of_all, group_of}
 use Rattle.tw_model.specs.declared.Op.{Op}
 use Rattle.tw_model.specs.declared.Change.{Change}
 use Rattle.tw_model.proofs.Leading.{changes_lead}
-use Rattle.tw_replica.specs.Body.{Step}
-use Rattle.tw_replica.specs.Body.Step.{Commit}
-use Rattle.tw_replica.specs.State.{State, applied, misfit, unless, is_idle, moved_to}
-use Rattle.tw_replica.proofs.CommittedChanges.{changes_are_group}
-use Rattle.tw_replica.proofs.Groups.{IsOfGroup}
-use Rattle.tw_commands.specs.Marks.{mask_changes}
+use Rattle.tw_bodies.specs.Body.{Step}
+use Rattle.tw_bodies.specs.Body.Step.{Commit}
+use Rattle.tw_state.specs.State.{State, applied, misfit, unless, is_idle, moved_to}
+use Rattle.tw_state.proofs.CommittedChanges.{changes_are_group}
+use Rattle.tw_state.proofs.Groups.{IsOfGroup}
+use Rattle.tw_changes.specs.Marks.{mask_changes}
 use Rattle.tw_commands.specs.Plan.{Plan, Work, step_in}
 use Rattle.tw_commands.specs.Plan.Work.{Changes, TakeBack}
 use Rattle.tw_commands.specs.Commands.{plan_of}
 use Rattle.tw_commands.specs.Asks.{answered_with}
 use Rattle.tw_commands.specs.Laws.{IsCarriedOut, CarriedIsApplied, ChangesAreCarriedOut}
 use Rattle.tw_commands.specs.Carried.{Carried, concluded, with_text, then_concluded, carried_by}
-use Rattle.tw_commands.specs.declared.request.Request.{Request}
-use Rattle.tw_commands.specs.declared.refusal.Refusal.{Refusal}
+use Rattle.tw_changes.specs.declared.request.Request.{Request}
+use Rattle.tw_changes.specs.declared.refusal.Refusal.{Refusal}
 
 texted_is : (step : Step) (new : State) (text : Result (List ℕ) Refusal) (c : Carried) → with_text step new text ≡ Ok c → (c.step ≡ step) × (c.new ≡ new)
 texted_is step new (Err refusal) c e = absurd cc

@@ -20,39 +20,42 @@ use Rattle.tw_numbers.proofs.FirstPlaces.{AreFound, entries_found}
 use Rattle.tw_recur.specs.Recurrence.{recurrence_of, mask_of}
 use Rattle.tw_recur.specs.Instances.{Asked, Making, grown, with_mask, mask_change as grown_change, with_recurrence, with_parent, with_parents, made_changes, instance_changes}
 use Rattle.tw_recur.proofs.Once.{IsNew, making_step}
-use Rattle.tw_replica.specs.State.{State, applied}
-use Rattle.tw_filter.specs.declared.bad_word.BadWord.{BadWord}
+use Rattle.tw_state.specs.State.{State, applied}
+use Rattle.tw_terms.specs.declared.bad_word.BadWord.{BadWord}
 use Rattle.tw_report.specs.declared.report.Report.{Report as AnyReport}
 use Rattle.tw_report.specs.declared.report.Report.TheVariants as report
-use Rattle.tw_words.specs.Switches.{is_set_on, recurrence_limit}
+use Rattle.tw_settings.specs.Switches.{is_set_on, recurrence_limit}
 use Rattle.tw_words.specs.Unnamed.{first_unnamed}
 use Rattle.tw_words.specs.declared.command.Command.{Command}
 use Rattle.tw_words.specs.declared.command.Command.TheVariants as command
-use Rattle.tw_commands.specs.Stamps.{stamped}
-use Rattle.tw_commands.specs.Marks.{sign_of, marks_by, marks_with, marks_of, mark_all, stamped_from, mask_change, mask_changes}
+use Rattle.tw_changes.specs.Stamps.{stamped}
+use Rattle.tw_changes.specs.Marks.{sign_of, marks_by, marks_with, marks_of, mark_all, stamped_from, mask_change, mask_changes}
 use Rattle.tw_commands.specs.Plan.{Plan, Work, Show, step_in}
 use Rattle.tw_commands.specs.Plan.Show.{Created, Logged}
 use Rattle.tw_commands.specs.Plan.Work.{Changes, TakeBack}
-use Rattle.tw_commands.specs.Request.{drawn, after_draw, scene_in, selected_in}
-use Rattle.tw_commands.specs.Effects.{change_by, change_at, changes_by, acting}
+use Rattle.tw_changes.specs.Request.{drawn, after_draw}
+use Rattle.tw_commands.specs.Request.{scene_in, selected_in}
+use Rattle.tw_changes.specs.Effects.{change_by, change_at, changes_by}
+use Rattle.tw_commands.specs.Commands.{acting}
 use Rattle.tw_commands.specs.Makes.{making}
-use Rattle.tw_commands.specs.Makes.Add.{added, logged}
-use Rattle.tw_commands.specs.Makes.Duplicate.{copied, Copies, is_taken, stopped, where_there, copies_of, change_of, duplicating, duplicated, copies_in}
+use Rattle.tw_changes.specs.Makes.Add.{added, logged}
+use Rattle.tw_changes.specs.Makes.Duplicate.{copied, Copies, is_taken, stopped, where_there, copies_of}
+use Rattle.tw_commands.specs.Makes.Duplicate.{change_of, duplicating, duplicated, copies_in}
 use Rattle.tw_commands.specs.Looks.Information.{information_on}
 use Rattle.tw_commands.specs.Reports.{instances_in, reporting}
 use Rattle.tw_commands.specs.Commands.{effect_in, editing, plan_by, plan_of, unless_unnamed}
 use Rattle.tw_commands.specs.Carried.{Carried, carried_by}
 use Rattle.tw_commands.specs.Laws.{IsSameButModified, MovesExactly, brings_moments, ModifiedMovesExactly}
-use Rattle.tw_commands.specs.declared.effect.Effect.{Effect}
-use Rattle.tw_commands.specs.declared.effect.Effect.TheVariants.{Nothing, Becomes, Removed}
-use Rattle.tw_commands.specs.declared.marks.Mark.{Mark}
-use Rattle.tw_commands.specs.declared.marks.Sign.{Sign}
+use Rattle.tw_changes.specs.declared.effects.Effect.{Effect}
+use Rattle.tw_changes.specs.declared.effects.Effect.TheVariants.{Nothing, Becomes, Removed}
+use Rattle.tw_changes.specs.declared.marks.Mark.{Mark}
+use Rattle.tw_changes.specs.declared.marks.Sign.{Sign}
 use Rattle.tw_commands.specs.declared.plan.Deed.{Deed}
 use Rattle.tw_commands.specs.declared.plan.Deed.TheVariants as deed
-use Rattle.tw_commands.specs.declared.request.Request.{Request}
-use Rattle.tw_commands.specs.declared.refusal.Refusal.{Refusal}
+use Rattle.tw_changes.specs.declared.request.Request.{Request}
+use Rattle.tw_changes.specs.declared.refusal.Refusal.{Refusal}
 use Rattle.tw_commands.proofs.Applied.{by_plan}
-use Rattle.tw_commands.proofs.KeptProperties.{Keeps, IsKeptBy, effect_kept, mask_kept}
+use Rattle.tw_changes.proofs.KeptProperties.{Keeps, IsKeptBy, effect_kept, mask_kept}
 use Rattle.tw_commands.proofs.OtherTasks.{IsButMask, AreMarked, all_marked, none_marked, tasks_are}
 
 abbrev modified : List ℕ

@@ -20,25 +20,26 @@ use Rattle.tw_model.specs.declared.Op.{Op}
 use Rattle.tw_model.specs.declared.Change.{Change}
 use Rattle.tw_model.proofs.Maps.{bytes_exact, same_bytes_exact, get-set_at, get-set_at_apart}
 use Rattle.tw_model.proofs.Leading.{changes_lead, changed_all-append}
-use Rattle.tw_replica.specs.Body.Step.{Commit}
-use Rattle.tw_replica.specs.State.{State, applied, is_idle, misfit, unless, moved_to}
-use Rattle.tw_replica.proofs.CommittedChanges.{idle_same}
-use Rattle.tw_replica.proofs.OthersUnchanged.{not_first, not_second}
-use Rattle.tw_commands.specs.Stamps.{stamped}
-use Rattle.tw_commands.specs.Marks.{with_sign, with_mark_in, with_mark, marks_of, first_there, put_marked, mark_one, mark_all, stamped_from, mask_change, mask_changes}
+use Rattle.tw_bodies.specs.Body.Step.{Commit}
+use Rattle.tw_state.specs.State.{State, applied, is_idle, misfit, unless, moved_to}
+use Rattle.tw_state.proofs.CommittedChanges.{idle_same}
+use Rattle.tw_state.proofs.OthersUnchanged.{not_first, not_second}
+use Rattle.tw_changes.specs.Stamps.{stamped}
+use Rattle.tw_changes.specs.Marks.{with_sign, with_mark_in, with_mark, marks_of, first_there, put_marked, mark_one, mark_all, stamped_from, mask_change, mask_changes}
 use Rattle.tw_commands.specs.Plan.{step_in}
 use Rattle.tw_commands.specs.Plan.Work.{Changes}
 use Rattle.tw_commands.specs.Plan.Show.{Counted}
 use Rattle.tw_commands.specs.Request.{selected_in}
-use Rattle.tw_commands.specs.Effects.{change_by, change_at, changes_by, acting}
+use Rattle.tw_changes.specs.Effects.{change_by, change_at, changes_by}
+use Rattle.tw_commands.specs.Commands.{acting}
 use Rattle.tw_commands.specs.Commands.{effect_in}
 use Rattle.tw_commands.specs.Carried.{Carried, carried_by}
 use Rattle.tw_commands.specs.Laws.{value_of, IsSameButMask, OthersStay}
-use Rattle.tw_commands.specs.declared.effect.Effect.{Effect}
-use Rattle.tw_commands.specs.declared.effect.Effect.TheVariants.{Nothing, Becomes, Removed}
-use Rattle.tw_commands.specs.declared.marks.Mark.{Mark}
+use Rattle.tw_changes.specs.declared.effects.Effect.{Effect}
+use Rattle.tw_changes.specs.declared.effects.Effect.TheVariants.{Nothing, Becomes, Removed}
+use Rattle.tw_changes.specs.declared.marks.Mark.{Mark}
 use Rattle.tw_commands.specs.declared.plan.Deed.{Deed}
-use Rattle.tw_commands.specs.declared.request.Request.{Request}
+use Rattle.tw_changes.specs.declared.request.Request.{Request}
 use Rattle.tw_commands.proofs.Applied.{by_plan}
 use Rattle.tw_commands.proofs.TakenBack.{where_it_fits}
 

@@ -11,16 +11,16 @@ use Rattle.tw_model.specs.declared.Change.{Change}
 use Rattle.tw_model.proofs.Maps.{same_bytes_exact, get-set_at, get-set_at_here}
 use Rattle.tw_model.proofs.LocalOps.{same_task_exact}
 use Rattle.tw_model.proofs.Leading.{changed_all-append}
-use Rattle.tw_commands.specs.Stamps.{stamped}
-use Rattle.tw_commands.specs.Marks.{marks_of, mark_all, stamped_from, mask_change, mask_changes}
+use Rattle.tw_changes.specs.Stamps.{stamped}
+use Rattle.tw_changes.specs.Marks.{marks_of, mark_all, stamped_from, mask_change, mask_changes}
 use Rattle.tw_commands.specs.Request.{selected_in}
-use Rattle.tw_commands.specs.Effects.{change_by, change_at, changes_by}
+use Rattle.tw_changes.specs.Effects.{change_by, change_at, changes_by}
 use Rattle.tw_commands.specs.Commands.{effect_in}
 use Rattle.tw_commands.specs.Carried.{carried_by}
 use Rattle.tw_commands.specs.Laws.{IsStamped, ChangesAreStamped}
-use Rattle.tw_commands.specs.declared.effect.Effect.{Effect}
-use Rattle.tw_commands.specs.declared.effect.Effect.TheVariants.{Nothing, Becomes, Removed}
-use Rattle.tw_commands.specs.declared.marks.Mark.{Mark}
+use Rattle.tw_changes.specs.declared.effects.Effect.{Effect}
+use Rattle.tw_changes.specs.declared.effects.Effect.TheVariants.{Nothing, Becomes, Removed}
+use Rattle.tw_changes.specs.declared.marks.Mark.{Mark}
 use Rattle.tw_commands.proofs.OtherTasks.{AreMarked, all_marked, none_marked, tasks_are, acting_applies}
 
 -- ---- one task

@@ -7,15 +7,15 @@ use Rattle.tw_model.specs.LocalOps.{apply_local, apply_all_local, take_back_all,
 use Rattle.tw_model.specs.declared.Op.{Op}
 use Rattle.tw_model.proofs.LocalOps.{all_taken_back}
 use Rattle.tw_numbers.proofs.Basics.{both_hold}
-use Rattle.tw_replica.specs.Body.{is_undo_point, has_no_point, is_group}
-use Rattle.tw_replica.specs.Body.Step.{Commit}
-use Rattle.tw_replica.specs.State.{State, applied, committed, misfit, unless, moved_to, in_front, split_group, undone}
-use Rattle.tw_replica.proofs.Groups.{IsOfGroup, point_is}
-use Rattle.tw_replica.proofs.LastUndoPoint.{no_point}
-use Rattle.tw_replica.proofs.Soundness.{fits_from}
+use Rattle.tw_bodies.specs.Body.{is_undo_point, has_no_point, is_group}
+use Rattle.tw_bodies.specs.Body.Step.{Commit}
+use Rattle.tw_state.specs.State.{State, applied, committed, misfit, unless, moved_to, in_front, split_group, undone}
+use Rattle.tw_state.proofs.Groups.{IsOfGroup, point_is}
+use Rattle.tw_state.proofs.LastUndoPoint.{no_point}
+use Rattle.tw_state.proofs.Soundness.{fits_from}
 use Rattle.tw_commands.specs.Carried.{Carried}
 use Rattle.tw_commands.specs.Laws.{LeadsBack, UndoTakesBack}
-use Rattle.tw_commands.specs.declared.request.Request.{Request}
+use Rattle.tw_changes.specs.declared.request.Request.{Request}
 use Rattle.tw_commands.proofs.Applied.{carried_applies, step_of_group}
 
 -- operations behind an undo point are the last group

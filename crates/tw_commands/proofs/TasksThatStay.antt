@@ -20,30 +20,33 @@ use Rattle.tw_import.specs.declared.import.ImportError.{ImportError}
 use Rattle.tw_recur.specs.Recurrence.{recurrence_of, mask_of}
 use Rattle.tw_recur.specs.Instances.{Asked, Making, grown, with_mask, mask_change as grown_change, with_recurrence, with_parent, with_parents, made_changes, instance_changes}
 use Rattle.tw_recur.proofs.Once.{IsNew, making_step}
-use Rattle.tw_replica.specs.State.{State, applied}
-use Rattle.tw_filter.specs.declared.bad_word.BadWord.{BadWord}
+use Rattle.tw_state.specs.State.{State, applied}
+use Rattle.tw_terms.specs.declared.bad_word.BadWord.{BadWord}
 use Rattle.tw_report.specs.declared.report.Report.{Report as AnyReport}
 use Rattle.tw_report.specs.declared.report.Report.TheVariants as report
-use Rattle.tw_words.specs.Switches.{is_set_on, recurrence_limit}
+use Rattle.tw_settings.specs.Switches.{is_set_on, recurrence_limit}
 use Rattle.tw_words.specs.Unnamed.{first_unnamed}
 use Rattle.tw_words.specs.declared.command.Command.{Command}
 use Rattle.tw_words.specs.declared.command.Command.TheVariants as command
-use Rattle.tw_commands.specs.Marks.{mask_change, mask_changes}
+use Rattle.tw_changes.specs.Marks.{mask_change, mask_changes}
 use Rattle.tw_commands.specs.Plan.{Plan, Work, Show, step_in}
 use Rattle.tw_commands.specs.Plan.Show.{Created, Logged}
 use Rattle.tw_commands.specs.Plan.Work.{Changes, TakeBack}
-use Rattle.tw_commands.specs.Request.{drawn, after_draw, scene_in, selected_in}
+use Rattle.tw_changes.specs.Request.{drawn, after_draw}
+use Rattle.tw_commands.specs.Request.{scene_in, selected_in}
 use Rattle.tw_commands.specs.Makes.{making}
-use Rattle.tw_commands.specs.Makes.Add.{added, logged}
-use Rattle.tw_commands.specs.Makes.Duplicate.{copied, change_of, duplicating, duplicated, copies_in}
-use Rattle.tw_commands.specs.Makes.Import.{Imports, change_to, is_changed, is_taken, stopped, import_as, imports, imports_by, imported}
+use Rattle.tw_changes.specs.Makes.Add.{added, logged}
+use Rattle.tw_changes.specs.Makes.Duplicate.{copied}
+use Rattle.tw_commands.specs.Makes.Duplicate.{change_of, duplicating, duplicated, copies_in}
+use Rattle.tw_changes.specs.Makes.Import.{Imports, change_to, is_changed, is_taken, stopped, import_as, imports, imports_by}
+use Rattle.tw_commands.specs.Makes.Import.{imported}
 use Rattle.tw_commands.specs.Reports.{instances_in, reporting}
 use Rattle.tw_commands.specs.Commands.{plan_by, plan_of, unless_unnamed}
 use Rattle.tw_commands.specs.Carried.{Carried, carried_by}
 use Rattle.tw_commands.specs.Laws.{IsSameButMask}
 use Rattle.tw_commands.specs.Stays.{makes, MakersChangeNone, gives, ImportsChangeWhatTheyGive, is_report, ReportsChangeMasks}
-use Rattle.tw_commands.specs.declared.request.Request.{Request}
-use Rattle.tw_commands.specs.declared.refusal.Refusal.{Refusal}
+use Rattle.tw_changes.specs.declared.request.Request.{Request}
+use Rattle.tw_changes.specs.declared.refusal.Refusal.{Refusal}
 use Rattle.tw_commands.proofs.Applied.{by_plan}
 use Rattle.tw_commands.proofs.OtherTasks.{tasks_are}
 use Rattle.tw_commands.proofs.ExactMoments.{AreNew, copies_new, nothing_new}

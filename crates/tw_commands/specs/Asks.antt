@@ -4,7 +4,7 @@ use Rattle.std.specs.FinMap.{get, empty}
 use Rattle.tw_model.specs.Ops.{TaskValue, TasksValue}
 use Rattle.tw_model.specs.LocalOps.{same_task}
 use Rattle.tw_model.specs.declared.changes.Change.{Change}
-use Rattle.tw_words.specs.Switches.{is_set_on}
+use Rattle.tw_settings.specs.Switches.{is_set_on}
 use Rattle.tw_words.specs.declared.command.Command.{Command}
 use Rattle.tw_words.specs.declared.command.Command.TheVariants as command
 use Rattle.tw_commands.specs.Plan.{Plan, Work}
@@ -12,8 +12,8 @@ use Rattle.tw_commands.specs.Plan.Work.{Changes, TakeBack}
 use Rattle.tw_hooks.specs.declared.all.Ask.{Ask}
 use Rattle.tw_hooks.specs.declared.event.Event.{Event}
 use Rattle.tw_hooks.specs.declared.event.Event.TheVariants.{Add, Modify}
-use Rattle.tw_commands.specs.declared.request.Request.{Request}
-use Rattle.tw_commands.specs.declared.refusal.Refusal.{Refusal}
+use Rattle.tw_changes.specs.declared.request.Request.{Request}
+use Rattle.tw_changes.specs.declared.refusal.Refusal.{Refusal}
 
 -- ---- which tasks
 

@@ -1,23 +1,28 @@
 -- What a command comes to, in a replica of some state: its step, the state after it, and its text, or why it does nothing.
-use Rattle.std.specs.Prelude.{ℕ, List, [], Option, Some, None, Result, Ok, Err}
+use Rattle.std.specs.Prelude.{ℕ, cond, List, [], drop, length, Option, Some, None, Result, Ok, Err}
 use Rattle.tw_world.specs.declared.ids.IdWords.{IdWords}
 use Rattle.tw_model.specs.Ops.{TaskValue}
-use Rattle.tw_replica.specs.Body.{Step}
-use Rattle.tw_replica.specs.State.{State, applied}
+use Rattle.tw_bodies.specs.Body.{Step}
+use Rattle.tw_state.specs.State.{State, applied}
 use Rattle.tw_commands.specs.Plan.{Plan, Show, step_in}
 use Rattle.tw_commands.specs.Commands.{plan_of}
 use Rattle.tw_commands.specs.Asks.{asked_of, answered_with}
-use Rattle.tw_commands.specs.Circles.{circle_in}
 use Rattle.tw_commands.specs.Texts.{shown}
 use Rattle.tw_hooks.specs.declared.all.Ask.{Ask}
-use Rattle.tw_commands.specs.declared.request.Request.{Request}
-use Rattle.tw_commands.specs.declared.refusal.Refusal.{Refusal}
-use Rattle.tw_commands.specs.declared.refusal.Refusal.TheVariants.{NothingToUndo, Cycle}
+use Rattle.tw_words.specs.declared.command.Command.{Command}
+use Rattle.tw_changes.specs.Circles.{first_circle, is_judged}
+use Rattle.tw_changes.specs.declared.request.Request.{Request}
+use Rattle.tw_changes.specs.declared.refusal.Refusal.{Refusal}
+use Rattle.tw_changes.specs.declared.refusal.Refusal.TheVariants.{NothingToUndo, Cycle}
 
 pub record Carried : Type 0 where
   pub step : Step
   pub new : State
   pub text : List ℕ
+
+-- the first circle that is closed by what a command put after what was pending, among the tasks after it
+abbrev pub circle_in : Command → (old new : State) → Option (List ℕ)
+circle_in command old new = cond (is_judged command) (first_circle new.tasks (drop (length old.pending) new.pending)) None
 
 abbrev pub unless_circle : Option (List ℕ) → Result (List ℕ) Refusal → Result (List ℕ) Refusal
 unless_circle None text = text

@@ -1,67 +1,48 @@
 -- What each command is to do, and how many uuids it draws.
-use Rattle.std.specs.Prelude.{◌≡◌, ◌⊎◌, Option, Some, None, Result, Ok, Err}
-use Rattle.tw_world.specs.declared.Moment.{Moment}
+use Rattle.std.specs.Prelude.{◌≡◌, ◌⊎◌, false, List, [], ◌∷◌, length, Option, Some, None, Result, Ok, Err}
 use Rattle.tw_world.specs.declared.ids.IdWords.{IdWords}
 use Rattle.tw_model.specs.Ops.{TaskValue}
-use Rattle.tw_replica.specs.State.{State}
-use Rattle.tw_filter.specs.Holds.{Scene}
-use Rattle.tw_filter.specs.declared.bad_word.BadWord.{BadWord}
+use Rattle.tw_model.specs.declared.changes.Change.{Change}
+use Rattle.tw_state.specs.State.{State}
+use Rattle.tw_terms.specs.declared.bad_word.BadWord.{BadWord}
 use Rattle.tw_report.specs.declared.report.Report.TheVariants as report
-use Rattle.tw_words.specs.Lines.{Parts}
 use Rattle.tw_words.specs.Unnamed.{first_unnamed}
 use Rattle.tw_words.specs.declared.command.Command.{Command}
 use Rattle.tw_words.specs.declared.command.Command.TheVariants as command
-use Rattle.tw_commands.specs.Request.{scene_in, selected_in, after_draw}
-use Rattle.tw_commands.specs.Spaced.{rest_text}
+use Rattle.tw_changes.specs.Request.{after_draw}
+use Rattle.tw_commands.specs.Request.{scene_in, selected_in}
 use Rattle.tw_commands.specs.Plan.{Plan}
-use Rattle.tw_commands.specs.Plan.Work.{TakeBack}
-use Rattle.tw_commands.specs.Plan.Show.{TakenBack}
-use Rattle.tw_commands.specs.Marks.{marks_of}
-use Rattle.tw_commands.specs.Effects.{changes_by, acting}
-use Rattle.tw_commands.specs.Effects.Modify.{modify}
-use Rattle.tw_commands.specs.Effects.Append.{append, prepend}
-use Rattle.tw_commands.specs.Effects.Annotate.{annotate}
-use Rattle.tw_commands.specs.Effects.Denotate.{denotate}
-use Rattle.tw_commands.specs.Effects.Done.{done, delete}
-use Rattle.tw_commands.specs.Effects.Purge.{purge}
-use Rattle.tw_commands.specs.Effects.Start.{start, stop}
+use Rattle.tw_commands.specs.Plan.Work.{Changes, TakeBack}
+use Rattle.tw_commands.specs.Plan.Show.{Counted, TakenBack}
+use Rattle.tw_changes.specs.Marks.{marks_of}
+use Rattle.tw_changes.specs.Editing.{effect_by}
+use Rattle.tw_changes.specs.Effects.{changes_by}
 use Rattle.tw_commands.specs.Makes.Add.{adding, logging}
 use Rattle.tw_commands.specs.Makes.Duplicate.{copies_in, copying}
-use Rattle.tw_commands.specs.Makes.Import.{imports_in, importing}
+use Rattle.tw_changes.specs.Makes.Import.{imports_in}
+use Rattle.tw_commands.specs.Makes.Import.{importing}
 use Rattle.tw_commands.specs.Looks.Count.{counting}
 use Rattle.tw_commands.specs.Looks.Ids.{numbering, naming}
 use Rattle.tw_commands.specs.Looks.Export.{exporting}
 use Rattle.tw_commands.specs.Looks.Information.{informing}
 use Rattle.tw_commands.specs.Looks.Projects.{projecting, tagging}
 use Rattle.tw_commands.specs.Reports.{reporting}
-use Rattle.tw_commands.specs.declared.effect.Effect.{Effect}
-use Rattle.tw_commands.specs.declared.effect.Effect.TheVariants.{Nothing}
+use Rattle.tw_changes.specs.declared.effects.Effect.{Effect}
+use Rattle.tw_changes.specs.declared.marks.Mark.{Mark}
 use Rattle.tw_commands.specs.declared.plan.Deed.{Deed}
 use Rattle.tw_commands.specs.declared.plan.Deed.TheVariants as deed
-use Rattle.tw_commands.specs.declared.request.Request.{Request}
-use Rattle.tw_commands.specs.declared.refusal.Refusal.{Refusal}
-use Rattle.tw_commands.specs.declared.refusal.Refusal.TheVariants.{BadWords}
+use Rattle.tw_changes.specs.declared.request.Request.{Request}
+use Rattle.tw_changes.specs.declared.refusal.Refusal.{Refusal}
+use Rattle.tw_changes.specs.declared.refusal.Refusal.TheVariants.{BadWords, NoMatch}
 
--- what a command that acts on selected tasks makes of one
-abbrev pub effect_of : Command → Scene → Parts → Moment → TaskValue → Effect
-effect_of command.Modify scene line now task = modify scene line task
-effect_of command.Append scene line now task = append (rest_text line) task
-effect_of command.Prepend scene line now task = prepend (rest_text line) task
-effect_of command.Annotate scene line now task = annotate now (rest_text line) task
-effect_of command.Denotate scene line now task = denotate (rest_text line) task
-effect_of command.Done scene line now task = done now task
-effect_of command.Delete scene line now task = delete now task
-effect_of command.Purge scene line now task = purge now task
-effect_of command.Start scene line now task = start now task
-effect_of command.Stop scene line now task = stop now task
-effect_of _ scene line now task = Nothing
-
--- what a request makes of a task
-abbrev pub effect_by : Request → Scene → TaskValue → Effect
-effect_by request scene task = effect_of request.command scene request.line request.at task
-
+-- what a request makes of a task in a replica of this state
 abbrev pub effect_in : Request → State → TaskValue → Effect
 effect_in request state task = effect_by request (scene_in request state) task
+
+-- a command that made these changes, and leaves these marks; it needs a task on which it acts
+abbrev pub acting : Deed → List Change → List Mark → Result Plan Refusal
+acting deed [] marks = Err NoMatch
+acting deed (change ∷ changes) marks = Ok (record { work = Changes false (change ∷ changes) marks; show = Counted deed (length (change ∷ changes)) })
 
 -- what a command that acts on selected tasks is to do
 abbrev pub editing : Deed → Request → State → Result Plan Refusal
@@ -118,7 +99,7 @@ abbrev pub ids_by : Command → Request → IdWords → State → IdWords
 ids_by command.Add request ids state = after_draw ids
 ids_by command.Log request ids state = after_draw ids
 ids_by command.Duplicate request ids state = (copies_in request ids state).ids
-ids_by command.Import request ids state = (imports_in request ids state).ids
+ids_by command.Import request ids state = (imports_in request ids state.tasks).ids
 ids_by _ request ids state = ids
 
 abbrev pub ids_unless : Option BadWord → (old left : IdWords) → IdWords

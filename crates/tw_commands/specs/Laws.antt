@@ -9,8 +9,8 @@ use Rattle.tw_model.specs.Maps.{same_bytes}
 use Rattle.tw_model.specs.Ops.{TaskValue}
 use Rattle.tw_model.specs.declared.Change.{Change}
 use Rattle.tw_model.specs.declared.Op.{Op}
-use Rattle.tw_replica.specs.Body.Step.{Commit, Undo}
-use Rattle.tw_replica.specs.State.{State, applied}
+use Rattle.tw_bodies.specs.Body.Step.{Commit, Undo}
+use Rattle.tw_state.specs.State.{State, applied}
 use Rattle.tw_words.specs.declared.command.Command.{Command}
 use Rattle.tw_words.specs.declared.command.Command.TheVariants as command
 use Rattle.tw_commands.specs.Request.{selected_in}
@@ -19,9 +19,9 @@ use Rattle.tw_commands.specs.Plan.Work.{Changes}
 use Rattle.tw_commands.specs.Commands.{plan_of, editing}
 use Rattle.tw_commands.specs.Asks.{answered_with}
 use Rattle.tw_commands.specs.Carried.{Carried, with_text, concluded, carried_out}
-use Rattle.tw_commands.specs.declared.marks.Mark.{Mark}
+use Rattle.tw_changes.specs.declared.marks.Mark.{Mark}
 use Rattle.tw_commands.specs.declared.plan.Deed.{Deed}
-use Rattle.tw_commands.specs.declared.request.Request.{Request}
+use Rattle.tw_changes.specs.declared.request.Request.{Request}
 
 -- a request comes to this, if hooks answer these tasks
 abbrev pub IsCarriedOut : Request → IdWords → (answers : List TaskValue) → State → Carried → Type 0

@@ -1,16 +1,10 @@
 pub mod Request
-pub mod Spaced
-pub mod Stamps
-pub mod Marks
-pub mod Worded
 pub mod Plan
 pub mod Asks
-pub mod Effects
 pub mod Makes
 pub mod Looks
 pub mod Reports
 pub mod Commands
-pub mod Circles
 pub mod Texts
 pub mod Carried
 pub mod Ready

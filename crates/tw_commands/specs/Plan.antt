@@ -5,18 +5,18 @@ use Rattle.tw_model.specs.Changes.{changed_all, ops_of_all, group_of}
 use Rattle.tw_model.specs.declared.changes.Change.{Change}
 use Rattle.tw_model.specs.Places.{Places}
 use Rattle.tw_report.specs.declared.report.Report.{Report as AnyReport}
-use Rattle.tw_replica.specs.Body.{Step}
-use Rattle.tw_replica.specs.Body.Step.{Commit, Undo}
-use Rattle.tw_replica.specs.State.{State}
-use Rattle.tw_commands.specs.Marks.{mask_changes}
-use Rattle.tw_commands.specs.declared.marks.Mark.{Mark}
+use Rattle.tw_bodies.specs.Body.{Step}
+use Rattle.tw_bodies.specs.Body.Step.{Commit, Undo}
+use Rattle.tw_state.specs.State.{State}
+use Rattle.tw_changes.specs.Marks.{mask_changes}
+use Rattle.tw_changes.specs.declared.marks.Mark.{Mark}
 use Rattle.tw_commands.specs.declared.plan.Deed.{Deed}
 use Rattle.tw_commands.specs.declared.plan.Plan as code
 use Rattle.tw_commands.specs.declared.plan.Work as code_work
 use Rattle.tw_commands.specs.declared.plan.Work.TheVariants as work
 use Rattle.tw_commands.specs.declared.plan.Show as code_show
 use Rattle.tw_commands.specs.declared.plan.Show.TheVariants as show
-use Rattle.tw_commands.specs.declared.refusal.Refusal.{Refusal}
+use Rattle.tw_changes.specs.declared.refusal.Refusal.{Refusal}
 
 -- the step of a command
 pub data Work : Type 0 where

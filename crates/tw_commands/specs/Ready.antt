@@ -2,15 +2,15 @@
 use Rattle.std.specs.Prelude.{◌≡◌, List, Result, Ok, Err}
 use Rattle.tw_world.specs.declared.ids.IdWords.{IdWords}
 use Rattle.tw_model.specs.Ops.{TaskValue}
-use Rattle.tw_replica.specs.Body.{Step}
+use Rattle.tw_bodies.specs.Body.{Step}
 use Rattle.tw_replica.specs.Replica.{held_state}
 use Rattle.tw_replica.specs.Prepared.{IsPrepared, prepared_state}
 use Rattle.tw_replica.specs.declared.replica.Replica.{Replica}
 use Rattle.tw_commands.specs.Plan.{Plan}
 use Rattle.tw_commands.specs.Carried.{Carried, carried_by, carried_out}
 use Rattle.tw_commands.specs.declared.ready.Ready.{Ready}
-use Rattle.tw_commands.specs.declared.request.Request.{Request}
-use Rattle.tw_commands.specs.declared.refusal.Refusal.{Refusal}
+use Rattle.tw_changes.specs.declared.request.Request.{Request}
+use Rattle.tw_changes.specs.declared.refusal.Refusal.{Refusal}
 
 -- what a command comes to in the state of a replica is made in memory
 pub record IsMade (carried : Result Carried Refusal) (replica : Replica) (ready : Ready) : Type 0 where

@@ -4,16 +4,17 @@ use Rattle.std.specs.List.{list_any}
 use Rattle.std.specs.FinMap.{get}
 use Rattle.tw_model.specs.Ops.{TaskValue, TasksValue}
 use Rattle.tw_model.specs.Places.{Places}
-use Rattle.tw_replica.specs.State.{State}
-use Rattle.tw_filter.specs.Holds.{Scene, selected}
+use Rattle.tw_state.specs.State.{State}
+use Rattle.tw_terms.specs.Scenes.{Scene}
+use Rattle.tw_filter.specs.Selected.{selected}
 use Rattle.tw_urgency.specs.Dependencies.{is_blocked}
 use Rattle.tw_urgency.specs.Status.{status_of}
 use Rattle.tw_urgency.specs.declared.status.Status.{Status}
 use Rattle.tw_urgency.specs.declared.status.Status.TheVariants as status
 use Rattle.tw_model.specs.declared.changes.Change.{Change}
 use Rattle.tw_recur.specs.Instances.{instance_changes}
-use Rattle.tw_words.specs.Switches.{is_set_on, recurrence_limit}
-use Rattle.tw_words.specs.Weights.{weights}
+use Rattle.tw_settings.specs.Switches.{is_set_on, recurrence_limit}
+use Rattle.tw_settings.specs.Weights.{weights}
 use Rattle.tw_report.specs.Sight.{Sight}
 use Rattle.tw_report.specs.Texts.{report_text}
 use Rattle.tw_report.specs.declared.report.Report.{Report as AnyReport}
@@ -21,9 +22,9 @@ use Rattle.tw_report.specs.declared.report.Report.TheVariants as report
 use Rattle.tw_commands.specs.Plan.{Plan}
 use Rattle.tw_commands.specs.Plan.Work.{Changes}
 use Rattle.tw_commands.specs.Plan.Show.{Report}
-use Rattle.tw_commands.specs.declared.request.Request.{Request}
-use Rattle.tw_commands.specs.declared.refusal.Refusal.{Refusal}
-use Rattle.tw_commands.specs.declared.refusal.Refusal.TheVariants.{NoMatch}
+use Rattle.tw_changes.specs.declared.request.Request.{Request}
+use Rattle.tw_changes.specs.declared.refusal.Refusal.{Refusal}
+use Rattle.tw_changes.specs.declared.refusal.Refusal.TheVariants.{NoMatch}
 
 -- ---- which tasks a report shows
 

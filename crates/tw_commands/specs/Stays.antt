@@ -7,12 +7,12 @@ use Rattle.tw_model.specs.Ops.{TaskValue}
 use Rattle.tw_model.specs.Places.{has_uuid}
 use Rattle.tw_import.specs.Import.{import_of}
 use Rattle.tw_import.specs.declared.import.Imported.{Imported}
-use Rattle.tw_replica.specs.State.{State}
+use Rattle.tw_state.specs.State.{State}
 use Rattle.tw_words.specs.declared.command.Command.{Command}
 use Rattle.tw_words.specs.declared.command.Command.TheVariants as command
 use Rattle.tw_commands.specs.Carried.{Carried}
 use Rattle.tw_commands.specs.Laws.{IsCarriedOut, IsSameButMask}
-use Rattle.tw_commands.specs.declared.request.Request.{Request}
+use Rattle.tw_changes.specs.declared.request.Request.{Request}
 
 -- commands that only make tasks
 abbrev pub makes : Command → Bool

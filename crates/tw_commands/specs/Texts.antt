@@ -5,15 +5,15 @@ use Rattle.std.specs.Fmt.{decimal}
 use Rattle.std.specs.FinMap.{get}
 use Rattle.tw_model.specs.Ops.{TaskValue}
 use Rattle.tw_model.specs.Places.{id_of}
-use Rattle.tw_replica.specs.State.{State}
+use Rattle.tw_state.specs.State.{State}
 use Rattle.tw_commands.specs.Plan.{Show}
 use Rattle.tw_commands.specs.Plan.Show.{Counted, Created, Logged, TakenBack, Text, Report}
 use Rattle.tw_commands.specs.declared.plan.Deed.{Deed}
 use Rattle.tw_commands.specs.declared.plan.Deed.TheVariants.{Modified, Annotated, Denotated, Completed, Deleted, Purged, Started, Stopped, Duplicated, Imported}
-use Rattle.tw_commands.specs.Makes.Add.{recurs}
+use Rattle.tw_changes.specs.Makes.Add.{recurs}
 use Rattle.tw_commands.specs.Reports.{reported}
-use Rattle.tw_commands.specs.declared.request.Request.{Request}
-use Rattle.tw_commands.specs.declared.refusal.Refusal.{Refusal}
+use Rattle.tw_changes.specs.declared.request.Request.{Request}
+use Rattle.tw_changes.specs.declared.refusal.Refusal.{Refusal}
 
 -- a number between two texts
 abbrev pub numbered : List ℕ → ℕ → List ℕ → List ℕ

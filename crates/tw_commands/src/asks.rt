@@ -6,8 +6,8 @@ ghost use Rattle.tw_commands.specs.Plan.{work_view};
 ghost use Rattle.tw_commands.specs.Asks as spec;
 
 use crate::plan::Work;
-use crate::request::Request;
 use std::alloc::Global;
+use tw_changes::Request;
 use tw_hooks::{Ask, Event};
 use tw_model::{Change, TaskMap, Tasks};
 use tw_words::Command;

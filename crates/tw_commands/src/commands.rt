@@ -1,39 +1,32 @@
 // What each command is to do.
 ghost use Rattle.std.specs.Prelude.{◌≡◌, IfOk, OnOk, OnErr};
 ghost use Rattle.tw_replica.specs.Replica.{held_state};
-ghost use Rattle.tw_filter.specs.Holds.{scene_of};
+ghost use Rattle.tw_terms.specs.Scenes.{scene_of};
 ghost use Rattle.tw_words.specs.Unnamed.{first_unnamed};
 ghost use Rattle.tw_commands.specs.Plan.{planned};
 ghost use Rattle.tw_commands.specs.Request.{scene_in};
 ghost use Rattle.tw_commands.specs.Commands as spec;
 
-pub(crate) mod add;
-mod annotate;
-mod append;
+mod add;
 mod count;
-mod denotate;
-mod done;
 mod duplicate;
 mod editing;
 mod export;
 mod ids;
 mod import;
 mod information;
-mod modify;
 mod projects;
-mod purge;
 pub(crate) mod report;
-mod start;
 mod undo;
 
 use self::report::reporting;
 use crate::plan::{Deed, Plan};
-use crate::refusal::Refusal;
-use crate::request::{Request, view_of};
+use crate::request::view_of;
 use std::alloc::Global;
-use tw_filter::BadWord;
+use tw_changes::{Refusal, Request};
 use tw_replica::Replica;
 use tw_report::Report;
+use tw_terms::BadWord;
 use tw_words::{Command, first_unnamed};
 use tw_world::{IdWords, Memory};
 

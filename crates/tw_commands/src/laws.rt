@@ -1,8 +1,6 @@
 //! Laws of commands. Each is the contract of a function that does nothing.
 ghost use Rattle.tw_commands.specs.Laws.{CarriedIsApplied, ChangesAreCarriedOut, ChangesAreStamped, ModifiedMovesExactly, OthersStay, UndoTakesBack};
 ghost use Rattle.tw_commands.specs.Stays.{ImportsChangeWhatTheyGive, MakersChangeNone, ReportsChangeMasks};
-ghost use Rattle.tw_commands.specs.Circles.{LeadsWhereAPathLeads};
-ghost use Rattle.tw_commands.specs.Worded.{WordsAreTaken};
 
 /// What a command comes to is its step, taken from the state before.
 pub fn what_a_command_comes_to_is_its_step()
@@ -13,16 +11,6 @@ pub fn what_a_command_comes_to_is_its_step()
 /// whatever they are.
 pub fn changes_are_carried_out()
     ensures { ChangesAreCarriedOut }
-{}
-
-/// The words of a line that was judged are taken, where they name tasks: none of them leaves a task as it was.
-pub fn words_are_taken()
-    ensures { WordsAreTaken }
-{}
-
-/// What is judged of circles is whether there is a path of dependencies, of whatever length.
-pub fn a_circle_is_a_path()
-    ensures { LeadsWhereAPathLeads }
 {}
 
 /// A command that acts on the tasks that its filter selects leaves the others as they were, but for the masks of templates and the moments

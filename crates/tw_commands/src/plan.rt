@@ -5,9 +5,8 @@ ghost use Rattle.tw_commands.specs.Plan.{work_view, plan_view};
 ghost use Rattle.tw_commands.specs.Asks.{asked_of, answered_with};
 
 use crate::asks::{answered_work, asks_of, event_in};
-use crate::marks::Mark;
-use crate::request::Request;
 use std::alloc::Global;
+use tw_changes::{Mark, Request};
 use tw_hooks::Ask;
 use tw_model::{Change, TaskMap};
 use tw_replica::Replica;

@@ -1,23 +1,20 @@
 // A command that is made in memory, with its text.
 ghost use Rattle.std.specs.Prelude.{◌≡◌, length, Ok as AnOk, Err as AnErr, None as Nowhere, IfOk, IfErr};
-ghost use Rattle.tw_replica.specs.State.{State, applied};
+ghost use Rattle.tw_state.specs.State.{State, applied};
 ghost use Rattle.tw_replica.specs.Replica.{held_state};
 ghost use Rattle.tw_replica.specs.Prepared.{IsPrepared, prepared_state};
 ghost use Rattle.tw_commands.specs.Plan.{step_in, work_view, show_view, plan_view};
 ghost use Rattle.tw_commands.specs.Plan.Work.{Changes};
-ghost use Rattle.tw_commands.specs.Circles.{circle_in};
+ghost use Rattle.tw_commands.specs.Carried.{circle_in};
 ghost use Rattle.tw_commands.specs.Texts.{shown, texted};
 ghost use Rattle.tw_commands.specs.Carried.{concluded};
 ghost use Rattle.tw_commands.specs.Ready.{IsReady, NotReady};
 
-use crate::circles::{first_circle, is_judged};
 use crate::commands::report::reported;
-use crate::marks::{Mark, mask_changes};
 use crate::plan::{Plan, Show, Work};
-use crate::refusal::Refusal;
-use crate::request::Request;
 use crate::texts::{counted_text, created_text, logged_text, undone_text};
 use std::alloc::Global;
+use tw_changes::{Mark, Refusal, Request, first_circle, is_judged, mask_changes};
 use tw_model::Change;
 use tw_replica::{Prepared, Replica, TakeBackError};
 use tw_world::{Memory, Moment};

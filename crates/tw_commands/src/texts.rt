@@ -4,9 +4,9 @@ ghost use Rattle.std.specs.FinMap.{get};
 ghost use Rattle.tw_model.specs.Places.{id_of};
 ghost use Rattle.tw_commands.specs.Texts as spec;
 
-use crate::commands::add::recurs;
 use crate::plan::Deed;
 use std::alloc::Global;
+use tw_changes::recurs;
 use tw_model::{Tasks, id_of};
 use tw_world::Memory;
 use uuid::Uuid;

@@ -4,8 +4,8 @@ use Rattle.tw_world.specs.Memory.{memory_model}
 use Rattle.tw_world.specs.declared.memory.MemoryDisk.{MemoryDisk}
 use Rattle.tw_journal.specs.Journal.{IsOpenOn}
 use Rattle.tw_journal.specs.declared.journal.Journal.{Journal}
-use Rattle.tw_replica.specs.Body.{Step}
-use Rattle.tw_replica.specs.State.{Stands}
+use Rattle.tw_bodies.specs.Body.{Step}
+use Rattle.tw_state.specs.State.{Stands}
 use Rattle.tw_replica.specs.Replica.{magic, IsReplicaOn, held_state}
 use Rattle.tw_replica.specs.Prepared.{IsPrepared, IsLengthReady, prepared_state, prepared_bodies, step_bodies}
 use Rattle.tw_replica.specs.declared.step.write.Prepared.{Prepared}

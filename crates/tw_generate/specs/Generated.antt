@@ -6,7 +6,7 @@ use Rattle.tw_model.specs.Maps.{same_bytes}
 use Rattle.tw_model.specs.Changes.{ops_of_all, group_of}
 use Rattle.tw_model.specs.declared.changes.Change.{Change}
 use Rattle.tw_segment.specs.Segment.{segment_text}
-use Rattle.tw_replica.specs.State.{State, start, committed}
+use Rattle.tw_state.specs.State.{State, start, committed}
 use Rattle.tw_groups.specs.Groups.{groups_of}
 use Rattle.tw_groups.specs.Cut.{first}
 use Rattle.tw_path.specs.Path.{is_batch}

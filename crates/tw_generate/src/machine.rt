@@ -40,7 +40,7 @@ impl Machine {
     ghost use Rattle.tw_groups.specs.Cut.{first};
     ghost use Rattle.tw_path.specs.Path.{is_batch};
     ghost use Rattle.tw_segment.specs.Segment.{segment_text};
-    ghost use Rattle.tw_replica.specs.State.{start};
+    ghost use Rattle.tw_state.specs.State.{start};
     ghost use Rattle.tw_replica.specs.Replica.{held_state};
     ghost use Rattle.tw_sync.specs.Answers.{IsLinkKept};
     ghost use Rattle.tw_sync.specs.End.{SyncEnd};

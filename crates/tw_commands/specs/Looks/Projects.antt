@@ -1,13 +1,13 @@
 -- `projects` and `tags`: the names that pending tasks have.
 use Rattle.std.specs.Prelude.{ℕ, List}
-use Rattle.tw_replica.specs.State.{State}
+use Rattle.tw_state.specs.State.{State}
 use Rattle.tw_report.specs.Texts.{projects_text, tags_text}
 use Rattle.tw_report.specs.declared.report.Report.TheVariants as report
 use Rattle.tw_commands.specs.Request.{selected_in}
 use Rattle.tw_commands.specs.Plan.{Plan}
 use Rattle.tw_commands.specs.Looks.{looking}
 use Rattle.tw_commands.specs.Reports.{rows_of}
-use Rattle.tw_commands.specs.declared.request.Request.{Request}
+use Rattle.tw_changes.specs.declared.request.Request.{Request}
 
 -- those of the selected tasks that are pending
 abbrev pub pending_in : Request → State → List (List ℕ)

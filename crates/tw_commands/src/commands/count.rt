@@ -6,9 +6,10 @@ ghost use Rattle.tw_commands.specs.Looks as looks;
 ghost use Rattle.tw_commands.specs.Looks.Count as spec;
 
 use crate::plan::{Plan, Show, Work};
-use crate::request::{Request, selected};
+use crate::request::selected;
 use crate::texts::count_text;
 use std::alloc::Global;
+use tw_changes::Request;
 use tw_replica::Replica;
 use tw_world::Memory;
 

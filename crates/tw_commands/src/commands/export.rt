@@ -6,8 +6,9 @@ ghost use Rattle.tw_commands.specs.Looks.Export as spec;
 
 use crate::commands::count::looking;
 use crate::plan::Plan;
-use crate::request::{Request, selected};
+use crate::request::selected;
 use std::alloc::Global;
+use tw_changes::Request;
 use tw_export::export_text;
 use tw_replica::Replica;
 use tw_world::Memory;

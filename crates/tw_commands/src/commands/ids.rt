@@ -11,12 +11,12 @@ ghost use Rattle.tw_commands.specs.Looks.Ids as spec;
 
 use crate::commands::count::looking;
 use crate::plan::Plan;
-use crate::request::{Request, selected};
-use crate::spaced::spaced;
+use crate::request::selected;
 use std::alloc::Global;
 use std::collections::BTreeSet;
-use tw_filter::chosen_of;
+use tw_changes::{Request, spaced};
 use tw_replica::Replica;
+use tw_terms::chosen_of;
 use tw_world::Memory;
 use uuid::Uuid;
 

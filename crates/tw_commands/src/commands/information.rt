@@ -6,9 +6,9 @@ ghost use Rattle.tw_commands.specs.Looks.Information as spec;
 
 use crate::commands::count::looking;
 use crate::plan::Plan;
-use crate::refusal::Refusal;
-use crate::request::{Request, selected, view_of};
+use crate::request::{selected, view_of};
 use std::alloc::Global;
+use tw_changes::{Refusal, Request};
 use tw_replica::Replica;
 use tw_report::information_text;
 use tw_world::Memory;

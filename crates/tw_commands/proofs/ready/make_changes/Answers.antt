@@ -3,7 +3,7 @@ use Rattle.tw_model.specs.Ops.{TasksValue}
 use Rattle.tw_model.specs.Changes.{changed_all}
 use Rattle.tw_model.specs.declared.changes.Change.{Change}
 use Rattle.tw_replica.specs.Prepared.{IsEditing, IsPrepared, step_of_changes}
-use Rattle.tw_commands.specs.Marks.{mask_changes}
+use Rattle.tw_changes.specs.Marks.{mask_changes}
 use Rattle.tw_commands.proofs.ready.make_changes.Goals as goal
 
 pub prepare-requires : goal.prepare-requires

@@ -1,11 +1,11 @@
 use Rattle.std.proofs.Common.{◌≡◌, ◌∙◌, ap, Result, Ok, Err, IfOk}
 use Rattle.std.specs.FinMap.{get}
 use Rattle.tw_replica.specs.Replica.{held_state}
-use Rattle.tw_filter.specs.Holds.{Scene}
+use Rattle.tw_terms.specs.Scenes.{Scene}
 use Rattle.tw_commands.specs.Request.{scene_in}
 use Rattle.tw_commands.specs.Plan.Show.{Created}
 use Rattle.tw_commands.specs.Makes.{making}
-use Rattle.tw_commands.specs.Makes.Add.{added}
+use Rattle.tw_changes.specs.Makes.Add.{added}
 use Rattle.tw_commands.proofs.commands.add.adding.Goals as goal
 
 if_ok_map : {A E : Type 0} {P Q : A → Type 0} (r : Result A E) → ((a : A) → P a → Q a) → IfOk r P → IfOk r Q

@@ -3,7 +3,7 @@ use Rattle.tw_replica.specs.Replica.{held_state}
 use Rattle.tw_model.specs.Ops.{TasksValue}
 use Rattle.tw_commands.specs.Plan.{Plan, Work, plan_view}
 use Rattle.tw_commands.specs.Asks.{answered_work}
-use Rattle.tw_commands.specs.declared.refusal.Refusal.{Refusal}
+use Rattle.tw_changes.specs.declared.refusal.Refusal.{Refusal}
 use Rattle.tw_commands.proofs.AnsweredPlans.{answered_is}
 use Rattle.tw_commands.proofs.plan.Plan.answered.Goals as goal
 

@@ -1,6 +1,6 @@
 -- The changes are made of the replica that was open, and then written.
 use Rattle.std.proofs.Common.{◌∙◌, ap, sym, false, [], Some}
-use Rattle.tw_replica.specs.State.{State}
+use Rattle.tw_state.specs.State.{State}
 use Rattle.tw_replica.specs.Prepared.{IsEditing, IsPrepared, step_of_changes}
 use Rattle.tw_generate.proofs.Machines.{length_ready, on_written}
 use Rattle.tw_generate.proofs.machine.Machine.with_changes.Goals as goal

@@ -1,0 +1,9 @@
+pub mod Request
+pub mod Spaced
+pub mod Stamps
+pub mod Worded
+pub mod Effects
+pub mod Editing
+pub mod Marks
+pub mod Makes
+pub mod Circles

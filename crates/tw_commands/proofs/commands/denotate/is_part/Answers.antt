@@ -1,6 +1,0 @@
-use Rattle.std.proofs.lemmas.Str.Pattern.{contains_text}
-use Rattle.tw_filter.proofs.Occurrences.{occurs_is}
-use Rattle.tw_commands.proofs.commands.denotate.is_part.Goals as goal
-
-pub returns : goal.returns
-returns c = occurs_is c.args.text.now c.args.there.now c.contains.result (contains_text c.contains.result c.args.text.now c.args.there.now c.contains.ensures.cases)

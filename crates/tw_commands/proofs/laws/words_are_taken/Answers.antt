@@ -1,5 +1,0 @@
-use Rattle.tw_commands.proofs.TakenWords.{words_taken}
-use Rattle.tw_commands.proofs.laws.words_are_taken.Goals as goal
-
-pub returns : goal.returns
-returns c = words_taken
