@@ -55,12 +55,19 @@ fn ends(alloc: Global, row: &Row, disk: &mut MemoryDisk) -> Result<bool, Fail> {
     Ok(ended.outcome.status == status && ended.said() == Some(text.as_bytes()))
 }
 
+// How many of the rows end as they say, up to the first that does not.
+fn rows_so_far(alloc: Global, disk: &mut MemoryDisk) -> Result<usize, Fail> {
+    for (number, row) in ROWS.iter().enumerate() {
+        if !ends(alloc, row, disk)? {
+            return Ok(number);
+        }
+    }
+    Ok(ROWS.len())
+}
+
 #[test]
 fn an_input_is_imported_and_taken_back(rt: HostRuntime) -> Result<(), Fail> {
-    let alloc = rt.alloc();
-    let mut disk = machine(alloc)?;
-    for row in &ROWS {
-        assert!(rt; ends(alloc, row, &mut disk)?, "{}", row.0);
-    }
+    let mut disk = machine(rt.alloc())?;
+    assert_eq!(rt; rows_so_far(rt.alloc(), &mut disk)?, ROWS.len());
     Ok(())
 }

@@ -67,13 +67,18 @@ fn agree(
     Ok(world.agrees(COMPARED)? && world.has_at_lap("mask", mask)?)
 }
 
+// After how many of the rows the machines agree, up to the first after which they do not.
+fn rows_so_far(alloc: Global) -> Result<usize, Fail> {
+    for (number, (second, line, counted, mask)) in ROWS.iter().enumerate() {
+        if !agree(alloc, *second, line, counted, mask)? {
+            return Ok(number);
+        }
+    }
+    Ok(ROWS.len())
+}
+
 #[test]
 fn an_instance_is_made_once_on_two_machines(rt: HostRuntime) -> Result<(), Fail> {
-    for (second, line, counted, mask) in ROWS {
-        assert!(rt;
-            agree(rt.alloc(), second, line, counted, mask)?,
-            "{line} at {second}"
-        );
-    }
+    assert_eq!(rt; rows_so_far(rt.alloc())?, ROWS.len());
     Ok(())
 }

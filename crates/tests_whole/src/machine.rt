@@ -188,11 +188,21 @@ fn sink_of(alloc: Global, fails: &[u64]) -> Result<MemorySink, Fail> {
 }
 
 // The streams of a run.
-#[derive(Drop)]
 struct Streams {
     input: MemorySource,
     out: MemorySink,
     err: MemorySink,
+}
+
+// It is written out, so that a caller does not prove again how each part is dropped.
+impl Drop for Streams {
+    fn drop(self) {
+        let Streams {
+            input: _,
+            out: _,
+            err: _,
+        } = self;
+    }
 }
 
 impl Streams {
@@ -205,7 +215,7 @@ impl Streams {
     }
 
     fn ended(self, outcome: Outcome) -> Ended {
-        let Streams { out, err, .. } = self;
+        let Streams { input: _, out, err } = self;
         Ended { outcome, out, err }
     }
 }

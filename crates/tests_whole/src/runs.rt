@@ -89,11 +89,19 @@ fn is_refused(alloc: Global, line: &str, word: u64, kind: WordKind) -> Result<bo
     Ok(is_told && (disk.calls() == 0) == (kind != WordKind::Id))
 }
 
+// How many of the lines are refused as wanted, up to the first that is not.
+fn refused_so_far(alloc: Global) -> Result<usize, Fail> {
+    for (number, (line, word, kind)) in REFUSED.iter().enumerate() {
+        if !is_refused(alloc, line, *word, *kind)? {
+            return Ok(number);
+        }
+    }
+    Ok(REFUSED.len())
+}
+
 #[test]
 fn words_outside_the_grammar_are_told(rt: HostRuntime) -> Result<(), Fail> {
-    for (line, word, kind) in REFUSED {
-        assert!(rt; is_refused(rt.alloc(), line, word, kind)?, "{line}");
-    }
+    assert_eq!(rt; refused_so_far(rt.alloc())?, REFUSED.len());
     Ok(())
 }
 
@@ -133,11 +141,19 @@ fn undoes_all(alloc: Global, adds: u64) -> Result<bool, Fail> {
     Ok(ended.outcome.cause == Cause::NothingToUndo)
 }
 
+// Of how many adds all are taken back, up to the first number of which they are not.
+fn undone_so_far(alloc: Global) -> Result<u64, Fail> {
+    for adds in 0..4 {
+        if !undoes_all(alloc, adds)? {
+            return Ok(adds);
+        }
+    }
+    Ok(4)
+}
+
 #[test]
 fn each_undo_takes_one_add_back(rt: HostRuntime) -> Result<(), Fail> {
-    for adds in 0..4 {
-        assert!(rt; undoes_all(rt.alloc(), adds)?, "{adds}");
-    }
+    assert_eq!(rt; undone_so_far(rt.alloc())?, 4);
     Ok(())
 }
 
@@ -151,34 +167,51 @@ fn fails_at(alloc: Global, failing: u64, counted: &str) -> Result<bool, Fail> {
     Ok(is_told && prints(alloc, &mut again, "count", counted)?)
 }
 
-// Only if the last sync fails is the record there.
-#[test]
-fn a_disk_that_fails_is_told_and_keeps_its_records(rt: HostRuntime) -> Result<(), Fail> {
-    let alloc = rt.alloc();
-    let calls = with_adds(alloc, 1)?.calls();
+// How many of so many calls may fail, up to the first that is not told. Only if the last sync fails is the record there.
+fn failing_so_far(alloc: Global, calls: u64) -> Result<u64, Fail> {
     for failing in 0..calls {
         let counted = if failing + 1 == calls { "1\n" } else { "0\n" };
-        assert!(rt; fails_at(alloc, failing, counted)?, "call {failing}");
+        if !fails_at(alloc, failing, counted)? {
+            return Ok(failing);
+        }
+    }
+    Ok(calls)
+}
+
+#[test]
+fn a_disk_that_fails_is_told_and_keeps_its_records(rt: HostRuntime) -> Result<(), Fail> {
+    let calls = with_adds(rt.alloc(), 1)?.calls();
+    assert_eq!(rt; failing_so_far(rt.alloc(), calls)?, calls);
+    Ok(())
+}
+
+// Where the last two bytes of the task's uuid stand in the record of an added task.
+const NUMBERS: [usize; 5] = [27, 44, 102, 156, 213];
+
+fn put(bytes: &mut Vec<u8>, at: usize, byte: u8) {
+    if let Some(place) = bytes.get_mut(at) {
+        *place = byte;
+    }
+}
+
+// Puts the record of one more added task behind a journal, whose uuid ends with this number.
+fn push_added(bytes: &mut Vec<u8>, number: u16) -> Result<(), Fail> {
+    let start = bytes.len();
+    let [high, low] = number.to_be_bytes();
+    bytes.extend_from_slice(&ADDED[29..])?;
+    for at in &NUMBERS {
+        let place = start.saturating_add(*at);
+        put(bytes, place, high);
+        put(bytes, place.saturating_add(1), low);
     }
     Ok(())
 }
 
-// Where the last two bytes of the task's uuid stand in the journal of an added task.
-const NUMBERS: [usize; 5] = [56, 73, 131, 185, 242];
-
 // The journal after so many tasks were added, whose uuids end with their numbers.
 fn added(alloc: Global, count: u16) -> Result<Vec<u8>, Fail> {
     let mut bytes = ADDED[..29].to_vec(alloc)?;
-    let mut journal = ADDED;
     for number in 0..count {
-        let [high, low] = number.to_be_bytes();
-        for at in NUMBERS {
-            if at < 278 {
-                journal[at] = high;
-                journal[at + 1] = low;
-            }
-        }
-        bytes.extend_from_slice(&journal[29..])?;
+        push_added(&mut bytes, number)?;
     }
     Ok(bytes)
 }
@@ -203,23 +236,23 @@ fn prints_over_state(
     Ok(ended.out.bytes() == printed.as_bytes() && disk.bytes().first() == Some(&3))
 }
 
-// The first command writes the state in place of the 2,000 records.
+// Whether a line adds to a store of 2,000 tasks, and an undo takes that back. The first command writes the state in place of the
+// records.
+fn adds_over_state(alloc: Global, line: &str, disk: &mut MemoryDisk) -> Result<bool, Fail> {
+    Ok(
+        prints_over_state(alloc, disk, "count", "2000\n")?
+            && prints_over_state(alloc, disk, line, "Created task 2001.\n")?
+            && prints_over_state(alloc, disk, "count", "2001\n")?
+            && prints_over_state(alloc, disk, "undo", "Undone 5 operations.\n")?
+            && prints_over_state(alloc, disk, "count", "2000\n")?,
+    )
+}
+
 #[test]
 fn a_line_of_200_words_adds_to_2000_tasks(rt: HostRuntime) -> Result<(), Fail> {
     let alloc = rt.alloc();
     let mut disk = disk_of(alloc, &added(alloc, 2000)?, &[])?;
     let line = line_of(alloc, 200)?;
-    for (line, printed) in [
-        ("count", "2000\n"),
-        (line.as_str(), "Created task 2001.\n"),
-        ("count", "2001\n"),
-        ("undo", "Undone 5 operations.\n"),
-        ("count", "2000\n"),
-    ] {
-        assert!(rt;
-            prints_over_state(alloc, &mut disk, line, printed)?,
-            "{printed}"
-        );
-    }
+    assert!(rt; adds_over_state(alloc, line.as_str(), &mut disk)?);
     Ok(())
 }

@@ -17,8 +17,8 @@ use Rattle.tw_model.proofs.Sorted.{find_found}
 use Rattle.tw_urgency.specs.Stored.{moment_at}
 use Rattle.tw_urgency.specs.Status.{has_status}
 use Rattle.tw_urgency.specs.Dependencies.{uuid_in, written_so}
-use Rattle.timew_store.specs.declared.interval.Interval.{Interval}
-use Rattle.timew_store.specs.Placing.{spanning}
+use Rattle.timew_interval.specs.declared.interval.Interval.{Interval}
+use Rattle.timew_interval.specs.Placing.{spanning}
 use Rattle.timew_bridge.specs.declared.active.Active.{Active}
 use Rattle.timew_bridge.specs.Active.{started, started_from, later, latest_of, latest}
 use Rattle.timew_bridge.specs.Tail.{IsClosed}

@@ -2,8 +2,8 @@
 use Rattle.std.specs.Prelude.{is_some}
 use Rattle.std.proofs.Common.{◌≡◌, true, ℕ, zero, suc, ◌+◌, ◌≤◌, List, [], ◌∷◌, take, length, get_or, Option, Some, None, refl, subst, arith}
 use Rattle.std.specs.List.{AllByRecursion}
-use Rattle.timew_store.specs.declared.interval.Interval.{Interval}
-use Rattle.timew_store.specs.Interval.{AreRows, EndsBy}
+use Rattle.timew_interval.specs.declared.interval.Interval.{Interval}
+use Rattle.timew_interval.specs.Interval.{AreRows, EndsBy}
 use Rattle.timew_bridge.specs.Tail.{IsClosed}
 
 ends : (e : Option ℕ) (s : ℕ) → EndsBy e s → is_some e ≡ true

@@ -7,7 +7,7 @@ use Rattle.std.specs.List.{flat_map, AllByRecursion}
 use Rattle.tw_model.specs.Ops.{TasksValue}
 use Rattle.tw_world.specs.Folder.{same_bytes}
 use Rattle.uuid.specs.Text.{hyphenated_text, lower}
-use Rattle.timew_store.specs.declared.interval.Interval.{Interval}
+use Rattle.timew_interval.specs.declared.interval.Interval.{Interval}
 use Rattle.timew_bridge.specs.declared.active.Active.{Active}
 use Rattle.timew_bridge.specs.Active.{latest}
 use Rattle.timew_bridge.specs.Tail.{IsClosed}

@@ -9,7 +9,7 @@ use Rattle.tw_model.specs.Maps.{bytes_cmp}
 use Rattle.tw_model.specs.Ops.{TaskValue, TasksValue}
 use Rattle.tw_urgency.specs.Stored.{moment_at}
 use Rattle.tw_urgency.specs.Dependencies.{uuid_in}
-use Rattle.timew_store.specs.declared.interval.Interval.{Interval}
+use Rattle.timew_interval.specs.declared.interval.Interval.{Interval}
 use Rattle.timew_bridge.specs.Track.{ended_if, let_go_at, let_go_by, let_go_from, let_go, released, released_by}
 use Rattle.timew_bridge.specs.Known.{known_of, all_known, find_known, known_lets_go, known_end, known_by, released_known}
 

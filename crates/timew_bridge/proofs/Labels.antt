@@ -13,8 +13,8 @@ use Rattle.tw_world.specs.Folder.{bytes_cmp}
 use Rattle.tw_world.specs.Folder.{add_name as add_tag}
 use Rattle.tw_text.specs.Columns.{cell_text}
 use Rattle.tw_model.specs.Ops.{TaskValue}
-use Rattle.timew_store.specs.Interval.{is_tag, tags_rise}
-use Rattle.timew_store.proofs.ReadRows.{tags_added}
+use Rattle.timew_interval.specs.Interval.{is_tag, tags_rise}
+use Rattle.timew_interval.proofs.InOrder.{tags_added}
 use Rattle.timew_bridge.specs.Label.{unless_empty, with_text, with_texts, text_of, label_of}
 use Rattle.timew_bridge.proofs.Printable.{cell_tag}
 

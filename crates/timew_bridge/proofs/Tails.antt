@@ -2,9 +2,9 @@
 use Rattle.std.proofs.Common.{◌≡◌, ℕ, ◌+◌, ◌<◌, List, ◌++◌, take, length, sym, ap, subst, ◌∙◌, append-nil, arith}
 use Rattle.std.proofs.lemmas.List.{drop_all}
 use Rattle.tw_model.specs.Ops.{TasksValue}
-use Rattle.timew_store.specs.declared.interval.Interval.{Interval}
-use Rattle.timew_store.specs.Edit.{spliced}
-use Rattle.timew_store.specs.Interval.{limit, AreRows}
+use Rattle.timew_interval.specs.declared.interval.Interval.{Interval}
+use Rattle.timew_interval.specs.Edit.{spliced}
+use Rattle.timew_interval.specs.Interval.{limit, AreRows}
 use Rattle.timew_bridge.specs.Track.{tracked}
 use Rattle.timew_bridge.proofs.Order.{tracked_rows}
 

@@ -6,7 +6,7 @@ use Rattle.tw_model.specs.Maps.{same_bytes}
 use Rattle.tw_model.specs.Ops.{TaskValue, TasksValue}
 use Rattle.tw_urgency.specs.Stored.{moment_at}
 use Rattle.tw_urgency.specs.Dependencies.{uuid_in}
-use Rattle.timew_store.specs.declared.interval.Interval.{Interval}
+use Rattle.timew_interval.specs.declared.interval.Interval.{Interval}
 use Rattle.timew_bridge.specs.declared.active.Active.{Active}
 use Rattle.timew_bridge.specs.declared.known.Known.{Known}
 use Rattle.timew_bridge.specs.declared.drivers.Drivers.{Drivers}
@@ -14,9 +14,12 @@ use Rattle.timew_bridge.specs.Label.{label_of}
 use Rattle.timew_bridge.specs.Active.{latest}
 use Rattle.timew_bridge.specs.Track.{ended_if, let_go_at}
 
--- of one task: whether it was started, and when it was changed
+-- of a task with this start: whether it was started, and when it was changed
+abbrev pub known_with : (uuid : List ℕ) → TaskValue → (start : Option ℕ) → Known
+known_with u task start = record { uuid = u; is_started = is_some start; modified = moment_at (codes "modified") task }
+
 abbrev pub known_of : List ℕ × TaskValue → Known
-known_of e = record { uuid = e.0; is_started = is_some (moment_at (codes "start") e.1); modified = moment_at (codes "modified") e.1 }
+known_of e = known_with e.0 e.1 (moment_at (codes "start") e.1)
 
 -- of each task, in byte order of the uuids
 abbrev pub all_known : TasksValue → List Known

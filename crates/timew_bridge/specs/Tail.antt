@@ -1,9 +1,9 @@
 -- Edits of the last intervals.
 use Rattle.std.specs.Prelude.{◌≡◌, ◌+◌, true, is_some, List, length, take}
 use Rattle.std.specs.List.{AllByRecursion}
-use Rattle.timew_store.specs.declared.interval.Interval.{Interval}
-use Rattle.timew_store.specs.declared.edit.Edit.{Edit}
-use Rattle.timew_store.specs.Edit.{IsEditOf}
+use Rattle.timew_interval.specs.declared.interval.Interval.{Interval}
+use Rattle.timew_interval.specs.declared.edit.Edit.{Edit}
+use Rattle.timew_interval.specs.Edit.{IsEditOf}
 
 -- the interval has an end
 abbrev pub IsClosed : Interval → Type 0

@@ -7,8 +7,8 @@ use Rattle.tw_model.specs.Ops.{TaskValue, TasksValue}
 use Rattle.tw_urgency.specs.Stored.{moment_at}
 use Rattle.tw_urgency.specs.Dependencies.{uuid_in}
 use Rattle.tw_world.specs.Folder.{same_bytes}
-use Rattle.timew_store.specs.declared.interval.Interval.{Interval}
-use Rattle.timew_store.specs.Placing.{spanning}
+use Rattle.timew_interval.specs.declared.interval.Interval.{Interval}
+use Rattle.timew_interval.specs.Placing.{spanning}
 use Rattle.timew_bridge.specs.declared.active.Active.{Active}
 use Rattle.timew_bridge.specs.Label.{label_of}
 use Rattle.timew_bridge.specs.Active.{latest}

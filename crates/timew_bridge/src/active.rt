@@ -1,7 +1,8 @@
 // The task that was started last.
-ghost use Rattle.std.specs.Prelude.{◌≡◌, codes};
+ghost use Rattle.std.specs.Prelude.{◌≡◌, codes, cond, None};
 ghost use Rattle.tw_urgency.specs.Status.{has_status};
-ghost use Rattle.timew_bridge.specs.Active.{started, later, latest};
+ghost use Rattle.tw_urgency.specs.Stored.{moment_at};
+ghost use Rattle.timew_bridge.specs.Active.{started_from, later, latest};
 
 use tw_model::{TaskMap, Tasks};
 use tw_urgency::moment_at;
@@ -21,20 +22,25 @@ fn is_pending(task: &TaskMap) -> bool
     task.get("status") == Some("pending")
 }
 
-fn started(now: u64, uuid: Uuid, task: &TaskMap) -> Option<Active>
-    ensures { result ≡ started now (uuid, task.now) }
+/// When a task was started.
+pub fn start_of(task: &TaskMap) -> Option<u64>
+    ensures { result ≡ moment_at (codes "start") task.now }
 {
-    if !is_pending(task) {
-        return None;
-    }
-    match moment_at(task, "start") {
-        Some(start) if start <= now => Some(Active { uuid, start }),
+    moment_at(task, "start")
+}
+
+/// A task with this start, if it is pending or waiting and was started, now or before.
+pub fn started(now: u64, uuid: Uuid, task: &TaskMap, start: Option<u64>) -> Option<Active>
+    ensures { result ≡ cond (has_status (codes "pending") task.now) (started_from now uuid start) None }
+{
+    match start {
+        Some(start) if start <= now && is_pending(task) => Some(Active { uuid, start }),
         _ => None,
     }
 }
 
-// Of two, the one that was started later; the second one, if both were at once.
-fn later(one: Option<Active>, other: Option<Active>) -> Option<Active>
+/// Of two, the one that was started later; the second one, if both were at once.
+pub fn later(one: Option<Active>, other: Option<Active>) -> Option<Active>
     ensures { result ≡ later one other }
 {
     match (one, other) {
@@ -57,7 +63,7 @@ pub fn latest(tasks: &Tasks, now: u64) -> Option<Active>
 {
     let mut last = None;
     for (uuid, task) in tasks.iter() {
-        last = later(last, started(now, *uuid, task));
+        last = later(last, started(now, *uuid, task, start_of(task)));
     }
     last
 }

@@ -1,12 +1,13 @@
 // What drives intervals at a moment.
-ghost use Rattle.std.specs.Prelude.{IfOk};
-ghost use Rattle.timew_bridge.specs.Known.{AreDrivers};
+ghost use Rattle.std.specs.Prelude.{◌≡◌, IfOk};
+ghost use Rattle.timew_bridge.specs.Active.{latest};
+ghost use Rattle.timew_bridge.specs.Known.{all_known, AreDrivers};
 
-use crate::active::{Active, latest};
-use crate::known::{Known, all_known};
+use crate::active::{Active, later, start_of, started};
+use crate::known::{Known, known_of};
 use crate::label::label_of;
 use std::alloc::Global;
-use timew_store::Texts;
+use timew_interval::Texts;
 use tw_model::Tasks;
 use tw_world::{Memory, Moment};
 
@@ -29,13 +30,33 @@ impl Drop for Drivers {
     }
 }
 
+// What intervals ask of each task, in byte order of the uuids, and the task that was started last.
+struct Asked {
+    known: Vec<Known>,
+    active: Option<Active>,
+}
+
+fn asked_of(alloc: Global, tasks: &Tasks, now: u64) -> Result<Asked, Memory>
+    ensures known { IfOk result (λ asked. asked.known.items ≡ all_known tasks.now) }
+    ensures active { IfOk result (λ asked. asked.active ≡ latest tasks.now now) }
+{
+    let mut known = Vec::with_capacity(alloc, tasks.len() as usize)?;
+    let mut active = None;
+    for (uuid, task) in tasks.iter() {
+        let start = start_of(task);
+        known.push(known_of(*uuid, task, start))?;
+        active = later(active, started(now, *uuid, task, start));
+    }
+    Ok(Asked { known, active })
+}
+
 impl Drivers {
     /// What intervals ask of these tasks. It takes memory for each task.
     pub fn of(alloc: Global, tasks: &Tasks, now: Moment) -> Result<Drivers, Memory>
         ensures { IfOk result (AreDrivers tasks.now now.seconds) }
     {
-        let known = all_known(alloc, tasks)?;
-        match latest(tasks, now.seconds) {
+        let Asked { known, active } = asked_of(alloc, tasks, now.seconds)?;
+        match active {
             Some(active) => {
                 let label = label_of(alloc, tasks, active.uuid)?;
                 Ok(Drivers {

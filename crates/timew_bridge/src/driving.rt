@@ -3,8 +3,8 @@ ghost use Rattle.std.specs.Prelude.{◌≡◌, ◌≤◌, ◌<◌, ◌+◌, ◌+
 ghost use Rattle.std.specs.FinMap.{get};
 ghost use Rattle.std.specs.List.{AllByRecursion};
 ghost use Rattle.tw_world.specs.declared.moment.TheConstants.{MOMENT_LIMIT};
-ghost use Rattle.timew_store.specs.Edit.{edited};
-ghost use Rattle.timew_store.specs.Interval.{AreRows};
+ghost use Rattle.timew_interval.specs.Edit.{edited};
+ghost use Rattle.timew_interval.specs.Interval.{AreRows};
 ghost use Rattle.timew_bridge.specs.Tail.{IsClosed, IsTailOf};
 ghost use Rattle.timew_bridge.specs.Label.{label_of};
 ghost use Rattle.timew_bridge.specs.Track.{is_tracked, followed, tracked};
@@ -12,12 +12,13 @@ ghost use Rattle.timew_bridge.specs.Known.{AreDrivers, opened_with};
 ghost use Rattle.tw_model.specs.Ops.{TasksValue};
 ghost use Rattle.uuid.specs.Text.{hyphenated_text, lower};
 
-use crate::active::Active;
-use crate::closing::{all_given_way, all_released};
+use crate::active::{Active, latest};
+use crate::closing::{all_given_way, all_let_go, all_released};
 use crate::drivers::Drivers;
 use crate::free::{free_from, is_tracked};
+use crate::label::label_of;
 use std::alloc::Global;
-use timew_store::{Edit, Interval, Intervals, Texts};
+use timew_interval::{Edit, Interval, Intervals, Texts};
 use tw_model::Tasks;
 use tw_world::{Memory, Moment, Text};
 use uuid::Uuid;
@@ -114,6 +115,27 @@ fn drive(
     }
 }
 
+// The same by the tasks themselves.
+fn drive_by(
+    alloc: Global,
+    tasks: &Tasks,
+    front: &[Interval],
+    last: Vec<Interval>,
+    now: u64,
+) -> Result<Vec<Interval>, Memory>
+    requires { AllByRecursion IsClosed front.now }
+    ensures { IfOk result (λ next. front.now ++ next.items ≡ tracked tasks.now (front.now ++ last.items) now) }
+{
+    let last = all_let_go(alloc, tasks, now, last)?;
+    match latest(tasks, now) {
+        Some(active) => {
+            let label = label_of(alloc, tasks, active.uuid)?;
+            Ok(follow(alloc, &label, active, front, last, now)?)
+        }
+        None => Ok(last),
+    }
+}
+
 // The rows without the open one.
 fn closed_of(rows: &[Interval]) -> &[Interval]
     requires { AreRows rows.now }
@@ -167,7 +189,29 @@ pub fn track_tail(
     Ok(Edit { at, count, rows })
 }
 
-/// The intervals after tasks have driven them at a moment, as `track_tail` does an edit.
+/// The same by the tasks themselves, of which it looks at the start of each. It takes no memory for each task.
+pub fn track_tail_by(
+    alloc: Global,
+    tasks: &Tasks,
+    rows: &Intervals,
+    edit: Edit,
+    now: Moment,
+) -> Result<Edit, Memory>
+    requires { IsTailOf rows.now edit }
+    ensures tracked { IfOk result (λ e. edited e rows.now ≡ tracked tasks.now (edited edit rows.now) now.seconds) }
+    ensures tail { IfOk result (IsTailOf rows.now) }
+{
+    let Edit {
+        at,
+        count,
+        rows: last,
+    } = edit;
+    let (front, _) = rows.as_slice().split_at(at);
+    let rows = drive_by(alloc, tasks, front, last, now.seconds)?;
+    Ok(Edit { at, count, rows })
+}
+
+/// The intervals after tasks have driven them at a moment, as `track_tail_by` does an edit.
 pub fn track(
     alloc: Global,
     tasks: &Tasks,
@@ -176,8 +220,7 @@ pub fn track(
 ) -> Result<Intervals, Memory>
     ensures { IfOk result (λ next. next ≡ tracked tasks.now rows.now now.seconds) }
 {
-    let drivers = Drivers::of(alloc, tasks, now)?;
-    let edit = track_tail(alloc, &drivers, rows, tail_of(alloc, rows)?, now)?;
+    let edit = track_tail_by(alloc, tasks, rows, tail_of(alloc, rows)?, now)?;
     let copies = copy_rows(alloc, rows.as_slice(), edit.rows.len())?;
     Intervals::from_rows(copies).edited(edit)
 }

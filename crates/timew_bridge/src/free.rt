@@ -2,7 +2,7 @@
 ghost use Rattle.std.specs.Prelude.{◌≡◌, ◌∷◌, []};
 ghost use Rattle.timew_bridge.specs.Track.{is_tracked, free_from};
 
-use timew_store::Interval;
+use timew_interval::Interval;
 
 fn is_its_own(row: &Interval, name: &str, start: u64) -> bool
     ensures { result ≡ is_tracked name.now start (row.now ∷ []) }

@@ -6,7 +6,7 @@ ghost use Rattle.timew_bridge.specs.Label.{text_of, with_text, label, label_of};
 
 use std::alloc::Global;
 use std::collections::BTreeSet;
-use timew_store::Texts;
+use timew_interval::Texts;
 use tw_model::{TaskMap, Tasks};
 use tw_text::cell;
 use tw_urgency::is_tag;

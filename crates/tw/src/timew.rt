@@ -8,7 +8,7 @@ use crate::zone::zone;
 use std::alloc::Global;
 use std::io::ErrorKind;
 use timew_cli::timew_run;
-use timew_cmd::{WordsError, read_words};
+use timew_words::{WordsError, read_words};
 use tw_files::{FailingFolder, Stream, open_folder};
 use tw_time::Zone;
 use tw_world::{Disk, FailingDisk, Folder, Moment};

@@ -9,14 +9,14 @@ use Rattle.tw_journal.specs.Form.{Records, has_areas}
 use Rattle.tw_journal.proofs.Unique.{one_records}
 use Rattle.tw_protocol.specs.Chain.{Version, Grows}
 use Rattle.tw_http.specs.Link.{LinkModel, IsHonest, IsChainOf, IsServedChain}
-use Rattle.tw_replica.specs.State.{State}
+use Rattle.tw_state.specs.State.{State}
 use Rattle.tw_replica.specs.Replica.{magic, OpensTo, OpensToEither}
 use Rattle.tw_sync.specs.Answers.{IsLinkKept}
 use Rattle.tw_outcome.specs.Agreement.{Agrees}
 use Rattle.tw_sync.specs.Sync.{server_chain, IsEndIn}
 use Rattle.tw_sync.specs.declared.report.SyncReport.{SyncReport}
 use Rattle.tw_sync.proofs.Folds.{agrees_is_kept}
-use Rattle.tw_replica.proofs.CommittedChanges.{changes_are_group}
+use Rattle.tw_state.proofs.CommittedChanges.{changes_are_group}
 use Rattle.tw_sync.proofs.LocalSteps.{commit_agrees, undo_agrees}
 use Rattle.tw_outcome.specs.End.Answer.{Done as DoneSync}
 use Rattle.tw_outcome.proofs.Ends.{end_agrees as outcome_agrees}
@@ -24,17 +24,17 @@ use Rattle.tw_sync.specs.End.{counts_of}
 use Rattle.tw_world.specs.declared.ids.IdWords.{IdWords}
 use Rattle.tw_model.specs.declared.changes.Change.{Change}
 use Rattle.tw_model.specs.Changes.{changed_all, ops_of_all, group_of}
-use Rattle.tw_replica.specs.State.{applied}
+use Rattle.tw_state.specs.State.{applied}
 use Rattle.tw_replica.specs.Opening.{IsOpening, opened_bodies}
 use Rattle.tw_replica.specs.Prepared.{step_bodies}
-use Rattle.tw_commands.specs.Marks.{mask_changes}
+use Rattle.tw_changes.specs.Marks.{mask_changes}
 use Rattle.tw_commands.specs.Plan.{Plan, Work, step_in}
 use Rattle.tw_commands.specs.Plan.Work.{Changes, TakeBack}
 use Rattle.tw_commands.specs.Commands.{plan_of}
 use Rattle.tw_commands.specs.Asks.{answered_with}
 use Rattle.tw_commands.specs.Carried.{Carried, carried_by, carried_out}
-use Rattle.tw_commands.specs.declared.request.Request.{Request}
-use Rattle.tw_commands.specs.declared.refusal.Refusal.{Refusal}
+use Rattle.tw_changes.specs.declared.request.Request.{Request}
+use Rattle.tw_changes.specs.declared.refusal.Refusal.{Refusal}
 use Rattle.tw_commands.proofs.Applied.{by_plan}
 use Rattle.tw_cli.specs.Opening.{HasMore}
 use Rattle.tw_cli.specs.Input.{WithInput, with_input}
@@ -46,7 +46,7 @@ use Rattle.tw_cli.specs.Agreement.{OpensAgreeing, AllAgree, AgreementStays}
 use Rattle.tw_cli.specs.declared.asked.Job.{Job}
 use Rattle.tw_cli.specs.declared.asked.Job.TheVariants.{Here, Sync, Generate}
 use Rattle.tw_cli.specs.declared.asked.LineError.{LineError}
-use Rattle.tw_words.specs.declared.settings.server.ServerSettings.{ServerSettings}
+use Rattle.tw_settings.specs.declared.server.ServerSettings.{ServerSettings}
 use Rattle.tw_cli.specs.declared.cause.Cause.{Cause}
 use Rattle.tw_cli.specs.declared.cause.Cause.TheVariants.{Done, OutFault}
 use Rattle.tw_cli.proofs.Openings.{opens_one, leaves_either}

@@ -7,22 +7,22 @@ use Rattle.std.specs.Borrow.{Bor}
 use Rattle.tw_text.specs.Natural.{natural}
 use Rattle.tw_world.specs.declared.Moment.{Moment}
 use Rattle.tw_time.specs.declared.zone.Zone.{Zone}
-use Rattle.tw_filter.specs.declared.bad_word.BadWord.{BadWord}
-use Rattle.tw_filter.specs.declared.bad_word.WordKind.{WordKind}
-use Rattle.tw_filter.specs.declared.bad_word.WordKind.TheVariants as bad
-use Rattle.tw_filter.specs.declared.token.Token.{Token}
+use Rattle.tw_terms.specs.declared.bad_word.BadWord.{BadWord}
+use Rattle.tw_terms.specs.declared.bad_word.WordKind.{WordKind}
+use Rattle.tw_terms.specs.declared.bad_word.WordKind.TheVariants as bad
+use Rattle.tw_terms.specs.declared.token.Token.{Token}
 use Rattle.tw_words.specs.Lines.{Parts, parts_of_line}
 use Rattle.tw_words.specs.Commands.{filtering_of, rest_of}
 use Rattle.tw_words.specs.Modifications.{Clock, at_word, first_of, unless}
-use Rattle.tw_words.specs.Settings.{Pair, settings_in}
+use Rattle.tw_settings.specs.Settings.{Pair, settings_in}
 use Rattle.tw_words.specs.Faults.{filter_fault, lack_fault, rest_word, or_zero, number_behind, at_rest, if_there, is_amount, no_amount, no_seed, extra_at, numbers_fault, rest_fault, rest_fault_by, fault_of, unless_bad, filter_by, with_rest, judged}
 use Rattle.tw_words.specs.declared.command.AnyCommand.{AnyCommand}
 use Rattle.tw_words.specs.declared.command.AnyCommand.TheVariants as command
-use Rattle.tw_words.specs.declared.word_error.WordError.{WordError}
-use Rattle.tw_words.specs.declared.word_error.WordError.TheVariants.{Bad}
+use Rattle.tw_settings.specs.declared.word_error.WordError.{WordError}
+use Rattle.tw_settings.specs.declared.word_error.WordError.TheVariants.{Bad}
 use Rattle.tw_cli.specs.Asked.{syncing, job_by, job_judged, job_set, asked_by, HasFew}
-use Rattle.tw_words.specs.declared.settings.server.ServerSettings.{ServerSettings}
-use Rattle.tw_words.specs.Servers.{server_set}
+use Rattle.tw_settings.specs.declared.server.ServerSettings.{ServerSettings}
+use Rattle.tw_settings.specs.Servers.{server_set}
 
 -- of two faults there is none
 no_first : (a b : Option BadWord) → first_of a b ≡ None → a ≡ None

@@ -4,7 +4,7 @@ use Rattle.std.proofs.lemmas.List.{append-nil}
 use Rattle.tw_world.specs.declared.ids.IdWords.{IdWords}
 use Rattle.tw_model.specs.Ops.{TaskValue, TasksValue}
 use Rattle.tw_spawn.specs.Spawner.{SpawnerModel}
-use Rattle.tw_replica.specs.State.{State}
+use Rattle.tw_state.specs.State.{State}
 use Rattle.tw_replica.specs.Replica.{held_state}
 use Rattle.tw_replica.specs.declared.replica.Replica.{Replica}
 use Rattle.tw_hooks.specs.All.{AllHookedNow, AllRefused}
@@ -19,8 +19,8 @@ use Rattle.tw_commands.specs.Carried.{carried_by, carried_out, asked_by, asked_i
 use Rattle.tw_commands.specs.Ready.{IsReady, NotReady}
 use Rattle.tw_commands.specs.declared.plan.Plan.{Plan}
 use Rattle.tw_commands.specs.declared.ready.Ready.{Ready}
-use Rattle.tw_commands.specs.declared.request.Request.{Request}
-use Rattle.tw_commands.specs.declared.refusal.Refusal.{Refusal}
+use Rattle.tw_changes.specs.declared.request.Request.{Request}
+use Rattle.tw_changes.specs.declared.refusal.Refusal.{Refusal}
 use Rattle.tw_cli.specs.Hooks.{HooksAnswer, HooksRefuse, HooksCanAnswer, Answered}
 use Rattle.tw_cli.specs.Deciding.{IsShown, HaveBeenAsked, PlanAnswered, PlanRefused, DecidedBy, NotDecided, HasDrawn}
 use Rattle.tw_cli.specs.declared.carry.CarryError.{CarryError}

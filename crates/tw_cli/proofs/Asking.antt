@@ -5,13 +5,13 @@ use Rattle.std.specs.Global.{Vec, Global}
 use Rattle.std.specs.Result.{IsErrAnd}
 use Rattle.tw_world.specs.declared.Moment.{Moment}
 use Rattle.tw_time.specs.declared.zone.Zone.{Zone}
-use Rattle.tw_filter.specs.declared.token.Token.{Token}
-use Rattle.tw_words.specs.Gives.{Refuses}
+use Rattle.tw_terms.specs.declared.token.Token.{Token}
+use Rattle.tw_settings.specs.Gives.{Refuses}
 use Rattle.tw_words.specs.Lines.{Parts, parts_of_line}
-use Rattle.tw_words.specs.Settings.{Pair, settings_in}
+use Rattle.tw_settings.specs.Settings.{Pair, settings_in}
 use Rattle.tw_words.specs.Faults.{judged}
-use Rattle.tw_words.specs.declared.word_error.WordError.{WordError}
-use Rattle.tw_words.specs.declared.word_error.WordError.TheVariants as wrong
+use Rattle.tw_settings.specs.declared.word_error.WordError.{WordError}
+use Rattle.tw_settings.specs.declared.word_error.WordError.TheVariants as wrong
 use Rattle.tw_cli.specs.Asked.{job_by, job_judged, job_set, job_of, asked_by, IsAsked}
 use Rattle.tw_cli.specs.declared.asked.Job.{Job}
 use Rattle.tw_cli.specs.declared.asked.LineError.{LineError}

@@ -1,5 +1,5 @@
 -- What a crash leaves of the tasks and of the hours together.
-use Rattle.std.proofs.Common.{◌≡◌, ◌⊎◌, inl, inr, ◌∙◌, ap, sym, subst, refl, ℕ, List, ◌++◌, Option, Some, None, Result, Ok, Err}
+use Rattle.std.proofs.Common.{◌≡◌, ◌⊎◌, inl, inr, ◌∙◌, ap, sym, subst, ℕ, List, ◌++◌, Option, Some, None, Result, Ok, Err}
 use Rattle.std.specs.Global.{Vec}
 use Rattle.tw_world.specs.Disk.{DiskModel, LeavesOnly}
 use Rattle.tw_world.specs.Disk as disk
@@ -14,18 +14,18 @@ use Rattle.tw_world.proofs.Moments.{CountsNow, OnlyNow, started, weaker}
 use Rattle.tw_world.proofs.TurnRules.{turns_weaker}
 use Rattle.tw_journal.specs.Form.{has_areas}
 use Rattle.tw_spawn.specs.Spawner.{SpawnerModel}
-use Rattle.tw_replica.specs.State.{State}
+use Rattle.tw_state.specs.State.{State}
 use Rattle.tw_replica.specs.Opening.{IsOpenedReplica, IsOpening, opened_bodies}
 use Rattle.tw_replica.specs.Replica.{OpensTo, OpensToEither, held_state}
 use Rattle.tw_replica.specs.Prepared.{prepared_state, step_bodies}
 use Rattle.tw_replica.proofs.PreparedWritten.{prepared_leaves}
-use Rattle.tw_commands.specs.declared.request.Request.{Request}
+use Rattle.tw_changes.specs.declared.request.Request.{Request}
 use Rattle.timew_store.specs.Held.{Held}
 use Rattle.timew_store.specs.Held.{OpensTo as OpenTo}
 use Rattle.timew_store.specs.Loading.{OpensAlike}
-use Rattle.timew_store.specs.Edit.{edited}
+use Rattle.timew_interval.specs.Edit.{edited}
 use Rattle.timew_store.specs.Store.{OpensToChanged, changed, intervals_of}
-use Rattle.timew_store.specs.declared.interval.Interval.{Interval}
+use Rattle.timew_interval.specs.declared.interval.Interval.{Interval}
 use Rattle.timew_store.specs.declared.prepare.PreparedChange.{PreparedChange}
 use Rattle.timew_bridge.specs.declared.drivers.Drivers.{Drivers}
 use Rattle.timew_bridge.specs.Known.{AreDrivers}
@@ -40,7 +40,7 @@ use Rattle.tw_cli.specs.declared.carry.CarryError.{CarryError}
 use Rattle.tw_cli.specs.declared.hours.Before.{Before}
 use Rattle.tw_cli.proofs.Carrying.{leads}
 use Rattle.tw_cli.proofs.Driven.{written_run, both_unopened, alone_after}
-use Rattle.tw_cli.proofs.LoadedHours.{rows_read, change_leaves}
+use Rattle.tw_cli.proofs.LoadedHours.{alike_here, loaded_alike, rows_read, change_leaves}
 use Rattle.tw_cli.proofs.Openings.{records_of, opens_to, held_is}
 
 -- whatever a crash leaves of both at the end of a run
@@ -48,24 +48,6 @@ turns_end : {A B X Y : Type 0} (m : CrashModel A X) (n : CrashModel B Y) (P : X 
 turns_end m n P _ _ _ _ (at_rest a b here) = here
 turns_end m n P _ _ _ _ (first a mid b c d moves rest) = turns_end m n P mid b c d rest
 turns_end m n P _ _ _ _ (second a b mid c d moves rest) = turns_end m n P a mid c d rest
-
-module _ {F J : Type 0} (folders : FolderModel F) (tracks : DiskModel J) where
-  -- what rests opens to what it does
-  alike_here : (f : F) (j : J) (held : Held) → Opens folders tracks f j held → (x : Files) (y : List ℕ) → folders.leaves f x → tracks.leaves j y → OpensAlike folders tracks f j x y
-  alike_here f j held o x y left left' = record {
-    before = y;
-    left = left';
-    alike = λ held opens. subst (λ (files : Files). OpenTo files y held) (sym (o.settled x left)) opens;
-    files_stay = inl (o.settled x left);
-    journal_stays = inl refl;
-  }
-
-  -- hours that are ready were loaded, or left alone
-  loading_runs : (f0 f1 : F) (j0 j1 : J) (held : Held) → Opens folders tracks f0 j0 held → LeavesLoaded folders tracks f0 f1 j0 j1 → InTurns folders (crash_of tracks) (OpensAlike folders tracks f0 j0) f0 j0 f1 j1
-  loading_runs f0 f1 j0 j1 held o (inr alike) = alike o.told o.settled o.tells
-  loading_runs f0 f1 j0 j1 held o (inl same) =
-      subst (λ (f : F). InTurns folders (crash_of tracks) (OpensAlike folders tracks f0 j0) f0 j0 f j1) (sym same.0)
-      (subst (λ (j : J). InTurns folders (crash_of tracks) (OpensAlike folders tracks f0 j0) f0 j0 f0 j) (sym same.1) (at_rest f0 j0 (alike_here f0 j0 held o)))
 
 module _ {D P F J : Type 0} (m : DiskModel D) (only_now : OnlyNow m) (counts_now : CountsNow m) (hooks : SpawnerModel P) (folders : FolderModel F) (tracks : DiskModel J) (request : Request) (ids : IdWords) (d0 mid d1 : D) (p0 p1 : P)
     (f0 f1 : F) (j0 j1 : J) (made : Made) (is : IsMade m hooks request ids d0 mid p0 p1 made) where
@@ -100,11 +82,11 @@ module _ {D P F J : Type 0} (m : DiskModel D) (only_now : OnlyNow m) (counts_now
 
     opening_runs : LeavesOnly m d0 mid (λ z. (x : Files) (y : List ℕ) → folders.leaves f0 x → tracks.leaves j0 y → Order z x y)
     opening_runs = weaker m d0 mid (IsOpening m d0) (λ z. (x : Files) (y : List ℕ) → folders.leaves f0 x → tracks.leaves j0 y → Order z x y) (is.leaves tells)
-        (λ z opening x y there there'. inl (inl opening, inl (alike_here folders tracks f0 j0 held o x y there there')))
+        (λ z opening x y there there'. inl (inl opening, inl (alike_here folders tracks f0 j0 o.settled x y there there')))
 
     module _ (fm : F) (jm : J) (loaded : LeavesLoaded folders tracks f0 fm j0 jm) where
       run : InTurns folders (crash_of tracks) (OpensAlike folders tracks f0 j0) f0 j0 fm jm
-      run = loading_runs folders tracks f0 fm j0 jm held o loaded
+      run = loaded_alike folders tracks f0 fm j0 jm loaded o.told o.settled o.tells
 
       load_runs : InTurns folders (crash_of tracks) (λ x y. (z : List ℕ) → m.leaves mid z → Order z x y) f0 j0 fm jm
       load_runs = turns_weaker folders (crash_of tracks) (OpensAlike folders tracks f0 j0) (λ x y. (z : List ℕ) → m.leaves mid z → Order z x y) (λ x y alike z there. inl (before_step z there, inl alike)) f0 j0 fm jm run

@@ -5,7 +5,7 @@ use Rattle.tw_world.specs.Source.{SourceModel}
 use Rattle.tw_world.specs.declared.ids.IdWords.{IdWords}
 use Rattle.tw_journal.specs.Journal.{IsOpenOn, is_closed}
 use Rattle.tw_replica.specs.declared.error.WriteError.TheVariants as writes
-use Rattle.tw_replica.specs.State.{Stands, applied}
+use Rattle.tw_state.specs.State.{Stands, applied}
 use Rattle.tw_journal.specs.Form.{has_areas}
 use Rattle.tw_replica.specs.Opening.{IsOpenedReplica, opened_bodies}
 use Rattle.tw_replica.specs.Replica.{magic, OpensToEither, IsReplicaOn, held_state, is_replica_closed, OpeningRefused}
@@ -18,7 +18,7 @@ use Rattle.tw_commands.specs.Carried.{Carried, asked_in, carried_out}
 use Rattle.tw_commands.specs.Commands.{ids_after}
 use Rattle.tw_commands.specs.Ready.{IsDecided}
 use Rattle.tw_commands.specs.declared.ready.Ready.{Ready}
-use Rattle.tw_commands.specs.declared.request.Request.{Request}
+use Rattle.tw_changes.specs.declared.request.Request.{Request}
 use Rattle.tw_cli.specs.Opening.{HasMore, Stays}
 use Rattle.tw_cli.specs.Cause.{may_write, open_cause, input_cause, hook_cause, carry_cause}
 use Rattle.tw_cli.specs.Hooks.{celled, Answered, AnswersRefused, HooksKept}

@@ -11,7 +11,7 @@ use Rattle.tw_world.specs.declared.Moment.{Moment}
 use Rattle.tw_world.specs.declared.ids.IdWords.{IdWords}
 use Rattle.tw_spawn.specs.Spawner.{SpawnerModel}
 use Rattle.tw_model.specs.Ops.{TasksValue}
-use Rattle.tw_replica.specs.State.{State}
+use Rattle.tw_state.specs.State.{State}
 use Rattle.tw_replica.specs.Replica.{held_state}
 use Rattle.tw_replica.specs.Replica.{LeavesRecords as LeavesAny}
 use Rattle.tw_replica.specs.Prepared.{prepared_state, prepared_bodies, RecordsOrAll, IsLengthReady}
@@ -20,9 +20,9 @@ use Rattle.tw_journal.specs.declared.journal.Journal.{Journal}
 use Rattle.tw_replica.specs.declared.step.write.Prepared.{Prepared}
 use Rattle.tw_replica.specs.declared.error.OpenError.{OpenError}
 use Rattle.tw_replica.specs.declared.error.OpenError.TheVariants as opening
-use Rattle.tw_commands.specs.declared.request.Request.{Request}
-use Rattle.tw_commands.specs.declared.refusal.Refusal.{Refusal}
-use Rattle.tw_commands.specs.declared.refusal.Refusal.TheVariants as refusal
+use Rattle.tw_changes.specs.declared.request.Request.{Request}
+use Rattle.tw_changes.specs.declared.refusal.Refusal.{Refusal}
+use Rattle.tw_changes.specs.declared.refusal.Refusal.TheVariants as refusal
 use Rattle.tw_hooks.specs.declared.error.HookError.{HookError}
 use Rattle.tw_hooks.specs.declared.error.HookError.TheVariants as hook
 use Rattle.timew_store.specs.Loading.{Stays as HoursStay}
@@ -32,12 +32,12 @@ use Rattle.timew_store.proofs.Stays.{MayStay, DiskMayStay}
 use Rattle.timew_bridge.specs.Known.{AreDrivers}
 use Rattle.tw_cli.specs.Cause.{end_of, may_write, open_cause, input_cause, refusal_cause, hook_cause, carry_cause, ended}
 use Rattle.tw_cli.specs.Crash.{LeavesRecords, LeavesCommand}
-use Rattle.tw_cli.specs.Driving.{driven, driven_size, is_driving, has_moved, AreUnopened, AreDriven, AreDrivenIf, AreLeft}
+use Rattle.tw_cli.specs.Driving.{driven, driven_size, is_driving, has_moved, AreUnopened, AreDriven, AreDrivenIf, AreKept, AreLeft}
 use Rattle.tw_cli.specs.Hooks.{Answered}
 use Rattle.tw_cli.specs.Hours.{HoursWell, HoursCanIf, HoursCan, HoursBy}
 use Rattle.tw_cli.specs.Input.{WithInput, with_input}
 use Rattle.tw_cli.specs.Opening.{Stays}
-use Rattle.tw_cli.specs.Ready.{IsBefore, KnowsTasks, SparesHours, AreReady, PassesHours, ChangeRefused, HoursRefused, HoursEnd, IsWritten, WriteEnds, IsMade, EndsUnready, EndsReady, MadeEnds}
+use Rattle.tw_cli.specs.Ready.{IsBefore, KnowsTasks, SparesHours, AreReady, PassesHours, ChangeRefused, HoursRefused, HoursEnd, IsWritten, WriteEnds, IsMade, LeavesLoaded, EndsUnready, EndsReady, MadeEnds}
 use Rattle.tw_cli.specs.Run.{CarriedOut, HeldBack, CanBeCarriedOut, CanCarryOut, NotCarried, Shows}
 use Rattle.tw_cli.specs.declared.carry.Made.{Made}
 use Rattle.tw_cli.specs.declared.carry.CarryError.{CarryError}
@@ -48,7 +48,7 @@ use Rattle.tw_cli.specs.declared.input.InputError.TheVariants as input
 use Rattle.tw_cli.specs.declared.cause.Cause.{Cause}
 use Rattle.tw_cli.specs.declared.cause.Cause.TheVariants as causes
 use Rattle.tw_cli.proofs.Carrying.{above_limit, runs_so, held_back, can_leads, here, answered_there, passes_limit, fits_always, has_answers, leaves_written}
-use Rattle.tw_cli.proofs.LoadedHours.{unopened_stays, left_unloaded, unloaded_wants, loaded_stays, have_become}
+use Rattle.tw_cli.proofs.LoadedHours.{unopened_kept, loaded_alike, left_unloaded, unloaded_wants, loaded_stays, have_become}
 use Rattle.tw_cli.proofs.Endings.{carry_fails}
 use Rattle.tw_cli.proofs.Openings.{rose_later, opens_to, stays_open}
 use Rattle.tw_cli.proofs.Taking.{took_same}
@@ -70,14 +70,14 @@ rests a b same = by (eqb_tells a b)
 module _ {F J : Type 0} (folders : FolderModel F) (tracks : DiskModel J) where
   module _ (f0 f1 : F) (j0 j1 : J) where
     left_opening : (e : OpenError) → AreUnopened folders tracks f0 f1 j0 j1 → AreLeft folders tracks f0 f1 j0 j1 (open_cause e)
-    left_opening opening.Disk u = unopened_stays folders tracks f0 f1 j0 j1 u
+    left_opening opening.Disk u = unopened_kept folders tracks f0 f1 j0 j1 u
     left_opening (opening.Damaged offset) u = u
-    left_opening opening.Memory u = unopened_stays folders tracks f0 f1 j0 j1 u
+    left_opening opening.Memory u = unopened_kept folders tracks f0 f1 j0 j1 u
 
     left_taking : (e : InputError) → AreUnopened folders tracks f0 f1 j0 j1 → AreLeft folders tracks f0 f1 j0 j1 (input_cause e)
     left_taking input.Fault u = u
     left_taking input.TooLong u = u
-    left_taking input.Memory u = unopened_stays folders tracks f0 f1 j0 j1 u
+    left_taking input.Memory u = unopened_kept folders tracks f0 f1 j0 j1 u
 
     left_refused : (r : Refusal) → AreUnopened folders tracks f0 f1 j0 j1 → AreLeft folders tracks f0 f1 j0 j1 (refusal_cause r)
     left_refused refusal.NoMatch u = u
@@ -91,7 +91,7 @@ module _ {F J : Type 0} (folders : FolderModel F) (tracks : DiskModel J) where
     left_hooked (hook.Refused name status) u = u
     left_hooked (hook.Answer name) u = u
     left_hooked hook.Fault u = u
-    left_hooked hook.Memory u = unopened_stays folders tracks f0 f1 j0 j1 u
+    left_hooked hook.Memory u = unopened_kept folders tracks f0 f1 j0 j1 u
 
     -- nothing is made, and the hours are as they were
     pub left_unopened : (e : CarryError) → SparesHours e → AreUnopened folders tracks f0 f1 j0 j1 → AreLeft folders tracks f0 f1 j0 j1 (carry_cause e)
@@ -99,40 +99,40 @@ module _ {F J : Type 0} (folders : FolderModel F) (tracks : DiskModel J) where
     left_unopened (carry.Input e) spares u = left_taking e u
     left_unopened (carry.Refused r) spares u = left_refused r u
     left_unopened (carry.Hook e) spares u = left_hooked e u
-    left_unopened (carry.TooLong bytes) spares u = unopened_stays folders tracks f0 f1 j0 j1 u
-    left_unopened carry.Disk spares u = unopened_stays folders tracks f0 f1 j0 j1 u
-    left_unopened carry.Memory spares u = unopened_stays folders tracks f0 f1 j0 j1 u
+    left_unopened (carry.TooLong bytes) spares u = unopened_kept folders tracks f0 f1 j0 j1 u
+    left_unopened carry.Disk spares u = unopened_kept folders tracks f0 f1 j0 j1 u
+    left_unopened carry.Memory spares u = unopened_kept folders tracks f0 f1 j0 j1 u
     left_unopened (carry.Load e) spares u = absurd spares
     left_unopened (carry.HoursTooLong bytes) spares u = absurd spares
     left_unopened carry.Track spares u = absurd spares
 
     -- they were not ready
-    pub left_unready : (before : Option Before) (now : ℕ) (tasks : TasksValue) (e : CarryError) → HoursRefused folders tracks f0 f1 j0 j1 now before tasks e → AreLeft folders tracks f0 f1 j0 j1 (carry_cause e)
-    left_unready None now tasks e r = absurd r
-    left_unready (Some b) now tasks (carry.Load e) r = left_unloaded folders tracks f0 f1 j0 j1 e r.0 r.1
-    left_unready (Some b) now tasks (carry.HoursTooLong bytes) r = r.stays
-    left_unready (Some b) now tasks carry.Memory r = r
-    left_unready (Some b) now tasks (carry.Open e) r = absurd r
-    left_unready (Some b) now tasks (carry.Input e) r = absurd r
-    left_unready (Some b) now tasks (carry.Refused e) r = absurd r
-    left_unready (Some b) now tasks (carry.Hook e) r = absurd r
-    left_unready (Some b) now tasks (carry.TooLong bytes) r = absurd r
-    left_unready (Some b) now tasks carry.Disk r = absurd r
-    left_unready (Some b) now tasks carry.Track r = absurd r
+    pub left_unready : (before : Option Before) (now : ℕ) (tasks : TasksValue) (e : CarryError) → LeavesLoaded folders tracks f0 f1 j0 j1 → HoursRefused folders tracks f0 f1 j0 j1 now before tasks e → AreLeft folders tracks f0 f1 j0 j1 (carry_cause e)
+    left_unready None now tasks e loaded r = absurd r
+    left_unready (Some b) now tasks (carry.Load e) loaded r = left_unloaded folders tracks f0 f1 j0 j1 e r.0 r.1 (loaded_alike folders tracks f0 f1 j0 j1 loaded)
+    left_unready (Some b) now tasks (carry.HoursTooLong bytes) loaded r = record { stays = r.stays; any_moment = loaded_alike folders tracks f0 f1 j0 j1 loaded }
+    left_unready (Some b) now tasks carry.Memory loaded r = record { stays = r; any_moment = loaded_alike folders tracks f0 f1 j0 j1 loaded }
+    left_unready (Some b) now tasks (carry.Open e) loaded r = absurd r
+    left_unready (Some b) now tasks (carry.Input e) loaded r = absurd r
+    left_unready (Some b) now tasks (carry.Refused e) loaded r = absurd r
+    left_unready (Some b) now tasks (carry.Hook e) loaded r = absurd r
+    left_unready (Some b) now tasks (carry.TooLong bytes) loaded r = absurd r
+    left_unready (Some b) now tasks carry.Disk loaded r = absurd r
+    left_unready (Some b) now tasks carry.Track loaded r = absurd r
 
     -- they were ready, and then left alone
     pub ready_stays : MayStay folders → DiskMayStay tracks → (before : Option Before) (now : ℕ) (new : State) (hours : Option PreparedChange) → AreReady folders tracks now before new f0 f1 j0 j1 hours → HoursStay folders tracks f0 f1 j0 j1
-    ready_stays folder_stays disk_stays None now new None ready = unopened_stays folders tracks f0 f1 j0 j1 ready
+    ready_stays folder_stays disk_stays None now new None ready = (unopened_kept folders tracks f0 f1 j0 j1 ready).stays
     ready_stays folder_stays disk_stays None now new (Some change) ready = absurd ready
-    ready_stays folder_stays disk_stays (Some b) now new None ready = unopened_stays folders tracks f0 f1 j0 j1 ready.1
+    ready_stays folder_stays disk_stays (Some b) now new None ready = (unopened_kept folders tracks f0 f1 j0 j1 ready.1).stays
     ready_stays folder_stays disk_stays (Some b) now new (Some change) ready = loaded_stays folders tracks ready.1.store f0 f1 j0 j1 ready.1.loads folder_stays disk_stays
 
   pub both_unopened : (f0 f1 f2 : F) (j0 j1 j2 : J) → AreUnopened folders tracks f0 f1 j0 j1 → AreUnopened folders tracks f1 f2 j1 j2 → AreUnopened folders tracks f0 f2 j0 j2
   both_unopened f0 f1 f2 j0 j1 j2 one two = (two.0 ∙ one.0, two.1 ∙ one.1)
 
   -- what is so of hours that are left alone after they were ready
-  then_alone : (f0 f1 f2 : F) (j0 j1 j2 : J) → HoursStay folders tracks f0 f1 j0 j1 → AreUnopened folders tracks f1 f2 j1 j2 → HoursStay folders tracks f0 f2 j0 j2
-  then_alone f0 f1 f2 j0 j1 j2 stays same = subst (λ (f : F). HoursStay folders tracks f0 f j0 j2) (sym same.0) (subst (λ (j : J). HoursStay folders tracks f0 f1 j0 j) (sym same.1) stays)
+  then_alone : (f0 f1 f2 : F) (j0 j1 j2 : J) → AreKept folders tracks f0 f1 j0 j1 → AreUnopened folders tracks f1 f2 j1 j2 → AreKept folders tracks f0 f2 j0 j2
+  then_alone f0 f1 f2 j0 j1 j2 kept same = subst (λ (f : F). AreKept folders tracks f0 f j0 j2) (sym same.0) (subst (λ (j : J). AreKept folders tracks f0 f1 j0 j) (sym same.1) kept)
 
   module _ (f0 f1 f2 : F) (j0 j1 j2 : J) (folder_kept : crash.FaultsRise folders f0 f1) (track_kept : FaultsRise tracks j0 j1) where
     rose_since : Rose (folders.faults f1) (folders.faults f2) ⊎ Rose (tracks.faults j1) (tracks.faults j2) → Rose (folders.faults f0) (folders.faults f2) ⊎ Rose (tracks.faults j0) (tracks.faults j2)
@@ -203,11 +203,16 @@ module _ {D P F J : Type 0} (m : DiskModel D) (hooks : SpawnerModel P) (folders 
       )
 
   -- the hours, if it failed once they were ready
+  ready_kept : MayStay folders → DiskMayStay tracks → (error : Option CarryError) (r : EndsReady m folders tracks made mid d1 f0 f1 j0 j1 error) → AreKept folders tracks f0 r.mid j0 r.track
+  ready_kept folder_stays disk_stays error r = record {
+    stays = ready_stays folders tracks f0 r.mid j0 r.track folder_stays disk_stays made.before made.at.seconds (prepared_state made.ready.prepared) r.hours r.ready;
+    any_moment = loaded_alike folders tracks f0 r.mid j0 r.track r.loaded;
+  }
+
   hours_left : MayStay folders → DiskMayStay tracks → (e : CarryError) → EndsReady m folders tracks made mid d1 f0 f1 j0 j1 (Some e) → AreLeft folders tracks f0 f1 j0 j1 (carry_cause e)
   hours_left folder_stays disk_stays carry.Track r = failed_since folders tracks f0 r.mid f1 j0 r.track j1 r.folder_kept r.track_kept r.hours r.ends.1
-  hours_left folder_stays disk_stays carry.Disk r = then_alone folders tracks f0 r.mid f1 j0 r.track j1 (ready_stays folders tracks f0 r.mid j0 r.track folder_stays disk_stays made.before made.at.seconds (prepared_state made.ready.prepared) r.hours r.ready) r.ends.1
-  hours_left folder_stays disk_stays (carry.TooLong bytes) r =
-      then_alone folders tracks f0 r.mid f1 j0 r.track j1 (ready_stays folders tracks f0 r.mid j0 r.track folder_stays disk_stays made.before made.at.seconds (prepared_state made.ready.prepared) r.hours r.ready) r.ends.1
+  hours_left folder_stays disk_stays carry.Disk r = then_alone folders tracks f0 r.mid f1 j0 r.track j1 (ready_kept folder_stays disk_stays (Some carry.Disk) r) r.ends.1
+  hours_left folder_stays disk_stays (carry.TooLong bytes) r = then_alone folders tracks f0 r.mid f1 j0 r.track j1 (ready_kept folder_stays disk_stays (Some (carry.TooLong bytes)) r) r.ends.1
   hours_left folder_stays disk_stays (carry.Open e) r = absurd r.ends
   hours_left folder_stays disk_stays (carry.Input e) r = absurd r.ends
   hours_left folder_stays disk_stays (carry.Refused e) r = absurd r.ends
@@ -217,7 +222,7 @@ module _ {D P F J : Type 0} (m : DiskModel D) (hooks : SpawnerModel P) (folders 
   hours_left folder_stays disk_stays (carry.HoursTooLong bytes) r = absurd r.ends
 
   pub hours_failed : MayStay folders → DiskMayStay tracks → (e : CarryError) → EndsUnready m folders tracks made mid d1 f0 f1 j0 j1 e ⊎ EndsReady m folders tracks made mid d1 f0 f1 j0 j1 (Some e) → AreLeft folders tracks f0 f1 j0 j1 (carry_cause e)
-  hours_failed folder_stays disk_stays e (inl u) = left_unready folders tracks f0 f1 j0 j1 made.before made.at.seconds (prepared_state made.ready.prepared).tasks e u.refused
+  hours_failed folder_stays disk_stays e (inl u) = left_unready folders tracks f0 f1 j0 j1 made.before made.at.seconds (prepared_state made.ready.prepared).tasks e u.leaves u.refused
   hours_failed folder_stays disk_stays e (inr r) = hours_left folder_stays disk_stays e r
 
   -- ---- a request that does not drive them

@@ -13,18 +13,18 @@ use Rattle.timew_store.specs.declared.error.LoadError.{LoadError}
 use Rattle.timew_store.specs.declared.error.LoadError.TheVariants as load
 use Rattle.tw_sync.specs.declared.error.SyncError.{SyncError}
 use Rattle.tw_sync.specs.declared.error.SyncError.TheVariants as syncs
-use Rattle.tw_commands.specs.declared.request.Request.{Request}
+use Rattle.tw_changes.specs.declared.request.Request.{Request}
 use Rattle.tw_hooks.specs.declared.error.HookError.{HookError}
 use Rattle.tw_hooks.specs.declared.error.HookError.TheVariants as hook
 use Rattle.tw_spawn.specs.Spawner.{SpawnerModel}
-use Rattle.tw_commands.specs.declared.refusal.Refusal.{Refusal}
-use Rattle.tw_commands.specs.declared.refusal.Refusal.TheVariants as refusal
+use Rattle.tw_changes.specs.declared.refusal.Refusal.{Refusal}
+use Rattle.tw_changes.specs.declared.refusal.Refusal.TheVariants as refusal
 use Rattle.tw_ending.specs.Ending.{EndsPrinting}
 use Rattle.tw_ending.specs.Ending.End.{Failed}
 use Rattle.tw_cli.specs.Cause.{end_of, open_cause, input_cause, refusal_cause, hook_cause, track_cause, load_cause, carry_cause, journal_cause, sync_cause, failure_cause}
 use Rattle.tw_cli.specs.Run.{NotCarried, GivesBy, Gives, IsDoneOrWant}
 use Rattle.tw_cli.specs.Syncing.{NotSynced, SyncGivesBy, SyncGives}
-use Rattle.tw_words.specs.declared.settings.server.ServerSettings.{ServerSettings}
+use Rattle.tw_settings.specs.declared.server.ServerSettings.{ServerSettings}
 use Rattle.tw_replica.specs.declared.error.OpenError.{OpenError}
 use Rattle.tw_replica.specs.declared.error.OpenError.TheVariants as opening
 use Rattle.tw_cli.specs.declared.input.InputError.{InputError}

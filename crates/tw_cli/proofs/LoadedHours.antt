@@ -2,24 +2,26 @@
 use Rattle.std.proofs.Common.{◌≡◌, ◌⊎◌, inl, inr, ℕ, List, ◌++◌, true, false, Result, Option, Some, None, Ok, Err, refl, sym, ap, subst, ◌∙◌, length, arith}
 use Rattle.tw_world.specs.Disk.{DiskModel, Rose}
 use Rattle.tw_world.specs.Folder.{Files, FolderModel}
+use Rattle.tw_world.specs.Crash.{IsStable}
 use Rattle.tw_world.specs.Turns.{InTurns, crash_of}
+use Rattle.tw_world.specs.Turns.InTurns.{at_rest}
 use Rattle.tw_journal.specs.Record.{rows as row_of_records}
 use Rattle.tw_journal.specs.declared.error.JournalError.TheVariants as fault
 use Rattle.tw_journal.proofs.Offsets.{open_records}
 use Rattle.tw_journal.proofs.Unique.{one_records}
 use Rattle.tw_model.specs.Ops.{TasksValue}
-use Rattle.tw_replica.specs.State.{State}
-use Rattle.timew_store.specs.Body.{FileChange}
-use Rattle.timew_store.specs.Changes.{changes_to}
-use Rattle.timew_store.specs.Edit.{edited}
+use Rattle.tw_state.specs.State.{State}
+use Rattle.timew_month.specs.Body.{FileChange}
+use Rattle.timew_month.specs.Changes.{changes_to}
+use Rattle.timew_interval.specs.Edit.{edited}
 use Rattle.timew_store.specs.History.{Stands}
 use Rattle.timew_store.specs.Held.{magic, Held, OpensTo, IfTheyOpen, IsAtRest, held_by, finished}
-use Rattle.timew_store.specs.Loading.{Stays}
+use Rattle.timew_store.specs.Loading.{Stays, OpensAlike, LeavesAlike}
 use Rattle.timew_store.specs.Prepared.{IsPreparedChange, OnPrepared, PrepareRefused, WriteFailed}
-use Rattle.timew_store.specs.Rows.{rows_of}
+use Rattle.timew_month.specs.Rows.{rows_of}
 use Rattle.timew_store.specs.Store.{IsStoreOn, IsLoadedStore, LoadsStore, LoadRefused, LoadSparesDisk, IsLoadFault, LeavesChange, IsChangedTo, OpensToChanged, OnFolders, intervals_of, rows_after, changed, change_bodies}
-use Rattle.timew_store.specs.declared.edit.Edit.{Edit}
-use Rattle.timew_store.specs.declared.interval.Interval.{Interval}
+use Rattle.timew_interval.specs.declared.edit.Edit.{Edit}
+use Rattle.timew_interval.specs.declared.interval.Interval.{Interval}
 use Rattle.timew_store.specs.declared.store.Store.{Store}
 use Rattle.timew_store.specs.declared.prepare.PreparedChange.{PreparedChange}
 use Rattle.timew_store.specs.declared.error.LoadError.{LoadError}
@@ -33,8 +35,8 @@ use Rattle.timew_store.proofs.Stays.{MayStay, DiskMayStay}
 use Rattle.timew_bridge.specs.declared.drivers.Drivers.{Drivers}
 use Rattle.timew_bridge.specs.Known.{AreDrivers}
 use Rattle.tw_cli.specs.Cause.{load_cause}
-use Rattle.tw_cli.specs.Driving.{driven, Opens, AreUnopened, HaveBecome, AreLeft}
-use Rattle.tw_cli.specs.Ready.{CanBeWritten, AreReady, ChangeEnds, PassesHours}
+use Rattle.tw_cli.specs.Driving.{driven, Opens, AreUnopened, HaveBecome, AreKept, AreLeft}
+use Rattle.tw_cli.specs.Ready.{CanBeWritten, AreReady, ChangeEnds, PassesHours, LeavesLoaded}
 use Rattle.tw_cli.specs.declared.hours.Before.{Before}
 use Rattle.tw_cli.specs.declared.cause.Cause.TheVariants as causes
 
@@ -48,22 +50,40 @@ module _ {F J : Type 0} (m : FolderModel F) (n : DiskModel J) where
   stays_same : (f : F) (j : J) → Stays m n f f j j
   stays_same f j = record { opens = λ told settled tells held opens. opens; files = λ told tells. inl refl; journal = λ tells. inl refl }
 
+  -- what rests opens to what it does
+  pub alike_here : (f : F) (j : J) → IsStable m f → (x : Files) (y : List ℕ) → m.leaves f x → n.leaves j y → OpensAlike m n f j x y
+  alike_here f j settled x y left left' = record {
+    before = y;
+    left = left';
+    alike = λ held opens. subst (λ (files : Files). OpensTo files y held) (sym (settled x left)) opens;
+    files_stay = inl (settled x left);
+    journal_stays = inl refl;
+  }
+
+  kept_same : (f : F) (j : J) → AreKept m n f f j j
+  kept_same f j = record { stays = stays_same f j; any_moment = λ told settled tells. at_rest f j (alike_here f j settled) }
+
   -- what is as it was opens to what it did
-  pub unopened_stays : (f0 f1 : F) (j0 j1 : J) → AreUnopened m n f0 f1 j0 j1 → Stays m n f0 f1 j0 j1
-  unopened_stays f0 f1 j0 j1 same = subst (λ (f : F). Stays m n f0 f j0 j1) (sym same.0) (subst (λ (j : J). Stays m n f0 f0 j0 j) (sym same.1) (stays_same f0 j0))
+  pub unopened_kept : (f0 f1 : F) (j0 j1 : J) → AreUnopened m n f0 f1 j0 j1 → AreKept m n f0 f1 j0 j1
+  unopened_kept f0 f1 j0 j1 same = subst (λ (f : F). AreKept m n f0 f j0 j1) (sym same.0) (subst (λ (j : J). AreKept m n f0 f0 j0 j) (sym same.1) (kept_same f0 j0))
+
+  -- hours that are ready were loaded, or left alone
+  pub loaded_alike : (f0 f1 : F) (j0 j1 : J) → LeavesLoaded m n f0 f1 j0 j1 → LeavesAlike m n f0 f1 j0 j1
+  loaded_alike f0 f1 j0 j1 (inl same) = (unopened_kept f0 f1 j0 j1 same).any_moment
+  loaded_alike f0 f1 j0 j1 (inr alike) = alike
 
   -- ---- where nothing was loaded
 
   module _ (f0 f1 : F) (j0 j1 : J) where
-    pub left_unloaded : (e : LoadError) → LoadRefused m n f0 f1 j0 j1 e → (LoadSparesDisk e → Stays m n f0 f1 j0 j1) → AreLeft m n f0 f1 j0 j1 (load_cause e)
-    left_unloaded load.Folder r stays = inl r
-    left_unloaded (load.Journal fault.Disk) r stays = inr r.1
-    left_unloaded (load.Journal fault.Memory) r stays = stays tt
-    left_unloaded (load.Journal (fault.Damaged offset)) r stays = r
-    left_unloaded (load.Journal (fault.TooLong bytes)) r stays = absurd r.1
-    left_unloaded (load.Journal fault.Closed) r stays = absurd r.1
-    left_unloaded (load.BadLine file line) r stays = r
-    left_unloaded load.Memory r stays = stays tt
+    pub left_unloaded : (e : LoadError) → LoadRefused m n f0 f1 j0 j1 e → (LoadSparesDisk e → Stays m n f0 f1 j0 j1) → LeavesAlike m n f0 f1 j0 j1 → AreLeft m n f0 f1 j0 j1 (load_cause e)
+    left_unloaded load.Folder r stays alike = inl r
+    left_unloaded (load.Journal fault.Disk) r stays alike = inr r.1
+    left_unloaded (load.Journal fault.Memory) r stays alike = record { stays = stays tt; any_moment = alike }
+    left_unloaded (load.Journal (fault.Damaged offset)) r stays alike = (r.0, r.1, record { stays = stays tt; any_moment = alike })
+    left_unloaded (load.Journal (fault.TooLong bytes)) r stays alike = absurd r.1
+    left_unloaded (load.Journal fault.Closed) r stays alike = absurd r.1
+    left_unloaded (load.BadLine file line) r stays alike = (r.0, r.1, record { stays = stays tt; any_moment = alike })
+    left_unloaded load.Memory r stays alike = record { stays = stays tt; any_moment = alike }
 
     -- hours that can be driven are not loaded for want of memory alone
     pub unloaded_wants : (e : LoadError) → LoadRefused m n f0 f1 j0 j1 e → IfTheyOpen m n f0 j0 (IsLoadFault e) → (held : Held) → Opens m n f0 j0 held → (rows : List Interval) → rows_of held.files ≡ Ok rows

@@ -9,9 +9,9 @@ use Rattle.tw_sync.specs.declared.error.ReplyKind.TheVariants.{Status}
 use Rattle.tw_sync.specs.Answers.{IsLinkKept}
 use Rattle.tw_http.specs.Link.{IsHonest}
 use Rattle.tw_words.specs.Lines.{Parts}
-use Rattle.tw_words.specs.Settings.{Pair}
-use Rattle.tw_words.specs.declared.word_error.WordError.TheVariants as wrong
-use Rattle.tw_commands.specs.declared.request.Request.{Request}
+use Rattle.tw_settings.specs.Settings.{Pair}
+use Rattle.tw_settings.specs.declared.word_error.WordError.TheVariants as wrong
+use Rattle.tw_changes.specs.declared.request.Request.{Request}
 use Rattle.tw_spawn.specs.Spawner.{SpawnerKept}
 use Rattle.tw_cli.specs.Hooks.{HooksKept}
 use Rattle.tw_cli.specs.Hours.{HoursCan, DrivesHours}
@@ -20,7 +20,7 @@ use Rattle.tw_cli.specs.Run.{Gives, CanEnd, Draws, IsDoneOrWant}
 use Rattle.tw_cli.specs.Syncing.{SyncGives, CanBeSynced}
 use Rattle.tw_cli.specs.Generating.{GenerateGives}
 use Rattle.tw_cli.specs.Crash.{LeavesCommand, LeavesSync}
-use Rattle.tw_words.specs.declared.settings.server.ServerSettings.{ServerSettings}
+use Rattle.tw_settings.specs.declared.server.ServerSettings.{ServerSettings}
 use Rattle.tw_cli.specs.Asked.{IsAsked}
 use Rattle.tw_cli.specs.Cause.{line_cause}
 use Rattle.tw_cli.specs.Whole.{Models, Outside, went, RunGives, EndsWell, RunLeaves, RunDrives, RunDraws, RunSpares, RunKeepsInput, IsRun}
@@ -34,7 +34,7 @@ use Rattle.tw_cli.specs.declared.asked.LineError.{LineError}
 use Rattle.tw_cli.specs.declared.asked.LineError.TheVariants.{Words}
 use Rattle.tw_cli.specs.declared.cause.Cause.{Cause}
 use Rattle.tw_cli.specs.declared.cause.Cause.TheVariants.{Memory, BadReply}
-use Rattle.tw_cli.proofs.LoadedHours.{unopened_stays}
+use Rattle.tw_cli.proofs.LoadedHours.{unopened_kept}
 use Rattle.tw_cli.proofs.Openings.{leaves_as_it_was}
 use Rattle.tw_cli.proofs.Taking.{input_same}
 
@@ -74,7 +74,7 @@ module _ {D S O L P F J : Type 0} (m : Models D S O L P F J) where
   -- the hours are as they were
   hours_same : (request : Request) (ids : IdWords) (d : D) (i : S) (p : P) (f : F) (j : J) → DrivesHours m.disk m.source m.spawner m.folder m.track request ids d d i i p p f f j j Memory
   hours_same request ids d i p f j = record {
-    gives = unopened_stays m.folder m.track f f j j (refl, refl);
+    gives = unopened_kept m.folder m.track f f j j (refl, refl);
     spares = λ off. (refl, refl);
     any_moment = inl (refl, refl);
     folder = record { faults = omega arith; tells = refl };

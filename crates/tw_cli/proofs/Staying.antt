@@ -7,7 +7,7 @@ use Rattle.tw_world.specs.declared.ids.IdWords.{IdWords}
 use Rattle.tw_http.specs.Link.{LinkModel}
 use Rattle.tw_journal.specs.Form.{has_areas}
 use Rattle.tw_journal.specs.declared.error.AppendError.TheVariants as journal
-use Rattle.tw_replica.specs.State.{State}
+use Rattle.tw_state.specs.State.{State}
 use Rattle.tw_replica.specs.Replica.{OpensTo, SameState, OpeningRefused}
 use Rattle.tw_replica.specs.Opening.{opened_bodies}
 use Rattle.tw_replica.specs.declared.error.OpenError.{OpenError}
@@ -15,8 +15,8 @@ use Rattle.tw_replica.specs.declared.error.OpenError.TheVariants as opening
 use Rattle.tw_replica.proofs.Replaying.{opens_as_before}
 use Rattle.tw_sync.specs.declared.error.SyncError.{SyncError}
 use Rattle.tw_sync.specs.declared.error.SyncError.TheVariants as syncs
-use Rattle.tw_words.specs.declared.settings.server.ServerSettings.{ServerSettings}
-use Rattle.tw_commands.specs.declared.request.Request.{Request}
+use Rattle.tw_settings.specs.declared.server.ServerSettings.{ServerSettings}
+use Rattle.tw_changes.specs.declared.request.Request.{Request}
 use Rattle.tw_cli.specs.Opening.{Stays, KeepsState}
 use Rattle.tw_cli.specs.Cause.{open_cause, carry_cause, sync_cause, failure_cause}
 use Rattle.tw_ending.specs.Ending.End.{Failed}

@@ -5,16 +5,16 @@ use Rattle.std.specs.Borrow.{Bor}
 use Rattle.tw_world.specs.declared.Moment.{Moment}
 use Rattle.tw_time.specs.declared.zone.Zone.{Zone}
 use Rattle.tw_http.specs.Messages.{IsHost}
-use Rattle.tw_filter.specs.declared.token.Token.{Token}
+use Rattle.tw_terms.specs.declared.token.Token.{Token}
 use Rattle.tw_words.specs.Lines.{Parts, parts_of_line}
-use Rattle.tw_words.specs.Settings.{Pair, settings_in}
-use Rattle.tw_words.specs.Servers.{server_set}
+use Rattle.tw_settings.specs.Settings.{Pair, settings_in}
+use Rattle.tw_settings.specs.Servers.{server_set}
 use Rattle.tw_words.specs.Faults.{judged, number_behind}
-use Rattle.tw_words.specs.declared.settings.server.ServerSettings.{ServerSettings}
+use Rattle.tw_settings.specs.declared.server.ServerSettings.{ServerSettings}
 use Rattle.tw_words.specs.declared.command.AnyCommand.{AnyCommand}
 use Rattle.tw_words.specs.declared.command.AnyCommand.TheVariants as command
-use Rattle.tw_words.specs.declared.word_error.WordError.{WordError}
-use Rattle.tw_words.specs.declared.word_error.WordError.TheVariants as wrong
+use Rattle.tw_settings.specs.declared.word_error.WordError.{WordError}
+use Rattle.tw_settings.specs.declared.word_error.WordError.TheVariants as wrong
 use Rattle.tw_cli.specs.Driving.{is_driving}
 use Rattle.tw_cli.specs.declared.asked.Job.{Job}
 use Rattle.tw_cli.specs.declared.asked.Job.TheVariants.{Here, Sync, Generate}

@@ -10,11 +10,11 @@ use Rattle.timew_store.specs.declared.error.LoadError.{LoadError}
 use Rattle.timew_store.specs.declared.error.LoadError.TheVariants as load
 use Rattle.tw_sync.specs.declared.error.SyncError.{SyncError}
 use Rattle.tw_sync.specs.declared.error.SyncError.TheVariants as syncs
-use Rattle.tw_words.specs.declared.word_error.WordError.TheVariants as wrong
+use Rattle.tw_settings.specs.declared.word_error.WordError.TheVariants as wrong
 use Rattle.tw_hooks.specs.declared.error.HookError.{HookError}
 use Rattle.tw_hooks.specs.declared.error.HookError.TheVariants as hook
-use Rattle.tw_commands.specs.declared.refusal.Refusal.{Refusal}
-use Rattle.tw_commands.specs.declared.refusal.Refusal.TheVariants as refusal
+use Rattle.tw_changes.specs.declared.refusal.Refusal.{Refusal}
+use Rattle.tw_changes.specs.declared.refusal.Refusal.TheVariants as refusal
 use Rattle.tw_cli.specs.declared.asked.LineError.{LineError}
 use Rattle.tw_cli.specs.declared.asked.LineError.TheVariants as line
 use Rattle.tw_replica.specs.declared.error.OpenError.{OpenError}

@@ -2,7 +2,7 @@
 use Rattle.std.specs.Prelude.{◌≡◌, ◌⊎◌, List, Ok}
 use Rattle.tw_world.specs.declared.ids.IdWords.{IdWords}
 use Rattle.tw_model.specs.Ops.{TaskValue, TasksValue}
-use Rattle.tw_replica.specs.State.{State}
+use Rattle.tw_state.specs.State.{State}
 use Rattle.tw_replica.specs.Replica.{held_state}
 use Rattle.tw_replica.specs.declared.replica.Replica.{Replica}
 use Rattle.tw_spawn.specs.Spawner.{SpawnerModel}
@@ -15,7 +15,7 @@ use Rattle.tw_commands.specs.Carried.{asked_in}
 use Rattle.tw_commands.specs.Ready.{IsDecided, DoesNothing}
 use Rattle.tw_commands.specs.declared.plan.Plan.{Plan}
 use Rattle.tw_commands.specs.declared.ready.Ready.{Ready}
-use Rattle.tw_commands.specs.declared.request.Request.{Request}
+use Rattle.tw_changes.specs.declared.request.Request.{Request}
 use Rattle.tw_cli.specs.Hooks.{celled, HooksAnswer, HooksRefuse, Answered, AnswersRefused}
 use Rattle.tw_cli.specs.declared.carry.CarryError.{CarryError}
 use Rattle.tw_cli.specs.declared.carry.CarryError.TheVariants.{Refused, Hook, Memory}

@@ -8,17 +8,17 @@ use Rattle.tw_journal.specs.Record.{rows as row_of_records}
 use Rattle.tw_journal.specs.Open.{Records, IsDamagedAt}
 use Rattle.tw_journal.specs.declared.journal.Journal.{Journal}
 use Rattle.tw_model.specs.Ops.{TasksValue}
-use Rattle.tw_replica.specs.State.{State}
+use Rattle.tw_state.specs.State.{State}
 use Rattle.tw_words.specs.Commands.{drives}
-use Rattle.tw_words.specs.Switches.{is_turned_on}
-use Rattle.tw_commands.specs.declared.request.Request.{Request}
+use Rattle.tw_settings.specs.Switches.{is_turned_on}
+use Rattle.tw_changes.specs.declared.request.Request.{Request}
 use Rattle.timew_store.specs.History.{History}
 use Rattle.timew_store.specs.Held.{magic, Held, OpensTo, OnStable, IsAtRest, held_by}
-use Rattle.timew_store.specs.Loading.{Stays, HoldsNoStep}
-use Rattle.timew_store.specs.Changes.{changes_to}
-use Rattle.timew_store.specs.Rows.{rows_of}
+use Rattle.timew_store.specs.Loading.{Stays, LeavesAlike, HoldsNoStep}
+use Rattle.timew_month.specs.Changes.{changes_to}
+use Rattle.timew_month.specs.Rows.{rows_of}
 use Rattle.timew_store.specs.Store.{changed, change_bodies, FindsBadLine, IsBadLine}
-use Rattle.timew_store.specs.declared.interval.Interval.{Interval}
+use Rattle.timew_interval.specs.declared.interval.Interval.{Interval}
 use Rattle.timew_bridge.specs.Track.{tracked}
 use Rattle.tw_cli.specs.declared.cause.Cause.{Cause}
 use Rattle.tw_cli.specs.declared.cause.Cause.TheVariants.{DiskFault, RecordTooLong, Memory, TrackFault, TrackBad, TrackDamaged}
@@ -76,12 +76,17 @@ module _ {F J : Type 0} (m : FolderModel F) (n : DiskModel J) (f0 f1 : F) (j0 j1
   abbrev pub AreDriven : Request → (old new : State) → Type 0
   AreDriven request old new = AreDrivenIf (is_driving request) (has_moved old new) old.tasks new.tasks request.at.seconds
 
+  -- What folder and journal hold stays, also where they open to nothing; the last change may be finished, or some of its files. A crash leaves the same.
+  pub record AreKept : Type 0 where
+    pub stays : Stays m n f0 f1 j0 j1
+    pub any_moment : LeavesAlike m n f0 f1 j0 j1
+
   -- the hours of a command that was not carried out, or of which they were not changed: they open to what they did, and most causes leave them unopened
   abbrev pub AreLeft : Cause → Type 0
   AreLeft TrackFault = Rose (m.faults f0) (m.faults f1) ⊎ Rose (n.faults j0) (n.faults j1)
-  AreLeft (TrackBad file line) = FindsBadLine m n f0 j0 (file, line) × OnStable m n f0 j0 (IsBadLine m n f0 f1 j0 j1 (file, line))
-  AreLeft (TrackDamaged offset) = (f1 ≡ f0) × (disk.Tells n j0 → IsDamagedAt magic (n.seen j0) offset ⊎ HoldsNoStep (n.seen j0) offset)
-  AreLeft DiskFault = Stays m n f0 f1 j0 j1
-  AreLeft (RecordTooLong bytes) = Stays m n f0 f1 j0 j1
-  AreLeft Memory = Stays m n f0 f1 j0 j1
+  AreLeft (TrackBad file line) = FindsBadLine m n f0 j0 (file, line) × OnStable m n f0 j0 (IsBadLine m n f0 f1 j0 j1 (file, line)) × AreKept
+  AreLeft (TrackDamaged offset) = (f1 ≡ f0) × (disk.Tells n j0 → IsDamagedAt magic (n.seen j0) offset ⊎ HoldsNoStep (n.seen j0) offset) × AreKept
+  AreLeft DiskFault = AreKept
+  AreLeft (RecordTooLong bytes) = AreKept
+  AreLeft Memory = AreKept
   AreLeft cause = AreUnopened

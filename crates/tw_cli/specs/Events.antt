@@ -3,7 +3,7 @@ use Rattle.std.specs.Prelude.{◌≡◌, ◌⊎◌, ℕ, List, [], ◌∷◌, Re
 use Rattle.tw_world.specs.Disk.{DiskModel, Tells, LeavesOnly}
 use Rattle.tw_protocol.specs.Chain.{Version}
 use Rattle.tw_http.specs.Link.{LinkModel}
-use Rattle.tw_replica.specs.State.{State}
+use Rattle.tw_state.specs.State.{State}
 use Rattle.tw_replica.specs.Replica.{OpensTo}
 use Rattle.tw_sync.specs.World.{IsAmong, Runs}
 use Rattle.tw_cli.specs.Whole.{Outside, IsHonestFor}

@@ -3,9 +3,9 @@ use Rattle.std.specs.Prelude.{◌≡◌, ℕ, List}
 use Rattle.tw_world.specs.Disk.{Rose}
 use Rattle.tw_world.specs.Sink.{SinkModel, Got, GotPart}
 use Rattle.tw_words.specs.Lines.{Parts}
-use Rattle.tw_words.specs.Settings.{Pair}
+use Rattle.tw_settings.specs.Settings.{Pair}
 use Rattle.tw_words.specs.Faults.{number_behind}
-use Rattle.tw_words.specs.Weights.{weights}
+use Rattle.tw_settings.specs.Weights.{weights}
 use Rattle.tw_generate.specs.Generated.{IsGenerated}
 use Rattle.tw_ending.specs.Ending.{End}
 use Rattle.tw_ending.specs.Ending.End.{Well, Output, Failed}

@@ -4,7 +4,7 @@ use Rattle.tw_text.specs.Columns.{cell_text}
 use Rattle.tw_world.specs.Disk.{Rose}
 use Rattle.tw_world.specs.declared.ids.IdWords.{IdWords}
 use Rattle.tw_model.specs.Ops.{TaskValue}
-use Rattle.tw_replica.specs.State.{State}
+use Rattle.tw_state.specs.State.{State}
 use Rattle.tw_spawn.specs.Spawner.{Run, SpawnerModel, SpawnerKept, TellsRuns}
 use Rattle.tw_hooks.specs.All.{AllHookedNow, AllRefused, Reached}
 use Rattle.tw_hooks.specs.Answer.{answered}
@@ -16,7 +16,7 @@ use Rattle.tw_hooks.specs.declared.error.HookError.{HookError}
 use Rattle.tw_hooks.specs.declared.error.HookError.TheVariants.{Refused, Answer, Fault, Memory}
 use Rattle.tw_commands.specs.Asks.{event_in}
 use Rattle.tw_commands.specs.Carried.{asked_in}
-use Rattle.tw_commands.specs.declared.request.Request.{Request}
+use Rattle.tw_changes.specs.declared.request.Request.{Request}
 
 -- an error with the name of its hook as a line shows it
 abbrev pub celled : HookError → HookError

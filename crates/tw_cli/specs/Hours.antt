@@ -9,16 +9,16 @@ use Rattle.tw_world.specs.Turns.{InTurns, crash_of}
 use Rattle.tw_world.specs.declared.ids.IdWords.{IdWords}
 use Rattle.tw_model.specs.Ops.{TaskValue}
 use Rattle.tw_spawn.specs.Spawner.{SpawnerModel}
-use Rattle.tw_replica.specs.State.{State}
+use Rattle.tw_state.specs.State.{State}
 use Rattle.tw_replica.specs.Opening.{IsOpening}
 use Rattle.tw_replica.specs.Replica.{OpensTo}
-use Rattle.tw_commands.specs.declared.request.Request.{Request}
+use Rattle.tw_changes.specs.declared.request.Request.{Request}
 use Rattle.timew_store.specs.Held.{Held}
 use Rattle.timew_store.specs.Held.{OpensTo as OpenTo}
 use Rattle.timew_store.specs.Loading.{OpensAlike}
-use Rattle.timew_store.specs.Rows.{rows_of}
+use Rattle.timew_month.specs.Rows.{rows_of}
 use Rattle.timew_store.specs.Store.{changed}
-use Rattle.timew_store.specs.declared.interval.Interval.{Interval}
+use Rattle.timew_interval.specs.declared.interval.Interval.{Interval}
 use Rattle.tw_ending.specs.Ending.{End}
 use Rattle.tw_ending.specs.Ending.End.{Well, Output, Failed}
 use Rattle.tw_cli.specs.Cause.{end_of}

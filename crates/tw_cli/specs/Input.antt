@@ -4,7 +4,7 @@ use Rattle.tw_world.specs.Disk.{Rose}
 use Rattle.tw_world.specs.Source.{SourceModel, SourceKept, TellsRest}
 use Rattle.tw_words.specs.declared.command.Command.{Command}
 use Rattle.tw_words.specs.declared.command.Command.TheVariants.{Import}
-use Rattle.tw_commands.specs.declared.request.Request.{Request}
+use Rattle.tw_changes.specs.declared.request.Request.{Request}
 use Rattle.tw_cli.specs.declared.input.InputError.{InputError}
 use Rattle.tw_cli.specs.declared.input.InputError.TheVariants.{Fault, TooLong, Memory}
 

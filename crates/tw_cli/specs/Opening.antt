@@ -2,7 +2,7 @@
 use Rattle.std.specs.Prelude.{◌≡◌, ℕ, List, [], ◌++◌}
 use Rattle.tw_world.specs.Disk.{DiskModel, Tells}
 use Rattle.tw_journal.specs.Form.{Records, has_areas}
-use Rattle.tw_replica.specs.State.{State, Stands}
+use Rattle.tw_state.specs.State.{State, Stands}
 use Rattle.tw_replica.specs.Replica.{magic, SameState}
 use Rattle.tw_replica.specs.Opening.{opened_bodies}
 use Rattle.tw_cli.specs.Cause.{end_of}

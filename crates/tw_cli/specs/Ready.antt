@@ -8,7 +8,7 @@ use Rattle.tw_world.specs.Folder.{FolderModel}
 use Rattle.tw_world.specs.declared.ids.IdWords.{IdWords}
 use Rattle.tw_spawn.specs.Spawner.{SpawnerModel}
 use Rattle.tw_model.specs.Ops.{TasksValue}
-use Rattle.tw_replica.specs.State.{State}
+use Rattle.tw_state.specs.State.{State}
 use Rattle.tw_replica.specs.Opening.{IsOpenedReplica}
 use Rattle.tw_replica.specs.Replica.{held_state, is_replica_closed, IsLengthKept, RecordsAfter, with_more}
 use Rattle.tw_replica.specs.Replica.{LeavesRecords as LeavesAny}
@@ -16,15 +16,15 @@ use Rattle.tw_replica.specs.Prepared.{prepared_state, prepared_bodies, IsWithinL
 use Rattle.tw_replica.specs.declared.replica.Replica.{Replica}
 use Rattle.tw_replica.specs.declared.step.write.Prepared.{Prepared}
 use Rattle.tw_replica.specs.declared.error.WriteError.TheVariants as writes
-use Rattle.tw_commands.specs.declared.request.Request.{Request}
-use Rattle.timew_store.specs.Edit.{edited}
+use Rattle.tw_changes.specs.declared.request.Request.{Request}
+use Rattle.timew_interval.specs.Edit.{edited}
 use Rattle.timew_store.specs.Held.{Held, IfTheyOpen}
 use Rattle.timew_store.specs.Loading.{Stays, LeavesAlike}
 use Rattle.timew_store.specs.Prepared.{IsPreparedChange, OnPrepared, prepared_end}
-use Rattle.timew_store.specs.Rows.{rows_of}
+use Rattle.timew_month.specs.Rows.{rows_of}
 use Rattle.timew_store.specs.Store.{LoadsStore, LoadRefused, LoadSparesDisk, IsLoadFault, LeavesChange, IsChangedTo, intervals_of}
-use Rattle.timew_store.specs.declared.edit.Edit.{Edit}
-use Rattle.timew_store.specs.declared.interval.Interval.{Interval}
+use Rattle.timew_interval.specs.declared.edit.Edit.{Edit}
+use Rattle.timew_interval.specs.declared.interval.Interval.{Interval}
 use Rattle.timew_store.specs.declared.store.Store.{Store}
 use Rattle.timew_store.specs.declared.prepare.PreparedChange.{PreparedChange}
 use Rattle.timew_bridge.specs.declared.drivers.Drivers.{Drivers}

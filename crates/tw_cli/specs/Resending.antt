@@ -4,8 +4,8 @@ use Rattle.tw_model.specs.LocalOps.{plain}
 use Rattle.tw_model.specs.declared.Op.{Op}
 use Rattle.tw_model.specs.declared.SyncOp.{SyncOp}
 use Rattle.tw_protocol.specs.Chain.{Version, Grows}
-use Rattle.tw_replica.specs.State.{State, committed}
-use Rattle.tw_replica.specs.Sound.{IsSound, start_of}
+use Rattle.tw_state.specs.State.{State, committed}
+use Rattle.tw_state.specs.Sound.{IsSound, start_of}
 use Rattle.tw_path.specs.Path.{Leg}
 use Rattle.tw_path.specs.Path.Leg.{Push}
 use Rattle.tw_path.specs.Sent.{WasSent}

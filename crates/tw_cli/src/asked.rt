@@ -4,12 +4,11 @@ ghost use Rattle.tw_cli.specs.Asked.{job_by, asked_by, needs_store, needs_hours,
 
 use crate::hours::is_driving;
 use std::alloc::Global;
-use tw_commands::{Input, Request};
+use tw_changes::{Input, Request};
 use tw_filter::Filter;
+use tw_settings::{ServerSettings, Settings, WordError, read_settings};
 use tw_time::Zone;
-use tw_words::{
-    AnyCommand, Line, ServerSettings, Settings, WordError, cut_words, judge_line, read_settings,
-};
+use tw_words::{AnyCommand, Line, cut_words, judge_line};
 use tw_world::{Memory, Moment};
 
 /// What is to be done.
@@ -46,7 +45,7 @@ impl From<WordError> for LineError {
 impl From<Memory> for LineError {
     ghost use Rattle.std.specs.Prelude.{◌≡◌};
     ghost use Rattle.tw_cli.specs.declared.asked.LineError.TheVariants.{Words};
-    ghost use Rattle.tw_words.specs.declared.word_error.WordError.TheVariants.{Memory as NoMemory};
+    ghost use Rattle.tw_settings.specs.declared.word_error.WordError.TheVariants.{Memory as NoMemory};
 
     ghost from_gives = { λ _ line. line ≡ Words NoMemory };
 

@@ -9,7 +9,8 @@ use crate::cause::Cause;
 use std::alloc::Global;
 use tw_ending::print;
 use tw_generate::generate;
-use tw_words::{Line, Settings};
+use tw_settings::Settings;
+use tw_words::Line;
 use tw_world::Sink;
 
 /// Runs a large world in memory, as large as the words of the line say, and prints what it came to.

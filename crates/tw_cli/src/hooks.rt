@@ -8,7 +8,8 @@ ghost use Rattle.tw_cli.specs.Deciding.{IsShown, PlanAnswered, PlanRefused};
 
 use crate::carry::CarryError;
 use std::alloc::Global;
-use tw_commands::{Plan, Request, event_in};
+use tw_changes::Request;
+use tw_commands::{Plan, event_in};
 use tw_hooks::{HookError, run_all};
 use tw_replica::Replica;
 use tw_spawn::Spawner;

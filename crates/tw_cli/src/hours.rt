@@ -5,7 +5,7 @@ ghost use Rattle.tw_world.specs.Crash.{FaultsRise};
 ghost use Rattle.tw_model.specs.Ops.{TasksValue};
 ghost use Rattle.tw_replica.specs.Replica.{held_state};
 ghost use Rattle.tw_replica.specs.Prepared.{prepared_state};
-ghost use Rattle.timew_store.specs.Edit.{edited, IsEditOf};
+ghost use Rattle.timew_interval.specs.Edit.{edited, IsEditOf};
 ghost use Rattle.timew_store.specs.Loading.{LeavesAlike};
 ghost use Rattle.timew_bridge.specs.Known.{AreDrivers};
 ghost use Rattle.tw_cli.specs.Driving.{driven, is_driving};
@@ -15,9 +15,10 @@ ghost use Rattle.tw_cli.specs.Ready.{CanBeWritten, HoursEnd, HoursLeave};
 use crate::carry::CarryError;
 use std::alloc::Global;
 use std::mem::forget;
-use timew_bridge::{Drivers, tail_of, track_tail};
-use timew_store::{Edit, Intervals, PrepareError, PreparedChange, Store};
-use tw_commands::Request;
+use timew_bridge::{Drivers, tail_of, track_tail, track_tail_by};
+use timew_interval::{Edit, Intervals};
+use timew_store::{PrepareError, PreparedChange, Store};
+use tw_changes::Request;
 use tw_model::Tasks;
 use tw_replica::{Prepared, Replica};
 use tw_world::{Disk, Folder, Memory, Moment};
@@ -78,8 +79,7 @@ fn edit_by(
 {
     let tail = tail_of(alloc, rows)?;
     let edit = track_tail(alloc, before, rows, tail, now)?;
-    let after = Drivers::of(alloc, after, now)?;
-    track_tail(alloc, &after, rows, edit, now)
+    track_tail_by(alloc, after, rows, edit, now)
 }
 
 // Loads the hours, and prepares the change by which the tasks before a command and those after it drive them.

@@ -4,7 +4,7 @@ ghost use Rattle.tw_world.specs.Source.{SourceKept, TellsRest};
 ghost use Rattle.tw_cli.specs.Input.{with_input, Took, NotTaken, NotRead, ReadAll, ReadMore, NotReadMore, IsInputKept};
 
 use std::alloc::Global;
-use tw_commands::{Input, Request};
+use tw_changes::{Input, Request};
 use tw_words::Command;
 use tw_world::{Memory, Source};
 

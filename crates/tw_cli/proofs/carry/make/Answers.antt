@@ -1,6 +1,6 @@
 use Rattle.std.proofs.Common.{inl, inr, refl}
 use Rattle.tw_replica.specs.Replica.{held_state}
-use Rattle.tw_commands.specs.declared.request.Request.{Request}
+use Rattle.tw_changes.specs.declared.request.Request.{Request}
 use Rattle.tw_cli.specs.Input.{with_input}
 use Rattle.tw_cli.specs.Ready.{IsMade}
 use Rattle.tw_cli.specs.Run.{Drew}

@@ -1,8 +1,8 @@
 use Rattle.std.proofs.Common.{◌≡◌, ◌∙◌, ap, List, Result, Ok, Err, IfOk}
 use Rattle.tw_model.specs.Ops.{TasksValue}
-use Rattle.timew_store.specs.Edit.{edited}
-use Rattle.timew_store.specs.declared.edit.Edit.{Edit}
-use Rattle.timew_store.specs.declared.interval.Interval.{Interval}
+use Rattle.timew_interval.specs.Edit.{edited}
+use Rattle.timew_interval.specs.declared.edit.Edit.{Edit}
+use Rattle.timew_interval.specs.declared.interval.Interval.{Interval}
 use Rattle.timew_bridge.specs.Known.{AreDrivers}
 use Rattle.timew_bridge.specs.Track.{tracked}
 use Rattle.tw_cli.specs.Driving.{driven}
@@ -12,14 +12,11 @@ if_ok : {A E : Type 0} (P Q : A → Type 0) → ((a : A) → P a → Q a) → (r
 if_ok P Q wide (Ok a) p = wide a p
 if_ok P Q wide (Err e) p = p
 
-pub track_tail-requires-2-clause-known : goal.track_tail-requires-2-clause-known
-track_tail-requires-2-clause-known c = (c.args.after.now, c.in_ok-after.ensures)
-
 pub returns-clause-driven : goal.returns-clause-driven
 returns-clause-driven c =
-    if_ok (λ (e : Edit). (tasks : TasksValue) → AreDrivers tasks c.args.now.seconds c.in_ok-after.after → edited e c.args.rows.now ≡ tracked tasks (edited c.in_ok-edit.edit c.args.rows.now) c.args.now.seconds)
+    if_ok (λ (e : Edit). edited e c.args.rows.now ≡ tracked c.args.after.now (edited c.in_ok-edit.edit c.args.rows.now) c.args.now.seconds)
     (λ (e : Edit). (tasks : TasksValue) → AreDrivers tasks c.args.now.seconds c.args.before.now → edited e c.args.rows.now ≡ driven tasks c.args.after.now c.args.rows.now c.args.now.seconds)
     (λ e then tasks are.
-    then c.args.after.now c.in_ok-after.ensures
+    then
     ∙ ap (λ (l : List Interval). tracked c.args.after.now l c.args.now.seconds) (c.in_ok-edit.ensures.tracked tasks are ∙ ap (λ (l : List Interval). tracked tasks l c.args.now.seconds) c.in_ok-tail.ensures.same))
-    c.track_tail-2.result c.track_tail-2.ensures.tracked
+    c.track_tail_by.result c.track_tail_by.ensures.tracked

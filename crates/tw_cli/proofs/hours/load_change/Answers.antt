@@ -2,11 +2,11 @@ use Rattle.std.proofs.Common.{◌≡◌, ◌∙◌, ap, sym, subst, List}
 use Rattle.tw_journal.specs.Journal.{journal_end}
 use Rattle.tw_journal.specs.declared.journal.Journal.{Journal}
 use Rattle.tw_model.specs.Ops.{TasksValue}
-use Rattle.timew_store.specs.Edit.{edited, IsEditOf}
+use Rattle.timew_interval.specs.Edit.{edited, IsEditOf}
 use Rattle.timew_store.specs.Prepared.{PrepareRefused}
 use Rattle.timew_store.specs.Store.{rows_after, is_store_closed}
-use Rattle.timew_store.specs.declared.edit.Edit.{Edit}
-use Rattle.timew_store.specs.declared.interval.Interval.{Interval}
+use Rattle.timew_interval.specs.declared.edit.Edit.{Edit}
+use Rattle.timew_interval.specs.declared.interval.Interval.{Interval}
 use Rattle.timew_bridge.specs.Known.{AreDrivers}
 use Rattle.tw_cli.specs.Driving.{driven}
 use Rattle.tw_cli.proofs.LoadedHours.{loaded_stays, passes_hours}

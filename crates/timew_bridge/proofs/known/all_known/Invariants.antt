@@ -1,6 +1,0 @@
-use Rattle.std.proofs.Common.{◌≡◌, ◌++◌, map}
-use Rattle.timew_bridge.specs.Known.{known_of, all_known}
-use Rattle.timew_bridge.proofs.known.all_known.Given as goal
-
-abbrev pub invariant-loop-uuid : goal.invariant-loop-uuid
-invariant-loop-uuid l = l.known.items ++ map known_of l.uuid-iterator ≡ all_known l.tasks
