@@ -110,32 +110,51 @@ const REFUSED: [(&str, ReplyKind); 11] = [
     ),
 ];
 
-#[test]
-fn each_bad_reply_is_told_by_its_kind(rt: HostRuntime) -> Result<(), Fail> {
-    for (reply, kind) in REFUSED {
-        let ended = ended(rt.alloc(), Some(reply))?;
-        assert!(rt; ended == Err(SyncError::Reply { kind }), "{reply}");
+fn is_refused(alloc: Global, reply: &'static str, kind: ReplyKind) -> Result<bool, Fail> {
+    Ok(ended(alloc, Some(reply))? == Err(SyncError::Reply { kind }))
+}
+
+// How many of the replies are refused as wanted, up to the first that is not.
+fn refused_so_far(alloc: Global) -> Result<usize, Fail> {
+    for (number, (reply, kind)) in REFUSED.iter().enumerate() {
+        if !is_refused(alloc, *reply, *kind)? {
+            return Ok(number);
+        }
     }
-    Ok(())
+    Ok(REFUSED.len())
 }
 
 #[test]
-fn each_reply_that_is_no_version_ends_a_sync(rt: HostRuntime) -> Result<(), Fail> {
-    let none = "HTTP/1.1 404 Not Found\r\nContent-Length: 0\r\n\r\n";
-    let base = Uuid::nil();
+fn each_bad_reply_is_told_by_its_kind(rt: HostRuntime) -> Result<(), Fail> {
+    assert_eq!(rt; refused_so_far(rt.alloc())?, REFUSED.len());
+    Ok(())
+}
+
+const NONE: &str = "HTTP/1.1 404 Not Found\r\nContent-Length: 0\r\n\r\n";
+
+const GONE: &str = "HTTP/1.1 410 Gone\r\nContent-Length: 0\r\n\r\n";
+
+// Whether a sync that finds no version reports nothing.
+fn reports_nothing(alloc: Global) -> Result<bool, Fail> {
     let report = SyncReport {
         pulled: 0,
         dropped: 0,
         pushed: 0,
-        base,
+        base: Uuid::nil(),
     };
-    let gone = "HTTP/1.1 410 Gone\r\nContent-Length: 0\r\n\r\n";
-    for (reply, want) in [
-        (Some(none), Ok(report)),
-        (Some(gone), Err(SyncError::Gone { base })),
-        (None, Err(SyncError::Link)),
-    ] {
-        assert!(rt; ended(rt.alloc(), reply)? == want);
-    }
+    Ok(ended(alloc, Some(NONE))? == Ok(report))
+}
+
+// Whether a sync with this reply, or without one, is refused for this.
+fn ends_with(alloc: Global, reply: Option<&'static str>, why: SyncError) -> Result<bool, Fail> {
+    Ok(ended(alloc, reply)? == Err(why))
+}
+
+#[test]
+fn each_reply_that_is_no_version_ends_a_sync(rt: HostRuntime) -> Result<(), Fail> {
+    let gone = SyncError::Gone { base: Uuid::nil() };
+    assert!(rt; reports_nothing(rt.alloc())?);
+    assert!(rt; ends_with(rt.alloc(), Some(GONE), gone)?);
+    assert!(rt; ends_with(rt.alloc(), None, SyncError::Link)?);
     Ok(())
 }

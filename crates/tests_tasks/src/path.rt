@@ -12,17 +12,22 @@ use uuid::Uuid;
 
 // ---- pulling
 
+// The walker of a replica with these tasks, which are changed by the groups that are pending on them.
+fn started(alloc: Global, hand: &mut Tasks, pending: &str) -> Result<Walker, Memory> {
+    let ops = pending_on(alloc, hand, &groups(alloc, pending)?)?;
+    Walker::start(alloc, hand, Uuid::nil(), &ops)
+}
+
+fn pull(alloc: Global, walker: &mut Walker, hand: &Tasks, version: &str) -> Result<(), Memory> {
+    let ops = operations(alloc, version)?;
+    walker.pull(alloc, hand, Uuid::from_u128(7), &ops)
+}
+
 // The walker of a replica that has the task 1, and these groups pending on it, once it has pulled a version.
 fn pulled(alloc: Global, pending: &str, version: &str) -> Result<Walker, Memory> {
     let mut hand = one_task(alloc)?;
-    let ops = pending_on(alloc, &mut hand, &groups(alloc, pending)?)?;
-    let mut walker = Walker::start(alloc, &hand, Uuid::nil(), &ops)?;
-    walker.pull(
-        alloc,
-        &hand,
-        Uuid::from_u128(7),
-        &operations(alloc, version)?,
-    )?;
+    let mut walker = started(alloc, &mut hand, pending)?;
+    pull(alloc, &mut walker, &hand, version)?;
     Ok(walker)
 }
 

@@ -1,8 +1,9 @@
 mod ends;
 
+use crate::urgency::task_of;
 use std::alloc::Global;
 use std::test::Fail;
-use tw_model::{TaskMap, Tasks, make};
+use tw_model::{Tasks, make};
 use tw_recur::{due_changes, due_instances};
 use tw_time::Zone;
 use tw_world::{Memory, Moment};
@@ -16,12 +17,10 @@ const MAY: Moment = Moment {
     nanos: 0,
 };
 
-pub(crate) fn template(alloc: Global, pairs: &[(&str, &str)]) -> Result<Tasks, Memory> {
-    let mut task = TaskMap::new(alloc);
+// A template of a text `property=value property=value`.
+pub(crate) fn template(alloc: Global, text: &str) -> Result<Tasks, Memory> {
+    let mut task = task_of(alloc, text)?;
     task.set(alloc, "status", Some("recurring"))?;
-    for (property, value) in pairs {
-        task.set(alloc, property, Some(value))?;
-    }
     let mut tasks = Tasks::new(alloc);
     let _ = tasks.insert(Uuid::from_u128(PARENT), task)?;
     Ok(tasks)
@@ -57,12 +56,7 @@ const RENT: [(u128, &str, &str); 5] = [
     (0xec828c2b_30cf_583d_8660_1d587530a97e, "2", "1774915200"),
 ];
 
-const MONTHLY: [(&str, &str); 4] = [
-    ("description", "Rent"),
-    ("due", "1769817600"),
-    ("entry", "1777593500"),
-    ("recur", "monthly"),
-];
+const MONTHLY: &str = "description=Rent due=1769817600 entry=1777593500 recur=monthly";
 
 // What is due in May, by its uuids.
 fn due_in_may(alloc: Global, tasks: &Tasks) -> Result<Vec<Uuid>, Memory> {
@@ -73,13 +67,15 @@ fn due_in_may(alloc: Global, tasks: &Tasks) -> Result<Vec<Uuid>, Memory> {
     Ok(uuids)
 }
 
+// The uuids of the rents come first, and one more.
 fn are_rents(uuids: &Vec<Uuid>) -> bool {
-    for (uuid, (rent, _, _)) in uuids.iter().zip(RENT.iter()) {
-        if *uuid != Uuid::from_u128(*rent) {
-            return false;
+    for (at, (rent, _, _)) in RENT.iter().enumerate() {
+        match uuids.get(at) {
+            Some(uuid) if *uuid == Uuid::from_u128(*rent) => {}
+            _ => return false,
         }
     }
-    uuids.len() == RENT.len() + 1
+    uuids.len() == 6
 }
 
 // The tasks to which the operations of what is due in May are applied, where each fits, and how many these are.
@@ -114,10 +110,19 @@ const OF_RENTS: [(&str, Option<&str>); 7] = [
     ("status", Some("pending")),
 ];
 
+fn has_value(tasks: &Tasks, uuid: u128, property: &str, value: &str) -> bool {
+    value_of(tasks, Uuid::from_u128(uuid), property) == Some(value)
+}
+
+fn has_rent(tasks: &Tasks, uuid: u128, number: &str, due: &str) -> bool {
+    has_value(tasks, uuid, "imask", number)
+        && has_value(tasks, uuid, "due", due)
+        && has_all(tasks, uuid, &OF_RENTS)
+}
+
 fn has_rents(tasks: &Tasks) -> bool {
-    for (uuid, number, due) in &RENT {
-        let own = [("due", Some(*due)), ("imask", Some(*number))];
-        if !has_all(tasks, *uuid, &own) || !has_all(tasks, *uuid, &OF_RENTS) {
+    for (uuid, number, due) in RENT.iter() {
+        if !has_rent(tasks, *uuid, number, due) {
             return false;
         }
     }
@@ -147,13 +152,20 @@ fn is_marked(tasks: &Tasks) -> bool {
     has_all(tasks, PARENT, &marked)
 }
 
+fn rents_are_due(alloc: Global, tasks: &Tasks) -> Result<bool, Memory> {
+    Ok(are_rents(&due_in_may(alloc, tasks)?))
+}
+
+// Whether the rents are made, and then nothing is due.
+fn all_are_made(alloc: Global, tasks: &mut Tasks) -> Result<bool, Memory> {
+    Ok(makes_rents(alloc, tasks)? && is_marked(tasks) && due_in_may(alloc, tasks)?.is_empty())
+}
+
 #[test]
 fn months_keep_their_ends(rt: HostRuntime) -> Result<(), Fail> {
-    let alloc = rt.alloc();
-    let mut tasks = template(alloc, &MONTHLY)?;
-    assert!(rt; are_rents(&due_in_may(alloc, &tasks)?));
-    assert!(rt; makes_rents(alloc, &mut tasks)? && is_marked(&tasks));
-    assert!(rt; due_in_may(alloc, &tasks)?.is_empty());
+    let mut tasks = template(rt.alloc(), MONTHLY)?;
+    assert!(rt; rents_are_due(rt.alloc(), &tasks)?);
+    assert!(rt; all_are_made(rt.alloc(), &mut tasks)?);
     Ok(())
 }
 
@@ -172,7 +184,7 @@ fn makes_each(alloc: Global, tasks: &mut Tasks, counts: &[usize]) -> Result<bool
 #[test]
 fn a_thousand_are_made_at_once(rt: HostRuntime) -> Result<(), Fail> {
     let alloc = rt.alloc();
-    let mut tasks = template(alloc, &[("due", "1604793600"), ("recur", "1d")])?;
+    let mut tasks = template(alloc, "due=1604793600 recur=1d")?;
     assert!(rt; makes_each(alloc, &mut tasks, &[1001, 1001, 3, 0])?);
     Ok(())
 }

@@ -10,23 +10,36 @@ fn uuid(n: u8) -> Uuid {
     Uuid::from_bytes([0, 0, 0, 0, 0, 0, 0x40, 0, 0x80, 0, 0, 0, 0, 0, 0, n])
 }
 
+fn push_properties(lines: &mut String, task: &TaskMap) -> Result<(), Memory> {
+    for n in 0..task.len() {
+        lines.push_str(" ")?;
+        lines.push_str(task.key(n))?;
+        lines.push_str("=")?;
+        lines.push_str(task.value(n))?;
+    }
+    Ok(())
+}
+
+fn push_task(lines: &mut String, uuid: Uuid, task: &TaskMap) -> Result<(), Memory> {
+    lines.push_str(uuid.hyphenated().encode_lower(&mut Uuid::encode_buffer()))?;
+    push_properties(lines, task)?;
+    lines.push_str("\n")?;
+    Ok(())
+}
+
+fn push_tasks(lines: &mut String, tasks: &Tasks) -> Result<(), Memory> {
+    for (uuid, task) in tasks.iter() {
+        push_task(lines, *uuid, task)?;
+    }
+    Ok(())
+}
+
 // The tasks, one a line, or that there are none.
 fn lines_of(alloc: Global, tasks: &Option<Tasks>) -> Result<String, Memory> {
     let mut lines = String::new(alloc);
-    let Some(tasks) = tasks else {
-        lines.push_str("none")?;
-        return Ok(lines);
-    };
-    for (uuid, task) in tasks.iter() {
-        let mut buffer = Uuid::encode_buffer();
-        lines.push_str(uuid.hyphenated().encode_lower(&mut buffer))?;
-        for n in 0..task.len() {
-            lines.push_str(" ")?;
-            lines.push_str(task.key(n))?;
-            lines.push_str("=")?;
-            lines.push_str(task.value(n))?;
-        }
-        lines.push_str("\n")?;
+    match tasks {
+        Some(tasks) => push_tasks(&mut lines, tasks)?,
+        None => lines.push_str("none")?,
     }
     Ok(lines)
 }
@@ -195,12 +208,17 @@ fn bytes_are_read_as_tasks_or_as_none(rt: HostRuntime) -> Result<(), Fail> {
     Ok(())
 }
 
+fn letters(alloc: Global, count: usize) -> Result<String, Memory> {
+    let mut text = String::new(alloc);
+    for _ in 0..count {
+        text.push('x')?;
+    }
+    Ok(text)
+}
+
 // A task whose snapshot has so many bytes.
 fn long(alloc: Global, bytes: usize) -> Result<Tasks, Memory> {
-    let mut value = String::new(alloc);
-    for _ in 49..bytes {
-        value.push('x')?;
-    }
+    let value = letters(alloc, bytes.saturating_sub(49))?;
     let mut tasks = Tasks::new(alloc);
     tasks.insert(uuid(1), task_of(alloc, &[("d", value.as_str())])?)?;
     Ok(tasks)

@@ -15,7 +15,7 @@ fn numbered(n: u128) -> Uuid {
 }
 
 // The task of a text `property=value property=value`.
-fn task_of(alloc: Global, text: &str) -> Result<TaskMap, Memory> {
+pub(crate) fn task_of(alloc: Global, text: &str) -> Result<TaskMap, Memory> {
     let mut task = TaskMap::new(alloc);
     for pair in text.split(' ') {
         if let Some((property, value)) = pair.split_once('=') {

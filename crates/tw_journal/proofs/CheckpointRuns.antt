@@ -1,11 +1,14 @@
 -- What a crash leaves while one record replaces all others.
-use Rattle.std.proofs.Common.{◌≡◌, ◌⊎◌, ℕ, ◌+◌, ◌<◌, ◌≤◌, ◌^◌, List, [], ◌∷◌, length, take, ◌∙◌, ap, subst}
+use Rattle.std.specs.Int.{to_be_bytes, w64}
+use Rattle.std.proofs.Common.{◌≡◌, ◌⊎◌, inl, inr, ℕ, ◌+◌, ◌<◌, ◌≤◌, ◌^◌, List, [], ◌∷◌, length, take, sym, ◌∙◌, ap, subst}
 use Rattle.tw_world.specs.Disk.{DiskModel, Tells, IsStable, LeavesOnly, overwritten}
 use Rattle.tw_world.proofs.Moments.{weaker, joined}
 use Rattle.tw_journal.specs.Record.{IsRecordLength}
 use Rattle.tw_journal.specs.Form.{version_in}
+use Rattle.tw_journal.specs.Writes.{IsOldOr}
 use Rattle.tw_journal.specs.Journal.{IsAtRest}
-use Rattle.tw_journal.specs.Checkpoint.{checkpoint_offset, other_selector, closed_record, extended, pointed, IsCopying, IsPointing, IsReplacing}
+use Rattle.tw_journal.specs.Checkpoint.{checkpoint_offset, other_slot, other_selector, closed_record, extended, pointed, IsCopying, IsPointing, IsReplacing, IsSameBeside}
+use Rattle.tw_journal.proofs.Between.{overwritten_beside}
 use Rattle.tw_journal.proofs.Slots.{placed}
 use Rattle.tw_journal.proofs.CheckpointFiles.{copying, pointing, cutting, rest_after, version_kept}
 
@@ -38,3 +41,22 @@ module _ {D : Type 0} (m : DiskModel D) (old : D) (magic body : List ℕ) (bodie
         rest_after magic (m.seen old) body bodies start end at selector rest.form rest.selector_is rest.file rest.lengths fits long low here small plain m n tells settled is,
         ap version_in is ∙ version_kept magic (m.seen old) body bodies start end at selector rest.form rest.selector_is rest.file rest.lengths fits long low here small plain,
       )
+
+-- the other slot is written, and then counts
+module _ {D : Type 0} (m : DiskModel D) (old a n : D) (selector at slot byte : ℕ) (slot_is : slot ≡ other_slot selector) (byte_is : byte ≡ other_selector selector) (room : slot + 8 ≤ length (m.seen old)) where
+  abbrev Pointing : List ℕ → Type 0
+  Pointing = IsPointing selector at (m.seen old)
+
+  beside : (c : List ℕ) → IsSameBeside slot (slot + 8) (m.seen old) c → Pointing c
+  beside c same = inl (subst (λ (k : ℕ). IsSameBeside k (k + 8) (m.seen old) c) slot_is same)
+
+  stands : IsSameBeside slot (slot + 8) (m.seen old) (overwritten slot (to_be_bytes w64 at) (m.seen old))
+  stands = overwritten_beside slot (to_be_bytes w64 at) (m.seen old) room
+
+  with_byte : m.seen a ≡ overwritten slot (to_be_bytes w64 at) (m.seen old) → (c : List ℕ) → IsOldOr (overwritten 0 (byte ∷ [])) (m.seen a) c → Pointing c
+  with_byte seen c (inl same) = beside c (subst (IsSameBeside slot (slot + 8) (m.seen old)) (sym (same ∙ seen)) stands)
+  with_byte seen c (inr same) = inr (same ∙ ap (λ (b : ℕ). overwritten 0 (b ∷ []) (m.seen a)) byte_is ∙ ap (overwritten 0 (other_selector selector ∷ [])) (seen ∙ ap (λ (k : ℕ). overwritten k (to_be_bytes w64 at) (m.seen old)) slot_is))
+
+  pub slot_then_byte : LeavesOnly m old a (IsSameBeside slot (slot + 8) (m.seen old)) → m.seen a ≡ overwritten slot (to_be_bytes w64 at) (m.seen old) → LeavesOnly m a n (IsOldOr (overwritten 0 (byte ∷ [])) (m.seen a)) → LeavesOnly m old n Pointing
+  slot_then_byte first seen second =
+      joined m old a n Pointing (weaker m old a (IsSameBeside slot (slot + 8) (m.seen old)) Pointing first beside) (weaker m a n (IsOldOr (overwritten 0 (byte ∷ [])) (m.seen a)) Pointing second (with_byte seen))

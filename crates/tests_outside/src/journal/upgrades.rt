@@ -46,21 +46,24 @@ fn told_of(alloc: Global, content: &[u8]) -> Result<(u64, u8, u8), Fail> {
     Ok((count, first, opened.journal.version()))
 }
 
+fn first_files_are_opened(alloc: Global) -> Result<bool, Fail> {
+    Ok(
+        told_of(alloc, &ROW_ADDED)? == (1, 2, 49)
+            && told_of(alloc, &THREE)? == (3, 2, 49)
+            && told_of(alloc, &ADDED)? == (1, 2, 49)
+            && told_of(alloc, &MOVED)? == (1, 9, 49),
+    )
+}
+
+fn second_files_are_opened(alloc: Global) -> Result<bool, Fail> {
+    Ok(told_of(alloc, &APART)? == (1, 9, 50) && told_of(alloc, &UPGRADED)? == (1, 9, 50))
+}
+
 // A magic of the second version takes files of the first.
 #[test]
 fn files_of_both_versions_are_opened(rt: HostRuntime) -> Result<(), Fail> {
-    let alloc = rt.alloc();
-    let table = [
-        (ROW_ADDED.as_slice(), (1, 2, 49)),
-        (THREE.as_slice(), (3, 2, 49)),
-        (ADDED.as_slice(), (1, 2, 49)),
-        (MOVED.as_slice(), (1, 9, 49)),
-        (APART.as_slice(), (1, 9, 50)),
-        (UPGRADED.as_slice(), (1, 9, 50)),
-    ];
-    for (content, want) in table {
-        assert!(rt; told_of(alloc, content)? == want, "{want:?}");
-    }
+    assert!(rt; first_files_are_opened(rt.alloc())?);
+    assert!(rt; second_files_are_opened(rt.alloc())?);
     Ok(())
 }
 
@@ -82,13 +85,20 @@ fn is_ended_or_damaged(alloc: Global, at: usize) -> Result<bool, Fail> {
     }
 }
 
+// How many of the bytes may so be 255, up to the first that may not.
+fn cut_off_so_far(alloc: Global) -> Result<usize, Fail> {
+    for at in 0..43 {
+        if !is_ended_or_damaged(alloc, at)? {
+            return Ok(at);
+        }
+    }
+    Ok(43)
+}
+
 #[test]
 fn an_upgrade_that_was_cut_off_is_ended_or_damaged(rt: HostRuntime) -> Result<(), Fail> {
-    let alloc = rt.alloc();
-    assert!(rt; first_refuses(alloc)?);
-    for at in 0..43 {
-        assert!(rt; is_ended_or_damaged(alloc, at)?, "{at}");
-    }
+    assert!(rt; first_refuses(rt.alloc())?);
+    assert_eq!(rt; cut_off_so_far(rt.alloc())?, 43);
     Ok(())
 }
 

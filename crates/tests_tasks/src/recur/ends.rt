@@ -6,7 +6,7 @@ use tw_time::Zone;
 
 #[derive(Clone, Copy)]
 struct Case {
-    pairs: [(&'static str, &'static str); 4],
+    template: &'static str,
     zone: &'static str,
     now: u64,
     limit: u32,
@@ -17,12 +17,7 @@ struct Case {
 const CASES: [Case; 8] = [
     // The 29th of February of each year, on the 1st of March 2026.
     Case {
-        pairs: [
-            ("due", "1709164800"),
-            ("recur", "yearly"),
-            ("mask", ""),
-            ("x", ""),
-        ],
+        template: "due=1709164800 recur=yearly mask=",
         zone: "",
         now: 1_772_323_200,
         limit: 1,
@@ -31,12 +26,7 @@ const CASES: [Case; 8] = [
     },
     // A midnight that the clock leaps over.
     Case {
-        pairs: [
-            ("due", "1541214000"),
-            ("recur", "daily"),
-            ("mask", ""),
-            ("x", ""),
-        ],
+        template: "due=1541214000 recur=daily mask=",
         zone: "<-03>3<-02>,M11.1.0/0,M2.3.0/0",
         now: 1_541_300_400,
         limit: 1,
@@ -45,12 +35,7 @@ const CASES: [Case; 8] = [
     },
     // `until` is the day of the third.
     Case {
-        pairs: [
-            ("due", "1767225600"),
-            ("recur", "daily"),
-            ("until", "1767398400"),
-            ("x", ""),
-        ],
+        template: "due=1767225600 recur=daily until=1767398400",
         zone: "",
         now: 1_767_355_200,
         limit: 5,
@@ -59,12 +44,7 @@ const CASES: [Case; 8] = [
     },
     // Each waits for the day before, the third still does.
     Case {
-        pairs: [
-            ("due", "1767225600"),
-            ("recur", "1d"),
-            ("wait", "1767139200"),
-            ("x", ""),
-        ],
+        template: "due=1767225600 recur=1d wait=1767139200",
         zone: "",
         now: 1_767_268_800,
         limit: 2,
@@ -73,12 +53,7 @@ const CASES: [Case; 8] = [
     },
     // Only those that are due.
     Case {
-        pairs: [
-            ("due", "1767225600"),
-            ("recur", "1d"),
-            ("mask", "+"),
-            ("x", ""),
-        ],
+        template: "due=1767225600 recur=1d mask=+",
         zone: "",
         now: 1_767_355_200,
         limit: 0,
@@ -87,12 +62,7 @@ const CASES: [Case; 8] = [
     },
     // A mask is counted in characters.
     Case {
-        pairs: [
-            ("due", "1767225600"),
-            ("recur", "1d"),
-            ("mask", "\u{e9}"),
-            ("x", ""),
-        ],
+        template: "due=1767225600 recur=1d mask=\u{e9}",
         zone: "",
         now: 1_767_355_200,
         limit: 0,
@@ -101,12 +71,7 @@ const CASES: [Case; 8] = [
     },
     // The first lies ahead by more than the limit lets.
     Case {
-        pairs: [
-            ("due", "1767312000"),
-            ("recur", "1d"),
-            ("mask", ""),
-            ("x", ""),
-        ],
+        template: "due=1767312000 recur=1d mask=",
         zone: "",
         now: 1_767_268_800,
         limit: 0,
@@ -115,12 +80,7 @@ const CASES: [Case; 8] = [
     },
     // No such length.
     Case {
-        pairs: [
-            ("due", "1767225600"),
-            ("recur", "often"),
-            ("until", "soon"),
-            ("x", ""),
-        ],
+        template: "due=1767225600 recur=often until=soon",
         zone: "",
         now: 1_767_355_200,
         limit: 1,
@@ -150,7 +110,7 @@ fn count_dues(dues: &[u64]) -> usize {
 
 // The tasks of a case once what is due is made.
 fn made(alloc: Global, case: &Case) -> Result<Tasks, Fail> {
-    let mut tasks = template(alloc, &case.pairs)?;
+    let mut tasks = template(alloc, case.template)?;
     let zone = Zone::read(case.zone).or(Err("no zone"))?;
     let _ = make_due(alloc, &mut tasks, case.now, &zone, case.limit)?;
     Ok(tasks)

@@ -2,9 +2,10 @@ use Rattle.std.proofs.Common.{arith, ◌≡◌, ◌<◌, ◌≤◌, ◌+◌, ◌
 use Rattle.std.proofs.lemmas.List.{length_push}
 use Rattle.tw_world.proofs.Moments.{untouched, untouched_join}
 use Rattle.tw_journal.specs.Record.{first_in}
-use Rattle.tw_journal.specs.Open.{HeadIs, HeadInside}
+use Rattle.tw_journal.specs.Open.{HeadIs, HeadInside, SearchRefused}
 use Rattle.tw_journal.specs.declared.find.Head.TheVariants.{Whole}
-use Rattle.tw_journal.proofs.Search.{nothing_yet, one_more}
+use Rattle.tw_journal.proofs.Refusals.{passed_on}
+use Rattle.tw_journal.proofs.Search.{nothing_yet, one_more, head_refused, at_the_end}
 use Rattle.tw_journal.proofs.find.find_records.Goals as goal
 
 pub loop-at-init : goal.loop-at-init
@@ -40,3 +41,16 @@ loop-at-preserved g c =
           one_more (m.seen c.args.disk.now) c.args.start c.loop-at.at c.loop-at.count c.in-Whole.size c.in_ok-first-in-Whole.first c.loop-at.offsets.items c.loop-at.firsts.items _ _
           c.in_ok-add_found-in-Whole.ensures.offsets c.in_ok-add_found-in-Whole.ensures.firsts inv.kept inv.kept_firsts (inv.so_far tells) head first inside.1;
     }
+
+pub returns-in_err-read_head-clause-refused : goal.returns-in_err-read_head-clause-refused
+returns-in_err-read_head-clause-refused g c = λ magic.
+    let inv = c.loop-at.invariant in
+    let m = g.D.Disk.model in
+    passed_on c.from_residual.result c.in_err-read_head.field-0.0 (SearchRefused m c.args.disk.now c.read_head.new.disk magic c.args.start) c.from_residual.ensures.1
+    (head_refused m c.args.disk.now c.loop-at.disk c.read_head.new.disk magic c.args.start c.loop-at.at c.loop-at.count c.loop-at.offsets.items c.loop-at.firsts.items c.in_err-read_head.field-0.0 inv.untouched inv.so_far c.in_err-read_head.ensures.refused)
+
+pub returns-clause-found : goal.returns-clause-found
+returns-clause-found g c = λ tells.
+    let inv = c.loop-at.invariant in
+    let s = g.D.Disk.model.seen c.args.disk.now in
+    at_the_end s c.args.start c.loop-at.at c.loop-at.count c.loop-at.offsets.items c.loop-at.firsts.items (inv.so_far tells) (omega (arith, c.loop-at-test.false, c.requires.len, g.met.D.Disk.has_length c.args.disk.now tells))

@@ -1,0 +1,28 @@
+use Rattle.std.proofs.Common.{◌≡◌, ◌≤◌, ⊎_elim, List, length, inl, inr, refl, ◌∙◌, arith}
+use Rattle.tw_journal.proofs.OneStep.{one_call, then_sync, resized_longer}
+use Rattle.tw_journal.proofs.checkpoint.make_room.Goals as goal
+
+pub returns-in_err-set_len-clause-any_moment : goal.returns-in_err-set_len-clause-any_moment
+returns-in_err-set_len-clause-any_moment g c = λ tells settled.
+    let s = g.D.Disk.model.seen c.args.disk.now in
+    let longer : length s ≤ c.args.needed = omega (arith, c.if-needed-end.false, c.requires.len, g.met.D.Disk.has_length c.args.disk.now tells) in
+    one_call g.D.Disk.model g.met.D.Disk.counts_now g.met.D.Disk.only_now c.args.disk.now _ _ (inl refl) (λ f is. ⊎_elim (λ same. inl same) (λ grown. inr (grown ∙ resized_longer c.args.needed s longer)) is) tells settled c.set_len.new.self c.set_len.ensures.steps
+
+pub returns-in_err-sync-clause-any_moment : goal.returns-in_err-sync-clause-any_moment
+returns-in_err-sync-clause-any_moment g c = λ tells settled.
+    let s = g.D.Disk.model.seen c.args.disk.now in
+    let longer : length s ≤ c.args.needed = omega (arith, c.if-needed-end.false, c.requires.len, g.met.D.Disk.has_length c.args.disk.now tells) in
+    then_sync g.D.Disk.model g.met.D.Disk.counts_now g.met.D.Disk.only_now c.args.disk.now _ _ (inl refl) (λ f is. ⊎_elim (λ same. inl same) (λ grown. inr (grown ∙ resized_longer c.args.needed s longer)) is) tells settled c.set_len.new.self c.sync.new.self c.set_len.ensures.steps c.sync.ensures.steps
+
+pub returns-clause-any_moment : goal.returns-clause-any_moment
+returns-clause-any_moment g c = λ tells settled.
+    let s = g.D.Disk.model.seen c.args.disk.now in
+    let longer : length s ≤ c.args.needed = omega (arith, c.if-needed-end.false, c.requires.len, g.met.D.Disk.has_length c.args.disk.now tells) in
+    then_sync g.D.Disk.model g.met.D.Disk.counts_now g.met.D.Disk.only_now c.args.disk.now _ _ (inl refl) (λ f is. ⊎_elim (λ same. inl same) (λ grown. inr (grown ∙ resized_longer c.args.needed s longer)) is) tells settled c.set_len.new.self c.sync.new.self c.set_len.ensures.steps c.sync.ensures.steps
+
+pub returns-clause-done : goal.returns-clause-done
+returns-clause-done g c = λ tells settled.
+    let s = g.D.Disk.model.seen c.args.disk.now in
+    let longer : length s ≤ c.args.needed = omega (arith, c.if-needed-end.false, c.requires.len, g.met.D.Disk.has_length c.args.disk.now tells) in
+    let told = c.set_len.ensures.steps.tells ∙ tells in
+    (c.sync.ensures.seen told ∙ c.in_ok-set_len.ensures.resized tells ∙ resized_longer c.args.needed s longer, c.in_ok-sync.ensures.settled told)
