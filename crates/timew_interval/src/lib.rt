@@ -1,6 +1,6 @@
 //! Intervals of time, lists of them in order, and edits of these, with the lines and month files as which they are written.
 //! A list is in order and free of overlaps at any time, and an interval has one line.
-//! It stands on tw_time (moments), tw_text (digits) and tw_world (texts).
+//! It uses tw_time (moments), tw_text (digits) and tw_world (texts).
 #![tactic(auto)]
 
 mod characters;

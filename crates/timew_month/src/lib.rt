@@ -1,6 +1,6 @@
 //! Month files: the intervals of their lines, those of several files in one order, and what a change makes of files.
-//! What is written of intervals is read back, the first bad line is told, and a record of a change is read as it was written.
-//! It stands on timew_interval (intervals and their lines), tw_fields (bodies of records) and tw_time (moments).
+//! What is written of intervals is read back, the first bad line is reported, and a record of a change is read as it was written.
+//! It uses timew_interval (intervals and their lines), tw_fields (bodies of records) and tw_time (moments).
 #![tactic(auto)]
 
 mod body;

@@ -1,6 +1,6 @@
 //! The words of a line of `timew`, and the command that they give.
 //! What words give is one function of the words, the moment and the zone; the first word that fits no part is named.
-//! It stands on timew_interval (sets of tags), tw_time (moments and lengths) and tw_text (cells).
+//! It uses timew_interval (sets of tags), tw_time (moments and lengths) and tw_text (cells).
 #![tactic(auto)]
 
 mod command;

@@ -1,6 +1,6 @@
 //! The bodies of a replica's records: the steps that it takes, each with its one spelling.
 //! What is written of a step is read as that step, and what is read is spelled so.
-//! It stands on tw_fields (the fields of a body) and tw_model (tasks and operations).
+//! It uses tw_fields (the fields of a body) and tw_model (tasks and operations).
 #![tactic(auto)]
 
 pub mod laws;

@@ -1,6 +1,6 @@
 //! What the commands of `tw task` make of tasks: the changes of those that are selected, added, copied or imported, and the marks of templates.
 //! Each is an equation over tasks and words alone, with no replica in sight; its circles are paths of dependencies, whatever their length.
-//! It stands on `tw_words` and `tw_filter` for what was asked, on `tw_import` for the JSON, and on `tw_urgency` and `tw_model` for the tasks.
+//! It uses `tw_words` and `tw_filter` for what was asked, `tw_import` for the JSON, and `tw_urgency` and `tw_model` for the tasks.
 #![tactic(auto)]
 
 mod circles;

@@ -1,6 +1,6 @@
 //! The settings of a run: the lines of a file, the overrides of a line, and what their values mean (taskrc(5)).
 //! `read_settings` gives exactly the pairs that both set, or the first that is no setting; each other call reads a value as one definition of `specs/`.
-//! It stands on `tw_urgency` for weights, and on `tw_terms` for cuts of texts and bad words.
+//! It uses `tw_urgency` for weights, and `tw_terms` for cuts of texts and bad words.
 #![tactic(auto)]
 
 mod address;

@@ -1,6 +1,6 @@
 //! The state of a replica in memory: its tasks, what is pending on them, and the numbers of open tasks.
 //! Each step leads to the state that its definition says, or to none; each state that records lead to is sound.
-//! It stands on tw_bodies (the steps, as records spell them), tw_numbers (the places of open tasks) and tw_model (tasks and operations).
+//! It uses tw_bodies (the steps, as records spell them), tw_numbers (the places of open tasks) and tw_model (tasks and operations).
 #![tactic(auto)]
 
 mod apply;

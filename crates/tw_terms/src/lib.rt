@@ -1,6 +1,6 @@
 //! The terms of filters: what one word asks, and whether a task has it (task(1), "FILTER", "ATTRIBUTE MODIFIERS", "VIRTUAL TAGS").
-//! `push_word` gives the tokens that a word spells, or why it spells none; `term_holds` tells exactly whether a term holds for a task.
-//! It stands on `tw_urgency` for what properties say, and on `tw_time` for moments.
+//! `push_word` gives the tokens that a word spells, or why it spells none; `term_holds` answers whether a term holds for a task.
+//! It uses `tw_urgency` for what properties say, and `tw_time` for moments.
 #![tactic(auto)]
 
 mod attribute;
