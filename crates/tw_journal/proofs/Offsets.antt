@@ -1,17 +1,18 @@
 -- Where the records of a row stand.
-use Rattle.std.specs.Prelude.{All, Bool, if◌then◌else◌, nat_le, slice_index_or, Option, unwrap_or}
+use Rattle.std.specs.Prelude.{All, Bool, if◌then◌else◌, nat_le, slice_index_or, Option, Some, unwrap_or}
 use Rattle.std.specs.Int.{to_be_bytes, from_be_bytes, w32}
 use Rattle.std.proofs.Common.{◌≡◌, inl, inr, ⊎_elim, ℕ, zero, suc, ◌+◌, ◌-◌, ◌<◌, ◌≤◌, List, [], ◌∷◌, ◌++◌, length, get_or, take, drop, refl, sym, ◌∙◌, ap, subst, arith, append_assoc, length-append, take-append-drop}
-use Rattle.std.proofs.lemmas.List.{drop_at, take_more, drop_more, drop-drop, drop-take, take-take, append-nil}
+use Rattle.std.proofs.lemmas.List.{drop_at, take_more, drop_more, drop-drop, drop-take, take-take, append-nil, length-drop}
+use Rattle.std.proofs.lemmas.Option.{same_Some}
 use Rattle.std.proofs.lemmas.Nat.{from_be_bytes-to_be_bytes_4}
 use Rattle.tw_world.specs.Disk.{DiskModel, Untouched}
 use Rattle.tw_journal.specs.Record.{behind_gate, rows, IsRecordLength, AreOffsets, AreFirsts}
-use Rattle.tw_journal.specs.Form.{Records, IsSameOrEnded, ended_selector, selector_in, version_in, start_in, offset_in}
+use Rattle.tw_journal.specs.Form.{Records, HasRecords, IsSameOrEnded, ended_selector, selector_in, version_in, start_in, offset_in}
 use Rattle.tw_journal.specs.Reading.{HoldsRows, IsNoRecord, IsSizeAt}
 use Rattle.tw_journal.specs.Open.{IsBroken}
 use Rattle.tw_journal.specs.Journal.{IsAtRest, IsOpenOn, IsOpened, IsSameBesideRoom}
 use Rattle.tw_journal.specs.declared.journal.Journal.{Journal}
-use Rattle.tw_journal.proofs.Forms.{unequal}
+use Rattle.tw_journal.proofs.Forms.{unequal, start_bounds, tail_has_none}
 use Rattle.tw_journal.proofs.Unique.{same_first}
 use Rattle.tw_journal.proofs.Added.{length-rows-push}
 
@@ -155,3 +156,20 @@ pub same_offset : {D : Type 0} (m : DiskModel D) (magic : List ℕ) (before afte
 same_offset m magic before after journal o n inside =
     ⊎_elim (λ none. absurd (omega (arith, inside, ap length none)))
     (λ (same : IsSameOrEnded magic (m.seen before) (m.seen after)). ap (λ (s : Option ℕ). unwrap_or s 0 + length (rows (take n o.bodies))) same.start) o.form
+
+-- an opening that makes no new file leaves no more bytes
+pub no_longer : {D : Type 0} (m : DiskModel D) (magic : List ℕ) (before after : D) (journal : Journal) (o : IsOpened m magic before after journal) → IsSameOrEnded magic (m.seen before) (m.seen after) → length (m.seen after) ≤ length (m.seen before)
+no_longer m magic before after journal o same = ⊎_elim there (λ none. absurd (tail_has_none magic (m.seen before) journal.start none.1 form)) o.records
+  where
+    form : start_in magic (m.seen before) ≡ Some journal.start
+    form = sym same.start ∙ o.now.rest.form
+
+    there : HasRecords magic (m.seen before) o.bodies → length (m.seen after) ≤ length (m.seen before)
+    there has =
+        let at : has.start ≡ journal.start = same_Some has.start journal.start (sym has.form ∙ form) in
+        let inside : journal.start ≤ length (m.seen before) = (start_bounds magic (m.seen before) journal.start form).1 in
+        let l1 : length (drop journal.start (m.seen after)) ≡ length (m.seen after) - journal.start = length-drop journal.start (m.seen after) in
+        let l2 : length (drop has.start (m.seen before)) ≡ length (m.seen before) - has.start = length-drop has.start (m.seen before) in
+        let l3 : length (drop has.start (m.seen before)) ≡ length (rows o.bodies) + length has.image.tail = ap length has.image.split ∙ length-append (rows o.bodies) has.image.tail in
+        let l4 : length (drop journal.start (m.seen after)) ≡ length (rows o.bodies) = ap length o.now.rest.file in
+        omega arith

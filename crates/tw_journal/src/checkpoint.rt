@@ -16,7 +16,7 @@ use tw_world::{Disk, DiskError};
 impl Journal {
     ghost use Rattle.std.specs.Prelude.{true, false};
     ghost use Rattle.tw_journal.specs.Record.{IsLongerBy};
-    ghost use Rattle.tw_journal.specs.Journal.{RecordsBecome, Leaves, RecordsOrOne, Accepted, AppendRefused, journal_end, is_closed, can_checkpoint};
+    ghost use Rattle.tw_journal.specs.Journal.{RecordsBecome, Leaves, RecordsOrOne, Accepted, AppendRefused, journal_end, journal_version, is_closed, can_checkpoint};
 
     /// Replaces all records by one. A crash at any moment of the call leaves the records from before it, or this one alone;
     /// after `Ok` each crash leaves it. After `Disk` the journal is closed. Takes no memory.
@@ -33,6 +33,7 @@ impl Journal {
         ensures accepted { OnOk result (Accepted self.old self.new (length body.now + 5) 1) }
         ensures offset { OnOk result (IsMovedTo self.old self.new (length body.now)) }
         ensures can { can_checkpoint self.new ≡ true }
+        ensures version { journal_version self.new ≡ journal_version self.old }
         ensures refused { IfErr result (λ e. AppendRefused D.model self.old self.new disk.old disk.new (length body.now + 5) e) }
         ensures closed { is_closed self.old ≡ true → result ≡ Err AppendError.Closed }
     {

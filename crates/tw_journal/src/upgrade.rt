@@ -41,6 +41,7 @@ impl Journal {
         ensures kept { FaultsRise D.model disk.old disk.new }
 
         ensures accepted { OnOk result ((journal_version self.new ≡ 50) × (can_checkpoint self.new ≡ true) × (is_closed self.new ≡ false)) }
+        ensures end { OnOk result (can_checkpoint self.old ≡ true → journal_end self.new ≡ journal_end self.old) }
         ensures refused { IfErr result (λ e. AppendRefused D.model self.old self.new disk.old disk.new (upgrade_size self.old body.now) e) }
         ensures closed { is_closed self.old ≡ true → result ≡ Err AppendError.Closed }
     {
@@ -64,6 +65,7 @@ impl Journal {
         ensures length { D.model.len disk.new ≡ journal_end self.new }
         ensures kept { FaultsRise D.model disk.old disk.new }
         ensures accepted { OnOk result ((journal_version self.new ≡ 50) × (can_checkpoint self.new ≡ true) × (is_closed self.new ≡ false)) }
+        ensures end { journal_end self.new ≡ journal_end self.old }
         ensures refused { IfErr result (λ e. AppendRefused D.model self.old self.new disk.old disk.new 0 e) }
     {
         if let Err(_) = write_byte(disk, VERSION, SECOND) {

@@ -1,29 +1,24 @@
 -- One record of the whole state in place of many records.
 use Rattle.std.specs.Prelude.{nat_le}
-use Rattle.std.proofs.Common.{◌≡◌, inl, inr, ℕ, ◌+◌, ◌-◌, ◌^◌, ◌<◌, ◌≤◌, Bool, true, false, cond, ◌&&◌, List, [], ◌∷◌, length, drop, Some, refl, sym, ap, subst, ◌∙◌, ⊎_elim, arith}
+use Rattle.std.proofs.Common.{◌≡◌, inl, inr, ℕ, ◌+◌, ◌^◌, ◌<◌, ◌≤◌, Bool, true, false, cond, ◌&&◌, List, [], ◌∷◌, length, refl, sym, ap, subst, ◌∙◌, ⊎_elim, arith}
 use Rattle.std.proofs.lemmas.Bool.{leb-true}
-use Rattle.std.proofs.lemmas.List.{length-append, length-drop}
-use Rattle.std.proofs.lemmas.Option.{same_Some}
-use Rattle.tw_world.specs.Disk.{DiskModel, Tells, Rose, LeavesOnly, FaultsRise}
+use Rattle.tw_world.specs.Disk.{DiskModel, Rose, LeavesOnly}
 use Rattle.tw_world.proofs.Moments.{CountsNow, OnlyNow, joined, weaker, started}
-use Rattle.tw_journal.specs.Form.{Records, HasRecords, has_areas, selector_in, IsSameOrEnded}
+use Rattle.tw_journal.specs.Form.{Records, has_areas, selector_in, IsSameOrEnded}
 use Rattle.tw_journal.specs.Open.{IsImageThen}
-use Rattle.tw_journal.specs.Record.{rows, IsLongerBy}
+use Rattle.tw_journal.specs.Record.{IsLongerBy}
 use Rattle.tw_journal.specs.Journal.{IsOpenOn, IsOpened, RecordsOrOne, AppendRefused, can_checkpoint, is_closed}
 use Rattle.tw_journal.specs.declared.journal.Journal.{Journal}
 use Rattle.tw_journal.specs.declared.error.AppendError.{AppendError}
 use Rattle.tw_journal.specs.declared.error.AppendError.TheVariants as appends
-use Rattle.tw_journal.proofs.Offsets.{left_records, ended_areas}
+use Rattle.tw_journal.proofs.Offsets.{left_records, ended_areas, no_longer}
 use Rattle.tw_bodies.specs.Body.{IsStep}
 use Rattle.tw_state.specs.State.{State, start, Stands, checkpoint}
 use Rattle.tw_state.specs.Sound.{IsSound}
-use Rattle.tw_replica.specs.Replica.{magic, OpensTo, KeepsRecords, OpeningRefused}
-use Rattle.tw_replica.specs.Opening.{is_due, state_body, opened_bodies, IsAtMost, IsOpening, ShorteningRefused, shortening_in_open}
-use Rattle.tw_replica.specs.declared.open.shorten.ShorteningError.{ShorteningError}
-use Rattle.tw_replica.specs.declared.open.shorten.ShorteningError.TheVariants.{Disk, Memory}
+use Rattle.tw_replica.specs.Replica.{magic, OpensTo}
+use Rattle.tw_replica.specs.Opening.{is_due, state_body, shortened_bodies, IsAtMost, IsOpening}
 use Rattle.tw_bodies.proofs.StepAgain.{step_again}
 use Rattle.tw_state.proofs.Soundness.{checkpoint_leads, stands_sound}
-use Rattle.tw_replica.proofs.Replaying.{opens_as_before}
 
 -- ---- whether it is due
 
@@ -32,19 +27,19 @@ and_none true = refl
 and_none false = refl
 
 module _ (can : Bool) (state : State) (bodies : List (List ℕ)) where
-  not_due : is_due can (length bodies) (length (state_body state)) ≡ false → opened_bodies can state bodies ≡ bodies
+  not_due : is_due can (length bodies) (length (state_body state)) ≡ false → shortened_bodies can state bodies ≡ bodies
   not_due e = ap (λ b. cond b (state_body state ∷ []) bodies) e
 
-  pub in_rows : can ≡ false → opened_bodies can state bodies ≡ bodies
+  pub in_rows : can ≡ false → shortened_bodies can state bodies ≡ bodies
   in_rows e = not_due (ap (λ b. b && (nat_le 1000 (length bodies) && nat_le (length (state_body state) + 5) (2 ^ 30))) e)
 
-  pub too_few : nat_le 1000 (length bodies) ≡ false → opened_bodies can state bodies ≡ bodies
+  pub too_few : nat_le 1000 (length bodies) ≡ false → shortened_bodies can state bodies ≡ bodies
   too_few e = not_due (ap (λ b. can && (b && nat_le (length (state_body state) + 5) (2 ^ 30))) e ∙ and_none can)
 
-  pub too_long : nat_le (length (state_body state) + 5) (2 ^ 30) ≡ false → opened_bodies can state bodies ≡ bodies
+  pub too_long : nat_le (length (state_body state) + 5) (2 ^ 30) ≡ false → shortened_bodies can state bodies ≡ bodies
   too_long e = not_due (ap (λ b. can && (nat_le 1000 (length bodies) && b)) e ∙ ap (λ b. can && b) (and_none (nat_le 1000 (length bodies))) ∙ and_none can)
 
-  pub now_due : can ≡ true → nat_le 1000 (length bodies) ≡ true → nat_le (length (state_body state) + 5) (2 ^ 30) ≡ true → opened_bodies can state bodies ≡ state_body state ∷ []
+  pub now_due : can ≡ true → nat_le 1000 (length bodies) ≡ true → nat_le (length (state_body state) + 5) (2 ^ 30) ≡ true → shortened_bodies can state bodies ≡ state_body state ∷ []
   now_due a b e = rw (a, b, e) refl
 
 -- ---- what it stands for
@@ -53,14 +48,14 @@ pub state_stands : (state : State) → IsSound state → IsStep (checkpoint stat
 state_stands state sound is lt = rw (step_again (checkpoint state) is lt, checkpoint_leads start state sound) refl
 
 -- the records after an opening stand for the state that those before stood for
-pub still_stands : (can : Bool) (state : State) (bodies : List (List ℕ)) → Stands bodies state → IsStep (checkpoint state) → Stands (opened_bodies can state bodies) state
+pub still_stands : (can : Bool) (state : State) (bodies : List (List ℕ)) → Stands bodies state → IsStep (checkpoint state) → Stands (shortened_bodies can state bodies) state
 still_stands can state bodies stands is = by (nat_le (length (state_body state) + 5) (2 ^ 30)) refl
   where
     either : (b : Bool) → Stands (state_body state ∷ []) state → Stands (cond b (state_body state ∷ []) bodies) state
     either true new = new
     either false new = stands
 
-    by : (b : Bool) → nat_le (length (state_body state) + 5) (2 ^ 30) ≡ b → Stands (opened_bodies can state bodies) state
+    by : (b : Bool) → nat_le (length (state_body state) + 5) (2 ^ 30) ≡ b → Stands (shortened_bodies can state bodies) state
     by true e = either _ (state_stands state (stands_sound bodies state stands) is (omega (arith, le_of e)))
       where
         le_of : nat_le (length (state_body state) + 5) (2 ^ 30) ≡ true → length (state_body state) + 5 ≤ 2 ^ 30
@@ -70,30 +65,9 @@ still_stands can state bodies stands is = by (nat_le (length (state_body state) 
 -- ---- one run after another
 
 module _ {D : Type 0} (m : DiskModel D) where
-  -- the records that were replaced stood in the file as it was opened
+  -- the records that were replaced were in the file as it was opened
   pub not_longer : (before mid : D) (journal : Journal) (o : IsOpened m magic before mid journal) → 1000 ≤ length o.bodies → length (m.seen mid) ≤ length (m.seen before)
-  not_longer before mid journal o many = ⊎_elim (λ e. absurd (few o.bodies many e)) (λ form. ⊎_elim (same form) (λ none. absurd (few o.bodies many none.0)) o.records) o.form
-    where
-      few : (bodies : List (List ℕ)) → 1000 ≤ length bodies → bodies ≡ [] → ⊥
-      few [] many e = absurd (omega (arith, many))
-      few (b ∷ bodies) many e = absurd cc
-
-      some : (bodies : List (List ℕ)) → 1000 ≤ length bodies → 1 ≤ length (rows bodies)
-      some [] many = absurd (omega (arith, many))
-      some (b ∷ bodies) many = omega arith
-
-      one_start : (a b : ℕ) → Some a ≡ Some b → a ≡ b
-      one_start a b e = same_Some a b e
-
-      same : IsSameOrEnded magic (m.seen before) (m.seen mid) → HasRecords magic (m.seen before) o.bodies → length (m.seen mid) ≤ length (m.seen before)
-      same form has =
-          let at : has.start ≡ journal.start = one_start has.start journal.start (sym has.form ∙ sym form.start ∙ o.now.rest.form) in
-          let l1 : length (drop journal.start (m.seen mid)) ≡ length (m.seen mid) - journal.start = length-drop journal.start (m.seen mid) in
-          let l2 : length (drop has.start (m.seen before)) ≡ length (m.seen before) - has.start = length-drop has.start (m.seen before) in
-          let l3 : length (drop has.start (m.seen before)) ≡ length (rows o.bodies) + length has.image.tail = ap length has.image.split ∙ length-append (rows o.bodies) has.image.tail in
-          let l4 : length (drop journal.start (m.seen mid)) ≡ length (rows o.bodies) = ap length o.now.rest.file in
-          let l5 : 1 ≤ length (rows o.bodies) = some o.bodies many in
-          omega arith
+  not_longer before mid journal o many = ⊎_elim (λ e. absurd (omega (arith, many, ap length e))) (λ form. no_longer m magic before mid journal o form) o.form
 
   pub opened_grows : CountsNow m → (before mid new : D) (n : ℕ) → LeavesOnly m before mid (IsLongerBy m before 29) → LeavesOnly m mid new (IsAtMost m mid (length (m.seen before) + n)) → 29 ≤ n → LeavesOnly m before new (IsLongerBy m before n)
   opened_grows counts_now before mid new n first second le =
@@ -131,23 +105,19 @@ module _ {D : Type 0} (m : DiskModel D) where
 
   -- ---- opening
 
-  pub same_records : (before mid : D) (journal : Journal) (state : State) (o : IsOpened m magic before mid journal) → opened_bodies (can_checkpoint journal) state o.bodies ≡ opened_bodies (has_areas (m.seen before)) state o.bodies
+  pub same_records : (before mid : D) (journal : Journal) (state : State) (o : IsOpened m magic before mid journal) → shortened_bodies (can_checkpoint journal) state o.bodies ≡ shortened_bodies (has_areas (m.seen before)) state o.bodies
   same_records before mid journal state o = ⊎_elim none same o.form
     where
       few : o.bodies ≡ [] → nat_le 1000 (length o.bodies) ≡ false
       few e = ap (λ (l : List (List ℕ)). nat_le 1000 (length l)) e
 
-      none : o.bodies ≡ [] → opened_bodies (can_checkpoint journal) state o.bodies ≡ opened_bodies (has_areas (m.seen before)) state o.bodies
+      none : o.bodies ≡ [] → shortened_bodies (can_checkpoint journal) state o.bodies ≡ shortened_bodies (has_areas (m.seen before)) state o.bodies
       none e = too_few (can_checkpoint journal) state o.bodies (few e) ∙ sym (too_few (has_areas (m.seen before)) state o.bodies (few e))
 
-      same : IsSameOrEnded magic (m.seen before) (m.seen mid) → opened_bodies (can_checkpoint journal) state o.bodies ≡ opened_bodies (has_areas (m.seen before)) state o.bodies
-      same form = ap (λ (b : Bool). opened_bodies b state o.bodies) (ap (nat_le 2) (sym o.now.rest.selector_is ∙ form.selector) ∙ ended_areas (selector_in (m.seen before)))
+      same : IsSameOrEnded magic (m.seen before) (m.seen mid) → shortened_bodies (can_checkpoint journal) state o.bodies ≡ shortened_bodies (has_areas (m.seen before)) state o.bodies
+      same form = ap (λ (b : Bool). shortened_bodies b state o.bodies) (ap (nat_le 2) (sym o.now.rest.selector_is ∙ form.selector) ∙ ended_areas (selector_in (m.seen before)))
 
   pub shortened : (before mid new : D) (journal : Journal) (state : State) (bodies : List (List ℕ)) → Records magic (m.seen before) bodies → Stands bodies state → LeavesOnly m before mid (IsImageThen m before magic) → LeavesOnly m mid new (λ c. OpensTo c state) → LeavesOnly m before new (IsOpening m before)
   shortened before mid new journal state bodies records stands first second =
       joined m before mid new (IsOpening m before) (weaker m before mid (IsImageThen m before magic) (IsOpening m before) first (λ c has. inl has))
       (weaker m mid new (λ c. OpensTo c state) (IsOpening m before) second (λ c opens. inr (record { state = state; first = record { bodies = bodies; records = records; stands = stands }; second = opens })))
-
-  pub shortening_refused : (before mid after : D) (e : ShorteningError) → FaultsRise m before mid → (Tells m before → KeepsRecords (m.seen before) (m.seen mid)) → ShorteningRefused m mid after e → OpeningRefused m before after (shortening_in_open e)
-  shortening_refused before mid after Disk kept keeps r = omega (arith, kept.faults, r)
-  shortening_refused before mid after Memory kept keeps r = λ tells. opens_as_before _ _ (subst (λ (d : D). KeepsRecords (m.seen before) (m.seen d)) (sym r) (keeps tells))

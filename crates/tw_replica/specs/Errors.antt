@@ -28,11 +28,12 @@ abbrev pub IsReadCause : ReadError → Type 0
 IsReadCause reads.Closed = ⊥
 IsReadCause e = Unit {0}
 
--- the cause that it was of a record that is not read
+-- the cause that it was of a record that is not read. None of an open journal is closed or too long
 abbrev pub of_open : OpenError → ReadError
 of_open opens.Disk = reads.Disk
 of_open (opens.Damaged offset) = reads.Damaged offset
 of_open opens.Memory = reads.Memory
+of_open (opens.TooLong bytes) = reads.Closed
 
 -- the same cause of a journal that is not opened
 abbrev pub journal_in_open : JournalOpenError → OpenError
@@ -81,6 +82,7 @@ abbrev pub open_in_all : OpenError → ReplicaError
 open_in_all opens.Disk = errors.Journal journal.Disk
 open_in_all (opens.Damaged offset) = errors.Journal (journal.Damaged offset)
 open_in_all opens.Memory = errors.Memory
+open_in_all (opens.TooLong bytes) = errors.Journal (journal.TooLong bytes)
 
 abbrev pub write_in_all : WriteError → ReplicaError
 write_in_all e = errors.Journal (of_write e)

@@ -15,6 +15,9 @@ pub enum OpenError {
     Damaged { offset: u64 },
     /// There was no memory left. The records are as they were.
     Memory,
+    /// The file is a row of the first version, and the one record in its place would have so many bytes, more than 2^30. The records
+    /// are as they were.
+    TooLong { bytes: u64 },
 }
 
 /// Why a commit, or the end of a sync in place, is refused.
@@ -272,6 +275,7 @@ impl From<OpenError> for ReplicaError {
                 ReplicaError::Journal(JournalError::Damaged { offset })
             }
             OpenError::Memory => ReplicaError::Memory,
+            OpenError::TooLong { bytes } => ReplicaError::Journal(JournalError::TooLong { bytes }),
         }
     }
 }

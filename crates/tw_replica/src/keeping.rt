@@ -2,6 +2,7 @@
 
 pub(crate) mod commit;
 pub(crate) mod finish_carried;
+mod finish_from;
 mod finish_partial;
 mod finish_sync;
 mod record;

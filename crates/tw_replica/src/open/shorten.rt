@@ -1,14 +1,13 @@
 // A record of the whole state in place of many records.
 ghost use Rattle.std.specs.Prelude.{◌≡◌, ◌+◌, ◌^◌, false, IfOk, OnOk, IfErr};
 ghost use Rattle.tw_world.specs.Disk.{FaultsRise};
-ghost use Rattle.tw_journal.specs.Journal.{is_closed, journal_end};
+ghost use Rattle.tw_journal.specs.Journal.{is_closed, journal_end, journal_version};
 ghost use Rattle.tw_bodies.specs.Body.{IsStep};
 ghost use Rattle.tw_state.specs.State.{checkpoint, start_of};
 ghost use Rattle.tw_state.specs.Core.{state_of};
 ghost use Rattle.tw_replica.specs.Replica.{RecordsAfter};
-ghost use Rattle.tw_replica.specs.Opening.{state_body, shortened, StandsOpened, LeavesState, GrowsAtMost, ShorteningRefused};
+ghost use Rattle.tw_replica.specs.Opening.{state_body, shortened, AreMany, StandsStill, LeavesState, GrowsAtMost, ShorteningRefused};
 
-use crate::error::OpenError;
 use std::alloc::Global;
 use tw_bodies::checkpoint_body;
 use tw_journal::Journal;
@@ -36,25 +35,11 @@ impl From<Memory> for ShorteningError {
     }
 }
 
-impl From<ShorteningError> for OpenError {
-    ghost use Rattle.std.specs.Prelude.{◌≡◌};
-    ghost use Rattle.tw_replica.specs.Opening.{shortening_in_open};
-
-    ghost from_gives = { λ error e. e ≡ shortening_in_open error };
-
-    fn from(error: ShorteningError) -> OpenError {
-        match error {
-            ShorteningError::Disk => OpenError::Disk,
-            ShorteningError::Memory => OpenError::Memory,
-        }
-    }
-}
-
 // With this many records opening writes one in their place.
 const MANY: u64 = 1000;
 
-// The limit of a record.
-const MAX_RECORD: usize = 1 << 30;
+/// The limit of a record.
+pub(crate) const MAX_RECORD: usize = 1 << 30;
 
 // The tasks with all that is pending taken back.
 fn tasks_at_base(alloc: Global, core: &Core) -> Result<Tasks, Memory>
@@ -66,7 +51,8 @@ fn tasks_at_base(alloc: Global, core: &Core) -> Result<Tasks, Memory>
     Ok(tasks)
 }
 
-fn body_of_state(alloc: Global, core: &Core) -> Result<Vec<u8>, Memory>
+/// The body of the record that holds the state.
+pub(crate) fn body_of_state(alloc: Global, core: &Core) -> Result<Vec<u8>, Memory>
     ensures body { IfOk result (λ body. body.items ≡ state_body (state_of core.now)) }
     ensures is { OnOk result (IsStep (checkpoint (state_of core.now))) }
 {
@@ -85,12 +71,13 @@ pub(crate) fn shorten<D: Disk>(
     requires open_now { is_closed journal.old ≡ false }
     requires length { D.model.len disk.old ≡ journal_end journal.old }
     ensures records { OnOk result (RecordsAfter D.model journal.old journal.new disk.old disk.new (shortened journal.old (state_of core.now))) }
-    ensures stands { OnOk result (StandsOpened D.model journal.old disk.old (state_of core.now)) }
+    ensures stands { OnOk result (StandsStill D.model journal.old disk.old (state_of core.now) (shortened journal.old (state_of core.now))) }
     ensures any_moment { LeavesState D.model journal.old disk.old disk.new (state_of core.now) }
-    ensures growth { GrowsAtMost D.model journal.old disk.old disk.new (2 ^ 30 + 2) }
+    ensures growth { GrowsAtMost D.model journal.old disk.old disk.new AreMany (2 ^ 30 + 2) }
     ensures length { OnOk result (D.model.len disk.new ≡ journal_end journal.new) }
     ensures live { OnOk result (is_closed journal.new ≡ false) }
-    ensures refused { IfErr result (λ e. ShorteningRefused D.model disk.old disk.new e) }
+    ensures version { journal_version journal.new ≡ journal_version journal.old }
+    ensures refused { IfErr result (λ e. ShorteningRefused D.model journal.old disk.old disk.new e) }
     ensures kept { FaultsRise D.model disk.old disk.new }
 {
     if !journal.can_checkpoint() {

@@ -13,7 +13,7 @@ pub read_error-requires : goal.read_error-requires
 read_error-requires g c = reads_only g.D.Disk.model c.args.disk.now c.body_through.new.disk c.args.journal.now c.in-Err.error c.requires.open_now c.in-Err.ensures.refused
 
 pub returns-in-Err-clause-refused : goal.returns-in-Err-clause-refused
-returns-in-Err-clause-refused g c = read_refused g.D.Disk.model c.args.disk.now c.args.disk.now c.body_through.new.disk c.args.journal.now c.args.n (state_of c.args.indexed.now.core) c.read_error.result c.in-Err.error c.read_error.ensures (untouched g.D.Disk.model g.met.D.Disk.only_now c.args.disk.now) c.in-Err.ensures.refused
+returns-in-Err-clause-refused g c = read_refused g.D.Disk.model c.args.disk.now c.args.disk.now c.body_through.new.disk c.args.journal.now c.args.n (state_of c.args.indexed.now.core) c.read_error.result c.in-Err.error c.requires.open_now c.read_error.ensures (untouched g.D.Disk.model g.met.D.Disk.only_now c.args.disk.now) c.in-Err.ensures.refused
 
 pub returns-then-branch-clause-step : goal.returns-then-branch-clause-step
 returns-then-branch-clause-step g c = λ bodies on.
@@ -32,7 +32,7 @@ pub read_error-requires-in-Err-offset : goal.read_error-requires-in-Err-offset
 read_error-requires-in-Err-offset g c = reads_only g.D.Disk.model c.body_through.new.disk c.offset.new.disk c.args.journal.now c.in-Err-offset.error c.requires.open_now c.in-Err-offset.ensures.refused
 
 pub returns-in-Err-offset-clause-refused : goal.returns-in-Err-offset-clause-refused
-returns-in-Err-offset-clause-refused g c = read_refused g.D.Disk.model c.args.disk.now c.body_through.new.disk c.offset.new.disk c.args.journal.now c.args.n (state_of c.args.indexed.now.core) c.read_error-in-Err-offset.result c.in-Err-offset.error c.read_error-in-Err-offset.ensures c.body_through.ensures.untouched c.in-Err-offset.ensures.refused
+returns-in-Err-offset-clause-refused g c = read_refused g.D.Disk.model c.args.disk.now c.body_through.new.disk c.offset.new.disk c.args.journal.now c.args.n (state_of c.args.indexed.now.core) c.read_error-in-Err-offset.result c.in-Err-offset.error c.requires.open_now c.read_error-in-Err-offset.ensures c.body_through.ensures.untouched c.in-Err-offset.ensures.refused
 
 pub returns-in-Err-clause-untouched : goal.returns-in-Err-clause-untouched
 returns-in-Err-clause-untouched g c = c.body_through.ensures.untouched

@@ -5,7 +5,7 @@ use Rattle.tw_world.specs.Disk.{LeavesOnly}
 use Rattle.tw_state.specs.State.{Stands}
 use Rattle.tw_state.specs.Core.{state_of}
 use Rattle.tw_replica.specs.Replica.{magic}
-use Rattle.tw_replica.specs.Opening.{state_body, opened_bodies}
+use Rattle.tw_replica.specs.Opening.{state_body, shortened_bodies}
 use Rattle.tw_replica.proofs.Shortening.{in_rows, too_few, too_long, now_due, still_stands, opens_still, opens_either, grows_still, grows_once, disk_failed}
 use Rattle.tw_replica.proofs.open.shorten.shorten.Goals as goal
 
@@ -87,7 +87,7 @@ returns-in-Ok-clause-records g c = λ bodies on.
     let m = g.D.Disk.model in
     let state = state_of c.args.core.now in
     let body : c.deref.result.now ≡ state_body state = c.deref.ensures.value ∙ c.in_ok-body.ensures.body in
-    let due : opened_bodies _ state bodies ≡ state_body state ∷ [] =
+    let due : shortened_bodies _ state bodies ≡ state_body state ∷ [] =
     now_due _ state bodies (sym c.can_checkpoint.ensures.journal ∙ c.if-not-can_checkpoint.false) (le-leb _ _ (omega (arith, on.count, c.if-count-lt-MANY.false))) (le-leb _ _ (omega (arith, c.if-len-gt-MAX_RECORD.false, ap length c.in_ok-body.ensures.body))) in
     subst (IsOpenOn m magic c.checkpoint.new.self c.checkpoint.new.disk) (ap (λ (b : List ℕ). b ∷ []) body ∙ sym due) (c.in-Ok.ensures.replaced magic bodies on)
 
