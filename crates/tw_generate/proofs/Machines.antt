@@ -4,14 +4,15 @@ use Rattle.tw_world.specs.Memory.{memory_model}
 use Rattle.tw_world.specs.declared.memory.MemoryDisk.{MemoryDisk}
 use Rattle.tw_journal.specs.Journal.{IsOpenOn}
 use Rattle.tw_journal.specs.declared.journal.Journal.{Journal}
-use Rattle.tw_bodies.specs.Body.{Step}
+use Rattle.tw_bodies.specs.Body.{Step, body_of}
 use Rattle.tw_state.specs.State.{Stands}
 use Rattle.tw_replica.specs.Replica.{magic, IsReplicaOn, held_state}
 use Rattle.tw_replica.specs.Prepared.{IsPrepared, IsLengthReady, prepared_state, prepared_bodies, step_bodies}
 use Rattle.tw_replica.specs.declared.step.write.Prepared.{Prepared}
 use Rattle.tw_replica.specs.declared.replica.Replica.{Replica}
 use Rattle.tw_replica.proofs.PreparedWritten.{prepared_on}
-use Rattle.tw_sync.specs.Sync.{RecordsOfSync, record_body}
+use Rattle.tw_sync.specs.Start.{Start}
+use Rattle.tw_sync.specs.Sync.{RecordsOfSync}
 use Rattle.tw_generate.specs.Links.{lone_link_model}
 use Rattle.tw_generate.specs.declared.link.LoneLink.{LoneLink}
 
@@ -27,13 +28,13 @@ module _ (old : Replica) (disk : MemoryDisk) (bodies : List (List ℕ)) (on : Is
   on_written new after state opens = (bodies ++ step_bodies step, prepared_on memory_model old step prepared is bodies disk after on new state opens)
 
 -- a sync leaves the replica open
-pub open_after_sync : (old new : Replica) (before after : MemoryDisk) (honest : Type 0) (link : LoneLink) (bodies : List (List ℕ)) → IsReplicaOn memory_model old before bodies
-    → RecordsOfSync memory_model old new before after honest (lone_link_model.chain link) bodies → (bs : List (List ℕ)) × IsReplicaOn memory_model new after bs
-open_after_sync old new before after honest link bodies on (inl nothing) = (
+pub open_after_sync : (start : Start) (old new : Replica) (before after : MemoryDisk) (honest : Type 0) (link : LoneLink) (bodies : List (List ℕ)) → IsReplicaOn memory_model old before bodies
+    → RecordsOfSync memory_model start old new before after honest (lone_link_model.chain link) bodies → (bs : List (List ℕ)) × IsReplicaOn memory_model new after bs
+open_after_sync start old new before after honest link bodies on (inl nothing) = (
   bodies,
   record {
     open_on = subst (λ (d : MemoryDisk). IsOpenOn memory_model magic new.journal d bodies) (sym nothing.same.disk) (subst (λ (j : Journal). IsOpenOn memory_model magic j before bodies) (sym nothing.same.journal) on.open_on);
     stands = subst (Stands bodies) (sym nothing.same.state) on.stands;
   },
 )
-open_after_sync old new before after honest link bodies on (inr one) = (bodies ++ record_body new.core.base one.ops ∷ [], one.on)
+open_after_sync start old new before after honest link bodies on (inr one) = (bodies ++ body_of one.step ∷ [], one.on)

@@ -9,9 +9,11 @@ use Rattle.tw_segment.specs.Segment.{segment_text}
 use Rattle.tw_state.specs.State.{State, start, committed}
 use Rattle.tw_groups.specs.Groups.{groups_of}
 use Rattle.tw_groups.specs.Cut.{first}
-use Rattle.tw_path.specs.Path.{is_batch}
-use Rattle.tw_outcome.specs.End.{ServerChain}
-use Rattle.tw_sync.specs.End.{SyncEnd}
+use Rattle.tw_path.specs.Path.{Reached, is_batch}
+use Rattle.tw_outcome.specs.Start.{Starts}
+use Rattle.tw_outcome.specs.End.{ServerChain, End}
+use Rattle.tw_outcome.specs.End.Answer.{Done}
+use Rattle.tw_sync.specs.End.{counts_of}
 use Rattle.tw_sync.specs.declared.report.SyncReport.{SyncReport}
 use Rattle.tw_urgency.specs.declared.coefficients.Coefficients.{Coefficients}
 use Rattle.tw_export.specs.Export.{export_text}
@@ -51,12 +53,16 @@ FirstChanges changes at old new = HasChanged changes at old.first new.first × (
 abbrev pub SecondChanges : List Change → Moment → (old new : World) → Type 0
 SecondChanges changes at old new = HasChanged changes at old.second new.second × (new.first ≡ old.first) × (new.server ≡ old.server)
 
+-- a sync is done: its path starts at the base of the replica, or at a snapshot
+abbrev pub IsSynced : SyncReport → (old new : State) → (before after : ServerChain) → Type 0
+IsSynced report old new before after = (start : Reached) × Starts old start × End (Done (counts_of report)) old start new before after
+
 -- a replica syncs, and the other one stays
 abbrev pub FirstSyncs : SyncReport → (old new : World) → Type 0
-FirstSyncs report old new = SyncEnd old.first new.first old.server new.server report × (new.second ≡ old.second)
+FirstSyncs report old new = IsSynced report old.first new.first old.server new.server × (new.second ≡ old.second)
 
 abbrev pub SecondSyncs : SyncReport → (old new : World) → Type 0
-SecondSyncs report old new = SyncEnd old.second new.second old.server new.server report × (new.first ≡ old.first)
+SecondSyncs report old new = IsSynced report old.second new.second old.server new.server × (new.first ≡ old.first)
 
 -- the second of the exports
 abbrev pub exported_at : ℕ

@@ -43,10 +43,9 @@ impl Machine {
     ghost use Rattle.tw_state.specs.State.{start};
     ghost use Rattle.tw_replica.specs.Replica.{held_state};
     ghost use Rattle.tw_sync.specs.Answers.{IsLinkKept};
-    ghost use Rattle.tw_sync.specs.End.{SyncEnd};
     ghost use Rattle.tw_sync.specs.Sync.{server_chain};
     ghost use Rattle.tw_urgency.specs.Urgency.{AreWeights};
-    ghost use Rattle.tw_generate.specs.Generated.{HasChanged, exported};
+    ghost use Rattle.tw_generate.specs.Generated.{HasChanged, IsSynced, exported};
     ghost use Rattle.tw_generate.specs.Links.{lone_link_model};
     ghost use Rattle.tw_generate.specs.Machines.{IsOpen};
 
@@ -86,8 +85,8 @@ impl Machine {
     /// Syncs with the server at the other end of a link.
     pub(crate) fn sync(&mut self, alloc: Global, link: &mut LoneLink) -> Result<SyncReport, Memory>
         requires { IsOpen self.old }
-        ensures ended { IfOk result (λ report. IsHonest lone_link_model link.old CLIENT → SyncEnd (held_state self.old.replica) (held_state self.new.replica)
-            (server_chain lone_link_model link.old) (server_chain lone_link_model link.new) report) }
+        ensures ended { IfOk result (λ report. IsHonest lone_link_model link.old CLIENT → IsSynced report (held_state self.old.replica) (held_state self.new.replica)
+            (server_chain lone_link_model link.old) (server_chain lone_link_model link.new)) }
         ensures open { OnOk result (IsOpen self.new) }
         ensures kept { IsLinkKept lone_link_model link.old link.new }
     {

@@ -1,26 +1,30 @@
 -- The ends of a sync.
-use Rattle.std.proofs.Common.{◌≡◌, ℕ, Bool, true, false, cond, List, [], ◌∷◌, ◌++◌, ◌⊎◌, inl, inr, refl, sym, ap, subst, ◌∙◌}
-use Rattle.tw_model.specs.Ops.{TasksValue, apply_all, FitAll}
+use Rattle.std.proofs.Common.{◌≡◌, ℕ, Bool, true, false, cond, List, [], ◌∷◌, ◌++◌, ◌⊎◌, Option, Some, None, inl, inr, refl, sym, ap, subst, ◌∙◌}
+use Rattle.tw_model.specs.Ops.{TasksValue, apply_all, FitAll, fit_part}
 use Rattle.tw_model.specs.LocalOps.{synced, plain, FitAllLocal, apply_all_local, take_back_all}
 use Rattle.tw_model.specs.declared.Op.{Op}
 use Rattle.tw_model.proofs.LocalOps.{plain_same}
 use Rattle.tw_protocol.specs.Chain.{Version, IsChain, IsBetween, Grows, same_id}
 use Rattle.tw_state.specs.Pending.{BeginsWithPoint}
-use Rattle.tw_state.specs.State.{State}
+use Rattle.tw_state.specs.State.{State, at_base, unless, misfit_synced, carried, may_pend, partly}
+use Rattle.tw_state.proofs.Soundness.{leading_may_pend, fitting_may_be_carried}
 use Rattle.tw_state.specs.Sound.{IsSound, start_of}
 use Rattle.tw_numbers.proofs.PlacedAfter.{assigned_in}
 use Rattle.tw_groups.specs.Groups.{Groups, joined, put_in_front, parts_of, groups_of, pending_on}
+use Rattle.tw_groups.specs.Cross.{cross}
 use Rattle.tw_groups.proofs.Grouping.{groups_hold_all, renewed_fits, renewed_goes_back, renewed_is_of_groups}
 use Rattle.tw_path.specs.Fold.{IsFold}
-use Rattle.tw_path.specs.Path.{Reached, Leg, come, IsPath, versions_of}
+use Rattle.tw_path.specs.Path.{Reached, Leg, passed, come, MayPass, IsPath, versions_of}
+use Rattle.tw_path.specs.Path.Leg.{Pull, Push}
 use Rattle.tw_path.specs.PathLaws.{StandsBeside}
 use Rattle.tw_path.proofs.Folds.{fold_grows}
 use Rattle.tw_path.proofs.Paths.{path_stands_beside, path_applies, path_splits}
 use Rattle.tw_path.proofs.Versions.{path_folds, first_between}
 use Rattle.tw_outcome.specs.Agreement.{Agrees}
-use Rattle.tw_outcome.specs.End.{ServerChain, starts_at, moved, stands_at, ends_at, IsStopped}
+use Rattle.tw_outcome.specs.Start.{starts_at, FromSnapshot, StartsSoundly}
+use Rattle.tw_outcome.specs.End.{ServerChain, moved, stands_at, ends_at, IsStopped}
 use Rattle.tw_outcome.specs.End.Answer.{Done, Stopped, Unwritten}
-use Rattle.tw_outcome.specs.Laws.{StartStandsBeside, DoneIsSynced, StoppedStartsThere, EndAgrees}
+use Rattle.tw_outcome.specs.Laws.{StartStandsBeside, DoneIsSynced, DoneIsCarried, StoppedIsPartly, CarriedFits, StoppedStartsThere, IsBeyond, SnapshotLeadsOn, SnapshotEndsAlike, EndAgrees}
 
 -- ---- the start
 
@@ -52,14 +56,41 @@ done_is_synced state legs =
     let r : Reached = come (starts_at state) legs in
     ap (λ (t : TasksValue). moved r.at [] t state) (sym (path_applies (starts_at state) legs))
 
--- ---- agreement
-
-agrees_is_kept : (state : State) (old new : List Version) → Agrees state old → Grows old new → Agrees state new
-agrees_is_kept state old new a g = record { sound = a.sound; folded = fold_grows old new state.base (start_of state) a.folded g }
+-- ---- what is carried
 
 begins_so : (t : TasksValue) (gs : Groups) → BeginsWithPoint (pending_on t gs)
 begins_so t [] = tt
 begins_so t (g ∷ gs) = refl
+
+pub carried_fits : CarriedFits
+carried_fits state legs sound p = fitting_may_be_carried state.tasks (come (starts_at state) legs).carried (came state legs sound p).carried_fits
+
+pub done_is_carried : DoneIsCarried
+done_is_carried state legs sound p none =
+    let r : Reached = come (starts_at state) legs in
+    let s : StandsBeside state.tasks r = came state legs sound p in
+    ap (λ (o : Option ℕ). unless o (moved r.at [] (apply_all state.tasks r.carried) state)) (carried_fits state legs sound p)
+    ∙ ap (λ (t : TasksValue). Some (moved r.at [] t state)) (s.same ∙ ap (apply_all r.tasks) none)
+
+pub stopped_is_partly : StoppedIsPartly
+stopped_is_partly state legs sound p =
+    let r : Reached = come (starts_at state) legs in
+    let s : StandsBeside state.tasks r = came state legs sound p in
+    let is = renewed_fits r.tasks r.left s.fits in
+    let pending : List Op = pending_on r.tasks r.left in
+    let after : TasksValue = apply_all state.tasks r.carried in
+    let end : Option State = unless (misfit_synced 0 state.tasks r.carried) (moved r.at pending after state) in
+    let pends : may_pend after pending ≡ true = leading_may_pend r.tasks after pending (begins_so r.tasks r.left) is.0 (s.same ∙ sym is.1) in (
+      pends,
+      ap (λ (b : Bool). cond b end None) pends
+          ∙ ap (λ (o : Option ℕ). unless o (moved r.at pending after state)) (carried_fits state legs sound p)
+          ∙ ap (λ (t : TasksValue). Some (moved r.at pending t state)) s.same,
+    )
+
+-- ---- agreement
+
+agrees_is_kept : (state : State) (old new : List Version) → Agrees state old → Grows old new → Agrees state new
+agrees_is_kept state old new a g = record { sound = a.sound; folded = fold_grows old new state.base (start_of state) a.folded g }
 
 -- a sound replica that is moved to a version, with groups pending that fit there, agrees with the chain
 pub moved_agrees : (old : State) (chain : List Version) (at : List ℕ) (t : TasksValue) (gs : Groups) → IsSound old → IsFold chain at t → FitAll t (joined gs) → Agrees (moved at (pending_on t gs) (apply_all t (joined gs)) old) chain
@@ -88,17 +119,59 @@ no_legs : (legs more : List Leg) → legs ++ more ≡ [] → legs ≡ []
 no_legs [] more e = refl
 no_legs (leg ∷ legs) more e = absurd cc
 
+-- ---- from a snapshot
+
+-- the state of a sound replica at any version with any tasks is sound, with nothing pending
+pub at_base_sound : (old : State) (base : List ℕ) (tasks : TasksValue) → IsSound old → IsSound (at_base base tasks old)
+at_base_sound old base tasks sound = record { begins = tt; fits = tt; tasks = refl; assigned = assigned_in old.numbers tasks sound.assigned.once }
+
+snapshot_stands : (state : State) (start : Reached) → FromSnapshot state start → StandsBeside start.tasks start
+snapshot_stands state start from = subst (λ r. StandsBeside r.tasks r) (sym from.is) (record { fits = tt; carried_fits = tt; same = refl })
+
+none_crosses : (r : Reached) (leg : Leg) → r.left ≡ [] → MayPass r leg → (passed r leg).left ≡ []
+none_crosses r (Pull v ops) none p = ap (λ gs. (cross (fit_part r.tasks ops) gs).1) none
+none_crosses r (Push v ops) none p = absurd (p.some (ap joined none))
+
+none_left : (r : Reached) (legs : List Leg) → r.left ≡ [] → IsPath r legs → (come r legs).left ≡ []
+none_left r [] none p = none
+none_left r (leg ∷ legs) none p = none_left (passed r leg) legs (none_crosses r leg none p.0) p.1
+
+pub snapshot_leads_on : SnapshotLeadsOn
+snapshot_leads_on state start legs from p =
+    let none : (come start legs).left ≡ [] = none_left start legs (ap (λ r. r.left) from.is) p in
+    let s : StandsBeside start.tasks (come start legs) = path_stands_beside start.tasks start legs (snapshot_stands state start from) p in
+    record { left = none; tasks = sym (s.same ∙ ap (λ gs. apply_all (come start legs).tasks (joined gs)) none) }
+
+pub snapshot_ends_alike : SnapshotEndsAlike
+snapshot_ends_alike state r none = ap (λ gs. cond (same_id r.at state.base) state (moved r.at (pending_on r.tasks gs) (apply_all r.tasks (joined gs)) state)) none
+
+-- a start from which what is left fits, and whose tasks are the fold
+record FitsAt (chain : List Version) (start : Reached) : Type 0 where
+  folded : IsFold chain start.at start.tasks
+  fits : (legs : List Leg) → IsPath start legs → FitAll (come start legs).tasks (joined (come start legs).left)
+
+fits_at : (old : State) (start : Reached) (chain : List Version) → Agrees old chain → StartsSoundly chain old start → FitsAt chain start
+fits_at old start chain a (inl is) =
+    subst (FitsAt chain) (sym is)
+    (record { folded = a.folded; fits = λ legs p. (came old legs a.sound p).fits })
+fits_at old start chain a (inr s) = record {
+  folded = s.1;
+  fits = λ legs p. (path_stands_beside start.tasks start legs (snapshot_stands old start s.0) p).fits;
+}
+
+-- ---- an end
+
 -- the tasks at the end of a path are the fold, also if it has passed no version
-went_folds : (old : State) (chain : List Version) (legs : List Leg) → IsChain chain → Agrees old chain → IsPath (starts_at old) legs → (legs ≡ []) ⊎ IsBetween chain old.base (come (starts_at old) legs).at (versions_of legs)
-    → IsFold chain (come (starts_at old) legs).at (come (starts_at old) legs).tasks
-went_folds old chain legs whole a p (inl none) = subst (λ ls. IsFold chain (come (starts_at old) ls).at (come (starts_at old) ls).tasks) (sym none) a.folded
-went_folds old chain legs whole a p (inr b) = path_folds chain (starts_at old) legs whole a.folded p b
+went_folds : (start : Reached) (chain : List Version) (legs : List Leg) → IsChain chain → IsFold chain start.at start.tasks → IsPath start legs → (legs ≡ []) ⊎ IsBetween chain start.at (come start legs).at (versions_of legs)
+    → IsFold chain (come start legs).at (come start legs).tasks
+went_folds start chain legs whole f p (inl none) = subst (λ ls. IsFold chain (come start ls).at (come start ls).tasks) (sym none) f
+went_folds start chain legs whole f p (inr b) = path_folds chain start legs whole f p b
 
 -- the first part of a path
-first_part : (old : State) (chain : List Version) (legs more : List Leg) → (legs ++ more ≡ []) ⊎ IsBetween chain old.base (come (starts_at old) (legs ++ more)).at (versions_of (legs ++ more))
-    → (legs ≡ []) ⊎ IsBetween chain old.base (come (starts_at old) legs).at (versions_of legs)
-first_part old chain legs more (inl none) = inl (no_legs legs more none)
-first_part old chain legs more (inr b) = inr (first_between chain (starts_at old) legs more (come (starts_at old) (legs ++ more)).at b)
+pub first_part : (start : Reached) (chain : List Version) (legs more : List Leg) → (legs ++ more ≡ []) ⊎ IsBetween chain start.at (come start (legs ++ more)).at (versions_of (legs ++ more))
+    → (legs ≡ []) ⊎ IsBetween chain start.at (come start legs).at (versions_of legs)
+first_part start chain legs more (inl none) = inl (no_legs legs more none)
+first_part start chain legs more (inr b) = inr (first_between chain start legs more (come start (legs ++ more)).at b)
 
 at_end : (old new : State) (chain : List Version) (r : Reached) → Agrees old chain → IsFold chain r.at r.tasks → new ≡ ends_at old r → Agrees new chain
 at_end old new chain r a f e = subst (λ s. Agrees s chain) (sym e) (by (same_id r.at old.base))
@@ -114,16 +187,17 @@ at_stop old new chain r a f fit e = subst (λ s. Agrees s chain) (sym e) (by (sa
     by true = a
     by false = moved_agrees old chain r.at r.tasks r.left a.sound f fit
 
-stopped_agrees : (old new : State) (before after : ServerChain) → IsChain after.chain → Agrees old after.chain → IsStopped old new before after → Agrees new after.chain
-stopped_agrees old new before after whole a s =
-    let start : Reached = starts_at old in
+stopped_agrees : (old : State) (start : Reached) (new : State) (before after : ServerChain) → IsChain after.chain → Agrees old after.chain → FitsAt after.chain start → IsStopped old start new before after → Agrees new after.chain
+stopped_agrees old start new before after whole a at s =
     let r : Reached = come start s.legs in
     let p = path_splits start s.legs s.untold s.went.path in
-    at_stop old new after.chain r a (went_folds old after.chain s.legs whole a p.0 (first_part old after.chain s.legs s.untold s.went.between)) (came old s.legs a.sound p.0).fits s.state
+    at_stop old new after.chain r a (went_folds start after.chain s.legs whole at.folded p.0 (first_part start after.chain s.legs s.untold s.went.between)) (at.fits s.legs p.0) s.state
 
 pub end_agrees : EndAgrees
-end_agrees (Done report) old new before after whole a (grows, d) =
+end_agrees (Done report) old start new before after whole a sound (grows, d) =
     let now : Agrees old after.chain = agrees_is_kept old before.chain after.chain a grows in
-    at_end old new after.chain (come (starts_at old) d.legs) now (went_folds old after.chain d.legs whole now d.went.path d.went.between) d.state
-end_agrees Stopped old new before after whole a (grows, s) = stopped_agrees old new before after whole (agrees_is_kept old before.chain after.chain a grows) s
-end_agrees Unwritten old new before after whole a (grows, k) = subst (λ s. Agrees s after.chain) (sym k.state) (agrees_is_kept old before.chain after.chain a grows)
+    let at : FitsAt after.chain start = fits_at old start after.chain now sound in
+    at_end old new after.chain (come start d.legs) now (went_folds start after.chain d.legs whole at.folded d.went.path d.went.between) d.state
+end_agrees Stopped old start new before after whole a sound (grows, s) =
+    stopped_agrees old start new before after whole (agrees_is_kept old before.chain after.chain a grows) (fits_at old start after.chain (agrees_is_kept old before.chain after.chain a grows) sound) s
+end_agrees Unwritten old start new before after whole a sound (grows, k) = subst (λ s. Agrees s after.chain) (sym k.state) (agrees_is_kept old before.chain after.chain a grows)

@@ -1,14 +1,15 @@
 -- The laws of the ends of a sync.
-use Rattle.std.specs.Prelude.{◌≡◌, List, []}
+use Rattle.std.specs.Prelude.{◌≡◌, true, List, [], Some, None}
 use Rattle.tw_model.specs.Ops.{apply_all, FitAll}
 use Rattle.tw_protocol.specs.Chain.{IsChain}
-use Rattle.tw_state.specs.State.{State, synced}
+use Rattle.tw_state.specs.State.{State, synced, misfit_synced, carried, may_pend, partly}
 use Rattle.tw_state.specs.Sound.{IsSound}
 use Rattle.tw_groups.specs.Groups.{joined, pending_on}
-use Rattle.tw_path.specs.Path.{Reached, Leg, come, ops_of}
+use Rattle.tw_path.specs.Path.{Reached, Leg, come, IsPath, ops_of}
 use Rattle.tw_path.specs.PathLaws.{StandsBeside}
 use Rattle.tw_outcome.specs.Agreement.{Agrees}
-use Rattle.tw_outcome.specs.End.{ServerChain, starts_at, moved, Answer, End}
+use Rattle.tw_outcome.specs.Start.{starts_at, Starts, FromSnapshot, StartsSoundly}
+use Rattle.tw_outcome.specs.End.{ServerChain, moved, stands_at, ends_at, Answer, End}
 
 -- the path of a sound replica starts beside its tasks
 abbrev pub StartStandsBeside : Type 0
@@ -19,13 +20,41 @@ abbrev pub DoneIsSynced : Type 0
 DoneIsSynced = (state : State) (legs : List Leg)
     → let r = come (starts_at state) legs in synced r.at (ops_of legs) state ≡ moved r.at [] r.tasks state
 
+-- and so does what is carried, on the tasks at hand
+abbrev pub DoneIsCarried : Type 0
+DoneIsCarried = (state : State) (legs : List Leg) → IsSound state → IsPath (starts_at state) legs → joined (come (starts_at state) legs).left ≡ []
+    → let r = come (starts_at state) legs in carried r.at r.carried state ≡ Some (moved r.at [] r.tasks state)
+
+-- if something is left, what is carried and what is pending there lead to the replica there
+abbrev pub StoppedIsPartly : Type 0
+StoppedIsPartly = (state : State) (legs : List Leg) → IsSound state → IsPath (starts_at state) legs
+    → let r = come (starts_at state) legs in
+    (may_pend (apply_all state.tasks r.carried) (pending_on r.tasks r.left) ≡ true)
+    × (partly r.at r.carried (pending_on r.tasks r.left) state ≡ Some (moved r.at (pending_on r.tasks r.left) (apply_all r.tasks (joined r.left)) state))
+
+-- what is carried fits the tasks at hand, over any link
+abbrev pub CarriedFits : Type 0
+CarriedFits = (state : State) (legs : List Leg) → IsSound state → IsPath (starts_at state) legs → misfit_synced 0 state.tasks (come (starts_at state) legs).carried ≡ None
+
 -- a replica that is stopped somewhere starts its next path there, with what was left
 abbrev pub StoppedStartsThere : Type 0
 StoppedStartsThere = (old : State) (r : Reached) → FitAll r.tasks (joined r.left)
     → starts_at (moved r.at (pending_on r.tasks r.left) (apply_all r.tasks (joined r.left)) old)
     ≡ record { at = r.at; tasks = r.tasks; left = r.left; carried = [] }
 
--- a sync of a replica that agrees with the chain ends in one that agrees with it, whatever it answers
+-- on a path from a snapshot nothing is left, and what is carried leads from its tasks to those at its end
+pub record IsBeyond (start r : Reached) : Type 0 where
+  pub left : r.left ≡ []
+  pub tasks : r.tasks ≡ apply_all start.tasks r.carried
+
+abbrev pub SnapshotLeadsOn : Type 0
+SnapshotLeadsOn = (state : State) (start : Reached) (legs : List Leg) → FromSnapshot state start → IsPath start legs → IsBeyond start (come start legs)
+
+-- it is done where it is stopped
+abbrev pub SnapshotEndsAlike : Type 0
+SnapshotEndsAlike = (state : State) (r : Reached) → r.left ≡ [] → stands_at state r ≡ ends_at state r
+
+-- a sync of a replica that agrees with the chain ends in one that agrees with it, whatever it answers, if the snapshot is sound that it starts at
 abbrev pub EndAgrees : Type 0
-EndAgrees = (answer : Answer) (old new : State) (before after : ServerChain) → IsChain after.chain → Agrees old before.chain
-    → End answer old new before after → Agrees new after.chain
+EndAgrees = (answer : Answer) (old : State) (start : Reached) (new : State) (before after : ServerChain) → IsChain after.chain → Agrees old before.chain
+    → StartsSoundly after.chain old start → End answer old start new before after → Agrees new after.chain

@@ -1,3 +1,4 @@
 pub mod Agreement
+pub mod Start
 pub mod End
 pub mod Laws

@@ -88,7 +88,8 @@ impl Walker {
 
     /// What is left as pending operations, each with the old value that it finds there. The tasks are then those after them.
     pub fn pending(&mut self, alloc: Global) -> Result<Vec<Op>, Memory>
-        ensures { IfOk result (λ ops. IsPendingThere self.old ops.items) }
+        ensures pending { IfOk result (λ ops. IsPendingThere self.old ops.items) }
+        ensures carried { self.new.carried ≡ self.old.carried }
     {
         pending_on(alloc, &mut self.tasks, &self.left)
     }

@@ -27,7 +27,6 @@ use Rattle.tw_sync.proofs.PullRefused.{tells_all}
 -- the cursor with one conflict more
 pub record IsLater (p q : Cursor) : Type 0 where
   pub walker : q.walker ≡ p.walker
-  pub remote : q.remote.items ≡ p.remote.items
   pub versions : q.versions ≡ p.versions
   pub bytes : q.bytes ≡ p.bytes
   pub pending : q.pending ≡ p.pending
@@ -38,7 +37,6 @@ later_path : (state : State) (legs : List Leg) (p q : Cursor) → IsLater p q �
 later_path state legs p q same s = record {
   path = s.path;
   stands = subst (λ w. StandsAt state.tasks (place state legs) w) (sym same.walker) s.stands;
-  remote = same.remote ∙ s.remote;
   versions = same.versions ∙ s.versions;
   bytes = same.bytes ∙ s.bytes;
   pending = same.pending ∙ s.pending;
@@ -121,10 +119,11 @@ late_pulls m client host state first now p last s few = record {
 
 -- there is no version behind the cursor, where one came before what was sent
 pub late_alone : {L : Type 0} (m : LinkModel L) (client host : List ℕ) (state : State) (first a b : L) (p : Cursor) (last : List ℕ) → IsLate m client host state first a p last → p.conflicts ≤ 15 → IsAsked m client host a b (child_heard client p.walker.at UpToDate)
-    → (IsHonest m a client → SaysTruly m client a b p.walker.at UpToDate) → IsStopped m client host state first b (errors.OutOfSync p.walker.at last)
+    → (IsHonest m a client → SaysTruly m client a b p.walker.at UpToDate) → IsStopped m client host state first b p (errors.OutOfSync p.walker.at last)
 late_alone m client host state first a b p last s tries asked tells = record {
   legs = s.legs;
   path = s.on_path.path;
+  stands = inr s.on_path;
   kept = kept_on m first a b s.asked.kept asked.kept;
   cause = tt;
   heard = λ told_list. to_stop (s.asked.heard told_list) (asked.heard (s.asked.kept.tells_list ∙ told_list));

@@ -18,7 +18,7 @@ use Rattle.tw_outcome.specs.End.{starts_at}
 use Rattle.tw_sync.specs.Cursor.{place, pulled_len, IsOnPath, IsIn, LiesIn, TakesVersion, AddsVersion}
 use Rattle.tw_sync.specs.Honest.{segments_len}
 use Rattle.tw_sync.specs.declared.cursor.Cursor.{Cursor}
-use Rattle.tw_sync.proofs.Legs.{at_on, versions_on, ops_last, pulled_pull, sent_pull, len_pull, pulled_push, sent_push, len_push}
+use Rattle.tw_sync.proofs.Legs.{at_on, versions_on, pulled_pull, sent_pull, len_pull, pulled_push, sent_push, len_push}
 
 -- ---- chains that grow
 
@@ -103,7 +103,6 @@ taken_on state legs p q id segment s t =
     record {
       path = joins.1 s.path ((s.stands.at, t.reads), tt);
       stands = subst (λ r. StandsAt state.tasks r q.walker) (sym joins.0) (t.walks (place state legs) v refl s.stands);
-      remote = t.remote ∙ ap (λ xs. xs ++ t.ops) s.remote ∙ sym (ops_last legs leg);
       versions = (let a = t.versions in let b = s.versions in let c = pulled_pull legs v t.ops in omega (arith, a, b, c));
       bytes = (let a = t.bytes in let b = s.bytes in let c = len_pull legs v t.ops in omega (arith, a, b, c));
       pending = t.pending ∙ s.pending;
@@ -123,7 +122,6 @@ added_on_path state legs p q v ops s push t =
     record {
       path = joins.1 s.path (push, tt);
       stands = subst (λ r. StandsAt state.tasks r q.walker) (sym joins.0) (t.walks state.tasks (place state legs) v refl s.stands);
-      remote = t.remote ∙ ap (λ xs. xs ++ ops) s.remote ∙ sym (ops_last legs leg);
       versions = (let a = t.versions in let b = s.versions in let c = pulled_push legs v ops in omega (arith, a, b, c));
       bytes = (let a = t.bytes in let b = s.bytes in let c = len_push legs v ops in omega (arith, a, b, c));
       pending = t.pending ∙ s.pending;

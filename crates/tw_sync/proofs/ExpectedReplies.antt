@@ -140,4 +140,4 @@ refused_on m client b c hs ks e asked un g = by e asked un
     by : (x : AskError) → AskRefused m b c x → HeardRefusedAsk ks x → HeardRefused client (hs ++ ks) (of_ask x)
     by (asking.Reply kind) a (h, is, bad) = subst (λ k. HeardRefused client (hs ++ k) (errors.Reply kind)) (sym is) (record { cause = ended_by hs h _ bad; until = goes_to_last hs h g })
     by asking.Link a none = same errors.Link (record { cause = tt; until = g }) none
-    by asking.Memory a none = same errors.Memory (record { cause = tt; until = g }) none
+    by asking.Memory a none = same errors.Memory (record { cause = tt; until = inl g }) none

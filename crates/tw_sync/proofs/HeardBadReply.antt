@@ -31,7 +31,7 @@ module _ {L : Type 0} (m : LinkModel L) (old new : L) where
   pub hears_one : (asked : Request) (host reply : List ℕ) (r : Result Response HttpError) → IsListed asked host reply → IsResponseAnswer (kind_of asked) reply r → Hears m (client_of asked) host old new (heard asked r ∷ [])
   hears_one asked host reply r listed read = record { exchanges = exchange_of asked host reply ∷ []; listed = listed; are_heard = (record { sent = sent_of asked host reply; read_as = read }, refl) }
 
-  hears_unread : (asked : Request) (host reply : List ℕ) → IsListed asked host reply → HearsUnread m (client_of asked) host old new []
+  pub hears_unread : (asked : Request) (host reply : List ℕ) → IsListed asked host reply → HearsUnread m (client_of asked) host old new []
   hears_unread asked host reply listed = record { exchanges = []; last = exchange_of asked host reply; listed = listed; are_heard = refl; asked = asked; sent = sent_of asked host reply }
 
   pub badly_heard : (asked : Request) (host reply : List ℕ) (e : AskError) → IsListed asked host reply → IsBadlyAnswered asked reply e → (hs : List Heard) × HearsUntil m (client_of asked) host old new hs (of_ask e) × HeardRefusedAsk hs e

@@ -28,6 +28,7 @@ use Rattle.tw_sync.specs.Way.{WentOn}
 use Rattle.tw_sync.specs.Cursor.{place, IsOnPath, IsIn, AddsVersion}
 use Rattle.tw_sync.specs.Progress.{HeardSoFar, IsAtEnd, HasPulled, IsCause, HeardToStop, StopsTruly, IsStopped}
 use Rattle.tw_sync.specs.Sending.{IsUnsent}
+use Rattle.tw_sync.specs.Start.Start.{Base}
 use Rattle.tw_sync.specs.declared.ask.AddAnswer.TheVariants.{Added}
 use Rattle.tw_sync.specs.declared.cursor.Cursor.{Cursor}
 use Rattle.tw_sync.specs.Causes.{of_ask, of_send}
@@ -55,7 +56,7 @@ pub few_at_end : (begin now versions added conflicts : ℕ) → now ≤ begin + 
 few_at_end begin now versions added conflicts le late tries = omega (arith, le, late, tries)
 
 -- the path that has come to the end lies in the chain, also when it has grown
-pub went_to_end : {L : Type 0} (m : LinkModel L) (client : List ℕ) (state : State) (begin a b : L) (legs : List Leg) (p : Cursor) → IsOnPath state legs p → IsAtEnd m client state begin a legs p → Grows (m.chain a) (m.chain b) → m.own b ≡ m.own a → Went state (server_chain m begin) (server_chain m b) legs
+pub went_to_end : {L : Type 0} (m : LinkModel L) (client : List ℕ) (state : State) (begin a b : L) (legs : List Leg) (p : Cursor) → IsOnPath state legs p → IsAtEnd m client state begin a legs p → Grows (m.chain a) (m.chain b) → m.own b ≡ m.own a → Went (starts_at state) (server_chain m begin) (server_chain m b) legs
 went_to_end m client state begin a b legs p s e g same = record {
   path = s.path;
   between = inr (is_in_grown state (m.chain a) (m.chain b) legs e.lies g);
@@ -101,7 +102,7 @@ module _ {L : Type 0} (m : LinkModel L) (client : List ℕ) (state : State) (beg
   sent_mine = one.mine ∙ ap (λ vs. vs ++ v ∷ []) e.mine ∙ append_assoc (m.own begin) (added_of legs) (v ∷ []) ∙ ap (λ vs. m.own begin ++ vs) (sym added_is)
 
   -- it has gone on to it
-  pub sent_went : IsOnPath state legs p → IsPush (place state legs) v ops → Went state (server_chain m begin) (server_chain m b) more
+  pub sent_went : IsOnPath state legs p → IsPush (place state legs) v ops → Went (starts_at state) (server_chain m begin) (server_chain m b) more
   sent_went s push = record { path = (paths_join (starts_at state) legs (Push v ops ∷ [])).1 s.path (push, tt); between = inr sent_lies; mine = sent_mine; behind = sent_behind }
 
   -- it is at the end of the chain again
@@ -152,16 +153,17 @@ added m client host state begin a b p q id segment wanted ops s asked grows one 
 -- ---- a refusal
 
 -- what is left is not sent
-pub unsent : {L : Type 0} (m : LinkModel L) (client host : List ℕ) (state : State) (begin now : L) (p : Cursor) (e : SendError) → (s : HasPulled m client host state begin now p) → ¬ (joined (place state s.legs).left ≡ []) → IsUnsent (first is_batch (place state s.legs).left) e → IsStopped m client host state begin now (of_send e)
+pub unsent : {L : Type 0} (m : LinkModel L) (client host : List ℕ) (state : State) (begin now : L) (p : Cursor) (e : SendError) → (s : HasPulled m client host state begin now p) → ¬ (joined (place state s.legs).left ≡ []) → IsUnsent (first is_batch (place state s.legs).left) e → IsStopped m client host state begin now p (of_send e)
 unsent m client host state begin now p e s some not = by e not
   where
     heard_here : Type 0
     heard_here = HeardSoFar m client host begin now s.legs p (λ hs. EndedBy hs (IsLastReply client (place state s.legs).at))
 
-    stop : (x : SyncError) → IsCause m begin now x → ((t : heard_here) → HeardRefused client t.hs x × IsMeasured state client t.hs x) → (IsHonest m begin client → HonestRefused state (server_chain m begin) (server_chain m now) x) → RestsOnPulled m client host state begin now x → IsStopped m client host state begin now x
+    stop : (x : SyncError) → IsCause m begin now x → ((t : heard_here) → HeardRefused client t.hs x × IsMeasured Base state client t.hs x) → (IsHonest m begin client → HonestRefused Base state (server_chain m begin) (server_chain m now) x) → RestsOnPulled m client host state begin now x → IsStopped m client host state begin now p x
     stop x cause why says pulled = record {
       legs = s.legs;
       path = s.on_path.path;
+      stands = inr s.on_path;
       kept = s.asked.kept;
       cause = cause;
       heard = λ tells. (let t = s.asked.heard tells in record {
@@ -188,7 +190,7 @@ unsent m client host state begin now p e s some not = by e not
           });
     }
 
-    by : (x : SendError) → IsUnsent (first is_batch (place state s.legs).left) x → IsStopped m client host state begin now (of_send x)
+    by : (x : SendError) → IsUnsent (first is_batch (place state s.legs).left) x → IsStopped m client host state begin now p (of_send x)
     by (sending.TooLong bytes) n =
         stop (errors.SegmentTooLong bytes) n.1
         (λ t. (
@@ -199,7 +201,7 @@ unsent m client host state begin now p e s some not = by e not
         let e = s.come honest in
         record { legs = s.legs; path = s.on_path.path; between = e.lies; last = at_end_holds m client state begin now s.legs p e; some = some; len = n.0 }))
         tt
-    by sending.Memory n = stop errors.Memory tt (λ t. (record { cause = tt; until = goes_on_so_far m client host begin now s.legs p _ t s.tries }, tt)) (λ honest. tt) tt
+    by sending.Memory n = stop errors.Memory tt (λ t. (record { cause = tt; until = inl (goes_on_so_far m client host begin now s.legs p _ t s.tries) }, tt)) (λ honest. tt) tt
 
 may_add : (e : AskError) → NoReply e → MayAdd (of_ask e)
 may_add e (inl is) = subst (λ x. MayAdd (of_ask x)) (sym is) tt
@@ -207,10 +209,11 @@ may_add e (inr is) = subst (λ x. MayAdd (of_ask x)) (sym is) tt
 
 -- the question was refused
 pub unadded : {L : Type 0} (m : LinkModel L) (client host : List ℕ) (state : State) (begin a b : L) (p : Cursor) (segment : List ℕ) (ops : List SyncOp) (e : AskError) → (s : HasPulled m client host state begin a p) → RefusedAsk m client host a b e → (IsHonest m a client → GrowsOn m a b client)
-    → (IsHonest m a client → AddRefused m a b p.walker.at segment e) → ((id : List ℕ) → IsPush (place state s.legs) (version id p.walker.at segment) ops) → IsStopped m client host state begin b (of_ask e)
+    → (IsHonest m a client → AddRefused m a b p.walker.at segment e) → ((id : List ℕ) → IsPush (place state s.legs) (version id p.walker.at segment) ops) → IsStopped m client host state begin b p (of_ask e)
 unadded m client host state begin a b p segment ops e s un grows refused push = record {
   legs = s.legs;
   path = s.on_path.path;
+  stands = inr s.on_path;
   kept = kept_on m begin a b s.asked.kept un.kept;
   cause = cause_on m begin a b e s.asked.kept un.refused;
   heard = λ tells. to_stop (s.asked.heard tells) (un.heard (s.asked.kept.tells_list ∙ tells));
@@ -234,7 +237,7 @@ unadded m client host state begin a b p segment ops e s un grows refused push = 
           omega (arith, n, k, o, f, g, late));
     }
 
-    says : GrowsOn m a b client → IsAtEnd m client state begin a s.legs p → HonestRefused state (server_chain m begin) (server_chain m b) (of_ask e) → WentOn state (server_chain m begin) (server_chain m b) s.legs (of_ask e) → StopsTruly m client host state begin b s.legs (of_ask e)
+    says : GrowsOn m a b client → IsAtEnd m client state begin a s.legs p → HonestRefused Base state (server_chain m begin) (server_chain m b) (of_ask e) → WentOn state (server_chain m begin) (server_chain m b) s.legs (of_ask e) → StopsTruly m client host state begin b s.legs (of_ask e)
     says on c is_so went = record {
       whole = on.whole;
       grows = grows_on (m.chain begin) (m.chain a) (m.chain b) c.on.grows on.grows;
@@ -252,13 +255,14 @@ unadded m client host state begin a b p segment ops e s un grows refused push = 
         let v : Version = version id p.walker.at segment in
         says on c (no_reply_says state (server_chain m begin) (server_chain m b) e none)
         (record { untold = Push v ops ∷ []; few = inr (v, ops, refl); told_only = inr (may_add e none); went = sent_went m client state begin a b s.legs p id segment ops s.on_path.stands.at c on one s.on_path (push id) })
-    by c on (inr (is, same)) = says on c (subst (λ x. HonestRefused state (server_chain m begin) (server_chain m b) (of_ask x)) (sym is) refl) (stays on c same)
+    by c on (inr (is, same)) = says on c (subst (λ x. HonestRefused Base state (server_chain m begin) (server_chain m b) (of_ask x)) (sym is) refl) (stays on c same)
 
 -- the version was added, and there was no memory for what follows
-pub added_unkept : {L : Type 0} (m : LinkModel L) (client host : List ℕ) (state : State) (begin a b : L) (p : Cursor) (id segment : List ℕ) (wanted : Bool) (ops : List SyncOp) → (s : HasPulled m client host state begin a p) → IsAsked m client host a b (add_heard client p.walker.at segment (Added id wanted))
-    → (IsHonest m a client → GrowsOn m a b client) → (IsHonest m a client → IsAddedOne m a b (version id p.walker.at segment)) → IsPush (place state s.legs) (version id p.walker.at segment) ops → IsStopped m client host state begin b errors.Memory
-added_unkept m client host state begin a b p id segment wanted ops s asked grows one push = record {
+pub added_unkept : {L : Type 0} (m : LinkModel L) (client host : List ℕ) (state : State) (begin a b : L) (p q : Cursor) (id segment : List ℕ) (wanted : Bool) (ops : List SyncOp) → (s : HasPulled m client host state begin a p) → IsAsked m client host a b (add_heard client p.walker.at segment (Added id wanted))
+    → (IsHonest m a client → GrowsOn m a b client) → (IsHonest m a client → IsAddedOne m a b (version id p.walker.at segment)) → IsPush (place state s.legs) (version id p.walker.at segment) ops → IsStopped m client host state begin b q errors.Memory
+added_unkept m client host state begin a b p q id segment wanted ops s asked grows one push = record {
   legs = more;
+  stands = inl refl;
   path = (paths_join (starts_at state) s.legs (Push v ops ∷ [])).1 s.on_path.path (push, tt);
   kept = kept_on m begin a b s.asked.kept asked.kept;
   cause = tt;
@@ -288,7 +292,7 @@ added_unkept m client host state begin a b p id segment wanted ops s asked grows
     to_stop t heard = record {
       hs = t.hs ++ h ∷ [];
       hears = inl (hears_on m client host begin a b t.hs (h ∷ []) t.hears heard);
-      refused = record { cause = tt; until = goes_on_past t.hs h (goes_on_so_far m client host begin a s.legs p _ t s.tries) (asked.welcome, added_leads h.reply id wanted refl) (not_late client (place state s.legs).at t.hs t.so) refl refl };
+      refused = record { cause = tt; until = inl (goes_on_past t.hs h (goes_on_so_far m client host begin a s.legs p _ t s.tries) (asked.welcome, added_leads h.reply id wanted refl) (not_late client (place state s.legs).at t.hs t.so) refl refl) };
       measured = tt;
       tells = tells_all more errors.Memory (t.hs ++ h ∷ []) (told_in-last t.hs h v refl ∙ ap (λ vs. vs ++ v ∷ []) t.told ∙ sym (versions_on s.legs (Push v ops)));
       few = λ honest. (

@@ -5,6 +5,7 @@ pub mod Holding
 pub mod Legs
 pub mod CursorInChain
 pub mod Results
+pub mod StepTaken
 pub mod HonestProgress
 pub mod OneExchangeMore
 pub mod PullRefused
@@ -13,6 +14,7 @@ pub mod LeftIsSent
 pub mod Conflicts
 pub mod CursorAtStart
 pub mod ReplicaMoved
+pub mod NotMoved
 pub mod LocalSteps
 pub mod Ends
 pub mod Replies
@@ -25,6 +27,12 @@ pub mod HeardBadReply
 pub mod Hearing
 pub mod ExpectedReplies
 pub mod Complete
+pub mod SentAndAsked
+pub mod StoppedEnds
+pub mod GivenFacts
+pub mod FromStart
+pub mod Unheard
+pub mod Beginnings
 pub mod SyncEnds
 pub mod LaterOps
 pub mod Worlds

@@ -72,10 +72,11 @@ others_added m first now mine least whole g own added long = record {
     by v there (inr since) = since
 
 -- the sixteenth conflict ends the sync
-pub busy : {L : Type 0} (m : LinkModel L) (client host : List ℕ) (state : State) (first now : L) (p : Cursor) (last : List ℕ) → OwnAreOfChain m first → IsLate m client host state first now p last → 15 < p.conflicts → IsStopped m client host state first now (errors.Busy last)
+pub busy : {L : Type 0} (m : LinkModel L) (client host : List ℕ) (state : State) (first now : L) (p : Cursor) (last : List ℕ) → OwnAreOfChain m first → IsLate m client host state first now p last → 15 < p.conflicts → IsStopped m client host state first now p (errors.Busy last)
 busy m client host state first now p last own s over = record {
   legs = s.legs;
   path = s.on_path.path;
+  stands = inr s.on_path;
   kept = s.asked.kept;
   cause = tt;
   heard = λ tells. to_stop (s.asked.heard tells);

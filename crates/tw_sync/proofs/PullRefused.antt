@@ -24,6 +24,7 @@ use Rattle.tw_sync.specs.Honest.{HonestRefused, IsLongPull, IsUnreadIn, WasPulle
 use Rattle.tw_sync.specs.Way.{RefusesLast, TellsOf, WentOn}
 use Rattle.tw_sync.specs.Cursor.{place, IsOnPath, IsNotTaken, IsUnreadable, IsIn}
 use Rattle.tw_sync.specs.Progress.{HeardSoFar, HasCome, Asks, IsCause, HeardToStop, StopsTruly, IsStopped}
+use Rattle.tw_sync.specs.Start.Start.{Base}
 use Rattle.tw_sync.specs.declared.ask.ChildAnswer.TheVariants.{Found, Gone}
 use Rattle.tw_sync.specs.declared.cursor.Cursor.{Cursor}
 use Rattle.tw_sync.specs.Causes.{of_ask, of_take}
@@ -96,11 +97,11 @@ late_by_one conflicts versions (inl le) = omega (arith, le)
 late_by_one conflicts versions (inr (le, p)) = le
 
 -- it has gone what it was told of, and has added nothing else
-pub went_on : (state : State) (before after : ServerChain) (legs : List Leg) (e : SyncError) → Went state before after legs → WentOn state before after legs e
-went_on state before after legs e went = record { untold = []; few = inl refl; told_only = inl refl; went = subst (Went state before after) (sym (append-nil legs)) went }
+pub went_on : (state : State) (before after : ServerChain) (legs : List Leg) (e : SyncError) → Went (starts_at state) before after legs → WentOn state before after legs e
+went_on state before after legs e went = record { untold = []; few = inl refl; told_only = inl refl; went = subst (Went (starts_at state) before after) (sym (append-nil legs)) went }
 
 -- so it goes while the chain grows
-pub went_so_far : {L : Type 0} (m : LinkModel L) (client : List ℕ) (state : State) (first a b : L) (legs : List Leg) (p : Cursor) → IsPath (starts_at state) legs → HasCome m client state first a legs p → GrowsOn m a b client → m.own b ≡ m.own a → Went state (server_chain m first) (server_chain m b) legs
+pub went_so_far : {L : Type 0} (m : LinkModel L) (client : List ℕ) (state : State) (first a b : L) (legs : List Leg) (p : Cursor) → IsPath (starts_at state) legs → HasCome m client state first a legs p → GrowsOn m a b client → m.own b ≡ m.own a → Went (starts_at state) (server_chain m first) (server_chain m b) legs
 went_so_far m client state first a b legs p path h on same = record {
   path = path;
   between = lies_grown state (m.chain a) (m.chain b) legs h.lies on.grows;
@@ -110,7 +111,7 @@ went_so_far m client state first a b legs p path h on same = record {
 
 -- a refusal that adds nothing
 pub stops_here : {L : Type 0} (m : LinkModel L) (client host : List ℕ) (state : State) (first a b : L) (legs : List Leg) (p : Cursor) (e : SyncError) → IsPath (starts_at state) legs → HasCome m client state first a legs p → GrowsOn m a b client → m.own b ≡ m.own a
-    → HonestRefused state (server_chain m first) (server_chain m b) e → RestsOnPulled m client host state first b e → StopsTruly m client host state first b legs e
+    → HonestRefused Base state (server_chain m first) (server_chain m b) e → RestsOnPulled m client host state first b e → StopsTruly m client host state first b legs e
 stops_here m client host state first a b legs p e path h on same refused pulled = record {
   whole = on.whole;
   grows = grows_on (m.chain first) (m.chain a) (m.chain b) h.on.grows on.grows;
@@ -127,26 +128,27 @@ cause_on m first a b asking.Link kept r = rose_later (m.faults first) (m.faults 
 cause_on m first a b asking.Memory kept r = tt
 cause_on m first a b (asking.Reply kind) kept r = tt
 
-pub no_reply_says : (state : State) (before after : ServerChain) (e : AskError) → NoReply e → HonestRefused state before after (of_ask e)
-no_reply_says state before after e (inl is) = subst (λ x. HonestRefused state before after (of_ask x)) (sym is) tt
-no_reply_says state before after e (inr is) = subst (λ x. HonestRefused state before after (of_ask x)) (sym is) tt
+pub no_reply_says : (state : State) (before after : ServerChain) (e : AskError) → NoReply e → HonestRefused Base state before after (of_ask e)
+no_reply_says state before after e (inl is) = subst (λ x. HonestRefused Base state before after (of_ask x)) (sym is) tt
+no_reply_says state before after e (inr is) = subst (λ x. HonestRefused Base state before after (of_ask x)) (sym is) tt
 
 pub rests_on_none : {L : Type 0} (m : LinkModel L) (client host : List ℕ) (state : State) (first now : L) (e : AskError) → RestsOnPulled m client host state first now (of_ask e)
 rests_on_none m client host state first now asking.Link = tt
 rests_on_none m client host state first now asking.Memory = tt
 rests_on_none m client host state first now (asking.Reply kind) = tt
 
-pub unmeasured : (state : State) (client : List ℕ) (hs : List Heard) (e : AskError) → IsMeasured state client hs (of_ask e)
+pub unmeasured : (state : State) (client : List ℕ) (hs : List Heard) (e : AskError) → IsMeasured Base state client hs (of_ask e)
 unmeasured state client hs asking.Link = tt
 unmeasured state client hs asking.Memory = tt
 unmeasured state client hs (asking.Reply kind) = tt
 
 -- the question was refused
 pub pulling_unasked : {L : Type 0} (m : LinkModel L) (client host : List ℕ) (state : State) (first a b : L) (p : Cursor) (Q : List Heard → Type 0) (e : AskError) → Asks m client host state first a p Q → RefusedAsk m client host a b e
-    → (IsHonest m a client → GrowsOn m a b client) → (IsHonest m a client → m.own b ≡ m.own a) → (IsHonest m a client → NoReply e) → IsStopped m client host state first b (of_ask e)
+    → (IsHonest m a client → GrowsOn m a b client) → (IsHonest m a client → m.own b ≡ m.own a) → (IsHonest m a client → NoReply e) → IsStopped m client host state first b p (of_ask e)
 pulling_unasked m client host state first a b p Q e s un on mine reply = record {
   legs = s.legs;
   path = s.on_path.path;
+  stands = inr s.on_path;
   kept = kept_on m first a b s.asked.kept un.kept;
   cause = cause_on m first a b e s.asked.kept un.refused;
   heard = λ tells. to_stop (s.asked.heard tells) (un.heard (s.asked.kept.tells_list ∙ tells));
@@ -172,12 +174,13 @@ pulling_unasked m client host state first a b p Q e s un on mine reply = record 
     }
 
 -- one reply was read, and is refused
-pub stopped_at : {L : Type 0} (m : LinkModel L) (client host : List ℕ) (state : State) (first a b : L) (p : Cursor) (Q : List Heard → Type 0) (h : Heard) (e : SyncError) → (s : Asks m client host state first a p Q) → IsAsked m client host a b h → IsCause m first b e
-    → ((hs : List Heard) → pulled_bytes hs ≡ p.bytes → GoesOnFrom hs → HeardRefused client (hs ++ h ∷ []) e) → ((hs : List Heard) → IsMeasured state client hs e) → ((hs : List Heard) → told_in hs ≡ versions_of s.legs → TellsOf s.legs e (hs ++ h ∷ []))
-    → (IsHonest m first client → StopsTruly m client host state first b s.legs e) → IsStopped m client host state first b e
-stopped_at m client host state first a b p Q h e s asked cause refused measured told come = record {
+pub stopped_at : {L : Type 0} (m : LinkModel L) (client host : List ℕ) (state : State) (first a b : L) (p q : Cursor) (Q : List Heard → Type 0) (h : Heard) (e : SyncError) → (s : Asks m client host state first a p Q) → IsAsked m client host a b h → IsCause m first b e
+    → ((hs : List Heard) → pulled_bytes hs ≡ p.bytes → GoesOnFrom hs → HeardRefused client (hs ++ h ∷ []) e) → ((hs : List Heard) → IsMeasured Base state client hs e) → ((hs : List Heard) → told_in hs ≡ versions_of s.legs → TellsOf s.legs e (hs ++ h ∷ []))
+    → (e ≡ errors.Memory) ⊎ IsOnPath state s.legs q → (IsHonest m first client → StopsTruly m client host state first b s.legs e) → IsStopped m client host state first b q e
+stopped_at m client host state first a b p q Q h e s asked cause refused measured told stands come = record {
   legs = s.legs;
   path = s.on_path.path;
+  stands = stands;
   kept = kept_on m first a b s.asked.kept asked.kept;
   cause = cause;
   heard = λ tells. to_stop (s.asked.heard tells) (asked.heard (s.asked.kept.tells_list ∙ tells));
@@ -201,13 +204,14 @@ stopped_at m client host state first a b p Q h e s asked cause refused measured 
 
 -- the server does not know the cursor
 pub pulling_gone : {L : Type 0} (m : LinkModel L) (client host : List ℕ) (state : State) (first a b : L) (p : Cursor) (Q : List Heard → Type 0) → Asks m client host state first a p Q → IsAsked m client host a b (child_heard client p.walker.at Gone)
-    → (IsHonest m a client → SaysTruly m client a b p.walker.at Gone) → IsStopped m client host state first b (errors.Gone p.walker.at)
+    → (IsHonest m a client → SaysTruly m client a b p.walker.at Gone) → IsStopped m client host state first b p (errors.Gone p.walker.at)
 pulling_gone m client host state first a b p Q s asked tells =
     let h = child_heard client p.walker.at Gone in
-    stopped_at m client host state first a b p Q h (errors.Gone p.walker.at) s asked tt
+    stopped_at m client host state first a b p p Q h (errors.Gone p.walker.at) s asked tt
     (λ hs n g. record { cause = ended_by hs h _ (refl, refl); until = goes_to_last hs h g })
     (λ hs. tt)
     (λ hs told. tells_all s.legs (errors.Gone p.walker.at) (hs ++ h ∷ []) (told_in-past hs h refl ∙ told))
+    (inr s.on_path)
     (λ honest. (
     let c = s.come honest in
     let r = tells c.on.honest in
@@ -238,9 +242,9 @@ unread_in state chain legs p id segment version_is whole there next same un =
     }
 
 -- the version behind the cursor is not taken
-pub pulling_untaken : {L : Type 0} (m : LinkModel L) (client host : List ℕ) (state : State) (first a b : L) (p : Cursor) (Q : List Heard → Type 0) (id segment : List ℕ) (e : TakeError) → Asks m client host state first a p Q → IsAsked m client host a b (child_heard client p.walker.at (Found id segment))
-    → (IsHonest m a client → SaysTruly m client a b p.walker.at (Found id segment)) → IsNotTaken p id segment e → IsStopped m client host state first b (of_take e)
-pulling_untaken m client host state first a b p Q id segment e s asked tells not = by e not
+pub pulling_untaken : {L : Type 0} (m : LinkModel L) (client host : List ℕ) (state : State) (first a b : L) (p q : Cursor) (Q : List Heard → Type 0) (id segment : List ℕ) (e : TakeError) → Asks m client host state first a p Q → IsAsked m client host a b (child_heard client p.walker.at (Found id segment))
+    → (IsHonest m a client → SaysTruly m client a b p.walker.at (Found id segment)) → IsNotTaken p id segment e → (e ≡ taking.Memory) ⊎ (q ≡ p) → IsStopped m client host state first b q (of_take e)
+pulling_untaken m client host state first a b p q Q id segment e s asked tells not kept = by e not (stays kept)
   where
     h : Heard
     h = child_heard client p.walker.at (Found id segment)
@@ -256,7 +260,7 @@ pulling_untaken m client host state first a b p Q id segment e s asked tells not
           subst (λ vs. Contains vs v) (sym (versions_in-append t.hs (h ∷ []))) (Contains-append_right (versions_in t.hs) (v ∷ []) v (0, omega arith, refl)),
         )
 
-    at_honest : (x : SyncError) → (IsChain (m.chain b) → IsIn state (m.chain b) s.legs → IsBetween (m.chain b) (place state s.legs).at id (v ∷ []) → HonestRefused state (server_chain m first) (server_chain m b) x × RestsOnPulled m client host state first b x) → IsHonest m first client → StopsTruly m client host state first b s.legs x
+    at_honest : (x : SyncError) → (IsChain (m.chain b) → IsIn state (m.chain b) s.legs → IsBetween (m.chain b) (place state s.legs).at id (v ∷ []) → HonestRefused Base state (server_chain m first) (server_chain m b) x × RestsOnPulled m client host state first b x) → IsHonest m first client → StopsTruly m client host state first b s.legs x
     at_honest x says honest =
         let c = s.come honest in
         let r = tells c.on.honest in
@@ -267,28 +271,35 @@ pulling_untaken m client host state first a b p Q id segment e s asked tells not
     goes : (hs : List Heard) → pulled_bytes hs ≡ p.bytes → GoesOnFrom hs → p.bytes + length segment ≤ max_pull → GoesOnFrom (hs ++ h ∷ [])
     goes hs have g within = goes_on hs h g (asked.welcome, child_leads h.reply id p.walker.at segment refl) (λ late. refl) (omega (arith, have, within)) (let f = g.few in omega (arith, f))
 
-    by : (x : TakeError) → IsNotTaken p id segment x → IsStopped m client host state first b (of_take x)
-    by (taking.TooLong bytes) n =
-        stopped_at m client host state first a b p Q h (errors.PullTooLong bytes) s asked n.1
+    stays : (e ≡ taking.Memory) ⊎ (q ≡ p) → (of_take e ≡ errors.Memory) ⊎ IsOnPath state s.legs q
+    stays (inl is) = inl (ap of_take is)
+    stays (inr same) = inr (subst (IsOnPath state s.legs) (sym same) s.on_path)
+
+    by : (x : TakeError) → IsNotTaken p id segment x → (of_take x ≡ errors.Memory) ⊎ IsOnPath state s.legs q → IsStopped m client host state first b q (of_take x)
+    by (taking.TooLong bytes) n stands =
+        stopped_at m client host state first a b p q Q h (errors.PullTooLong bytes) s asked n.1
         (λ hs have g. record {
           cause = record { last = ended_by hs h IsWelcome asked.welcome; sum = (let f = pulled_bytes-append hs (h ∷ []) in let o = n.0 in omega (arith, f, o, have)); over = n.1 };
           until = goes_to_last hs h g;
         })
         (λ hs. tt)
         (λ hs told. tells_more s.legs (errors.PullTooLong bytes) hs h tt told)
+        stands
         (at_honest (errors.PullTooLong bytes) (λ whole there next. (let l : IsLongPull state (m.chain b) bytes = long_pull state (m.chain b) s.legs p id segment bytes s.on_path whole there next n.0 in (l, (l, was)))))
-    by (taking.Segment bad) n =
-        stopped_at m client host state first a b p Q h (errors.Segment bad) s asked tt
+    by (taking.Segment bad) n stands =
+        stopped_at m client host state first a b p q Q h (errors.Segment bad) s asked tt
         (λ hs have g. record {
           cause = ended_by hs h (IsBadSegment bad) (record { parent = p.walker.at; segment = segment; reply_is = ap (λ (i : List ℕ). Ok (replies.Child i p.walker.at segment)) (sym n.0); error = n.1.error; unread = n.1.unread; other = n.1.other });
           until = goes hs have g n.2;
         })
         (λ hs. tt)
         (λ hs told. tells_more s.legs (errors.Segment bad) hs h tt told)
+        stands
         (at_honest (errors.Segment bad) (λ whole there next. (let u : IsUnreadIn state (m.chain b) bad = unread_in state (m.chain b) s.legs p id segment bad whole there next n.0 n.1 in (u, (u, was)))))
-    by taking.Memory n =
-        stopped_at m client host state first a b p Q h errors.Memory s asked tt
-        (λ hs have g. record { cause = tt; until = goes hs have g n })
+    by taking.Memory n stands =
+        stopped_at m client host state first a b p q Q h errors.Memory s asked tt
+        (λ hs have g. record { cause = tt; until = inl (goes hs have g n) })
         (λ hs. tt)
         (λ hs told. tells_more s.legs errors.Memory hs h tt told)
+        stands
         (at_honest errors.Memory (λ whole there next. (tt, tt)))

@@ -60,7 +60,7 @@ all_grown old new g machines all = each (AllAgree old) (AllAgree new) machines (
 made_agrees : (chain now : List Version) (state next : State) → IsServedChain now → Grows chain now → Agrees state chain → Makes chain now state (Some next) → Agrees next now
 made_agrees chain now state next served g a (inl c) = commit_agrees c.renumber c.ops state next now c.group (agrees_is_kept state chain now a g) c.step
 made_agrees chain now state next served g a (inr (inl undo)) = undo_agrees state next now (agrees_is_kept state chain now a g) undo
-made_agrees chain now state next served g a (inr (inr s)) = end_agrees s.answer state next (record { chain = chain; own = s.own }) (record { chain = now; own = s.own_now }) served.whole a s.ended
+made_agrees chain now state next served g a (inr (inr s)) = end_agrees s.answer state s.from next (record { chain = chain; own = s.own }) (record { chain = now; own = s.own_now }) served.whole a s.sound s.ended
 
 with_next_agrees : (chain now : List Version) (states : List State) (state : State) (next : Option State) → IsServedChain now → Grows chain now → Agrees state chain → Makes chain now state next → AllAgree now states → AllAgree now (with_next states next)
 with_next_agrees chain now states state None served g a makes all = all

@@ -1,5 +1,5 @@
 -- Where a sync is in a chain.
-use Rattle.std.specs.Prelude.{◌≡◌, ◌⊎◌, ℕ, ◌+◌, ◌-◌, ◌<◌, ◌≤◌, List, [], ◌∷◌, ◌++◌, length}
+use Rattle.std.specs.Prelude.{◌≡◌, ◌⊎◌, ℕ, ◌+◌, ◌-◌, ◌<◌, ◌≤◌, List, [], ◌∷◌, length}
 use Rattle.tw_model.specs.Ops.{TasksValue}
 use Rattle.tw_model.specs.LocalOps.{plain}
 use Rattle.tw_model.specs.declared.SyncOp.{SyncOp}
@@ -9,7 +9,7 @@ use Rattle.tw_segment.specs.Refusals.{IsUnread}
 use Rattle.tw_segment.specs.declared.error.SegmentError.{SegmentError}
 use Rattle.tw_segment.specs.declared.error.SegmentError.TheVariants as segments
 use Rattle.tw_state.specs.State.{State}
-use Rattle.tw_path.specs.Path.{Reached, Leg, come, IsPath, versions_of, ops_of, pulled_of, sent_of}
+use Rattle.tw_path.specs.Path.{Reached, Leg, come, IsPath, versions_of, pulled_of, sent_of}
 use Rattle.tw_path.specs.Path.Leg.{Pull, Push}
 use Rattle.tw_path.specs.Walk.{StandsAt, GoesOverPull, GoesOverPush}
 use Rattle.tw_outcome.specs.End.{starts_at}
@@ -35,7 +35,6 @@ pulled_len (Push v ops ∷ legs) = pulled_len legs
 pub record IsOnPath (state : State) (legs : List Leg) (cursor : Cursor) : Type 0 where
   pub path : IsPath (starts_at state) legs
   pub stands : StandsAt state.tasks (place state legs) cursor.walker
-  pub remote : cursor.remote.items ≡ ops_of legs
   pub versions : cursor.versions ≡ pulled_of legs
   pub bytes : cursor.bytes ≡ pulled_len legs
   pub pending : cursor.pending ≡ length (plain state.pending)
@@ -72,7 +71,6 @@ pub record TakesVersion (hand : TasksValue) (old new : Cursor) (id segment : Lis
   pub ops : List SyncOp
   pub reads : IsSegment segment ops
   pub walks : GoesOverPull hand id ops old.walker new.walker
-  pub remote : new.remote.items ≡ old.remote.items ++ ops
   pub versions : new.versions ≡ old.versions + 1
   pub bytes : new.bytes ≡ old.bytes + length segment
   pub conflicts : new.conflicts ≡ old.conflicts
@@ -82,7 +80,6 @@ pub record TakesVersion (hand : TasksValue) (old new : Cursor) (id segment : Lis
 -- the cursor goes on to a version that was added with these operations
 pub record AddsVersion (old new : Cursor) (id : List ℕ) (ops : List SyncOp) : Type 0 where
   pub walks : GoesOverPush id ops old.walker new.walker
-  pub remote : new.remote.items ≡ old.remote.items ++ ops
   pub versions : new.versions ≡ old.versions
   pub bytes : new.bytes ≡ old.bytes
   pub conflicts : new.conflicts ≡ old.conflicts

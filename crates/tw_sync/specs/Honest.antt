@@ -15,14 +15,15 @@ use Rattle.tw_state.specs.State.{State}
 use Rattle.tw_replica.specs.declared.replica.Replica.{Replica}
 use Rattle.tw_groups.specs.Groups.{joined}
 use Rattle.tw_groups.specs.Cut.{first}
-use Rattle.tw_path.specs.Fold.{Reads}
 use Rattle.tw_path.specs.Path.{Leg, IsPath, is_batch, versions_of}
 use Rattle.tw_outcome.specs.Agreement.{Agrees}
 use Rattle.tw_outcome.specs.End.{ServerChain, starts_at}
 use Rattle.tw_sync.specs.Cursor.{place, pulled_len, IsIn}
 use Rattle.tw_sync.specs.Heard.{HearsThat, versions_in}
 use Rattle.tw_sync.specs.Refused.{max_pull}
-use Rattle.tw_sync.specs.Sync.{server_chain, record_size}
+use Rattle.tw_sync.specs.Sync.{server_chain}
+use Rattle.tw_sync.specs.Moved.{done_by, stopped_by, row_size}
+use Rattle.tw_sync.specs.Start.{Start, from_state}
 use Rattle.tw_sync.specs.declared.error.ReplyKind.TheVariants.{Status}
 use Rattle.tw_sync.specs.declared.error.SyncError.{SyncError}
 use Rattle.tw_sync.specs.declared.error.SyncError.TheVariants as errors
@@ -68,30 +69,29 @@ pub record IsUnreadIn (old : State) (chain : List Version) (id : List ℕ) : Typ
   pub unread : IsUnread v.segment error
   pub other : ¬ (error ≡ segments.Memory)
 
--- the record of all versions after the base that the chain held before, and of what is left, is too long
-pub record IsLongRecord (old : State) (before after : ServerChain) (bytes : ℕ) : Type 0 where
-  pub h : List ℕ
-  pub last : HoldsAll before.chain after.chain h
-  pub versions : List Version
-  pub ops : List SyncOp
-  pub between : IsBetween after.chain old.base h versions
-  pub reads : Reads versions ops
-  pub len : bytes ≡ record_size h ops
+-- the record of a sync is too long that has come to the end of what the chain held before, or was stopped on its path
+pub record IsLongRecord (start : Start) (old : State) (before after : ServerChain) (bytes : ℕ) : Type 0 where
+  pub legs : List Leg
+  pub path : IsPath (starts_at (from_state start old)) legs
+  pub between : IsIn (from_state start old) after.chain legs
+  pub len : (HoldsAll before.chain after.chain (place (from_state start old) legs).at
+      × (bytes ≡ row_size (done_by start old (place (from_state start old) legs))))
+      ⊎ (bytes ≡ row_size (stopped_by start old (place (from_state start old) legs)))
 
 -- what a refusal says of the chain, over an honest link
-abbrev pub HonestRefused : (old : State) (before after : ServerChain) → SyncError → Type 0
-HonestRefused old before after (errors.Reply kind) = kind ≡ Status 500
-HonestRefused old before after (errors.Gone base) = ¬ (Agrees old before.chain)
-HonestRefused old before after (errors.Busy parent) = OthersAdded before after 16
-HonestRefused old before after (errors.OutOfSync base parent) = ⊥
-HonestRefused old before after (errors.Segment version) = IsUnreadIn old after.chain version
-HonestRefused old before after (errors.SegmentTooLong bytes) = IsLongSegment old before after bytes
-HonestRefused old before after (errors.PullTooLong bytes) = IsLongPull old after.chain bytes
-HonestRefused old before after (errors.Journal (TooLong bytes)) = IsLongRecord old before after bytes
-HonestRefused old before after (errors.Journal Disk) = Unit {0}
-HonestRefused old before after (errors.Journal Closed) = Unit {0}
-HonestRefused old before after errors.Link = Unit {0}
-HonestRefused old before after errors.Memory = Unit {0}
+abbrev pub HonestRefused : (start : Start) (old : State) (before after : ServerChain) → SyncError → Type 0
+HonestRefused start old before after (errors.Reply kind) = kind ≡ Status 500
+HonestRefused start old before after (errors.Gone base) = ¬ (Agrees (from_state start old) before.chain)
+HonestRefused start old before after (errors.Busy parent) = OthersAdded before after 16
+HonestRefused start old before after (errors.OutOfSync base parent) = ⊥
+HonestRefused start old before after (errors.Segment version) = IsUnreadIn (from_state start old) after.chain version
+HonestRefused start old before after (errors.SegmentTooLong bytes) = IsLongSegment (from_state start old) before after bytes
+HonestRefused start old before after (errors.PullTooLong bytes) = IsLongPull (from_state start old) after.chain bytes
+HonestRefused start old before after (errors.Journal (TooLong bytes)) = IsLongRecord start old before after bytes
+HonestRefused start old before after (errors.Journal Disk) = Unit {0}
+HonestRefused start old before after (errors.Journal Closed) = Unit {0}
+HonestRefused start old before after errors.Link = Unit {0}
+HonestRefused start old before after errors.Memory = Unit {0}
 
 -- a sync pulled this version, if the link tells its exchanges
 abbrev pub WasPulled : {L : Type 0} → LinkModel L → (client host : List ℕ) → (first last : L) → Version → Type 0
@@ -113,28 +113,30 @@ abbrev pub LeftFitsSegment : (old : State) → (before after : List Version) →
 LeftFitsSegment old before after = (legs : List Leg) → IsPath (starts_at old) legs → IsIn old after legs → HoldsAll before after (place old legs).at
     → ¬ (joined (place old legs).left ≡ []) → length (segment_text (first is_batch (place old legs).left)) ≤ max_len
 
--- what is pulled once all is pulled that the chain held before, with what was left, fits a record
-abbrev pub AllFitsRecord : (old : State) → (before after : List Version) → Type 0
-AllFitsRecord old before after = (h : List ℕ) (versions : List Version) (ops : List SyncOp) → HoldsAll before after h
-    → IsBetween after old.base h versions → Reads versions ops → record_size h ops ≤ 2 ^ 30
+-- what is carried once all is pulled that the chain held before fits a record, and so does what is carried to each place, with what is left there
+abbrev pub AllFitsRecord : (start : Start) (old : State) → (before after : List Version) → Type 0
+AllFitsRecord start old before after = (legs : List Leg) → IsPath (starts_at (from_state start old)) legs → IsIn (from_state start old) after legs
+    → (HoldsAll before after (place (from_state start old) legs).at → row_size (done_by start old (place (from_state start old) legs)) ≤ 2 ^ 30)
+    × (row_size (stopped_by start old (place (from_state start old) legs)) ≤ 2 ^ 30)
 
 -- what is pulled, and what is left of what is pending once all is pulled that the chain held before, are within their limits
-pub record AreWithin {L : Type 0} (m : LinkModel L) (client host : List ℕ) (old : State) (first last : L) : Type 0 where
-  pub pull : EachPulled m client host old first last (λ versions v. segments_len (versions ++ v ∷ []) ≤ max_pull)
-  pub read : EachPulled m client host old first last (λ versions v. IsReadable v.segment)
-  pub segment : LeftFitsSegment old (m.chain first) (m.chain last)
-  pub record_fits : AllFitsRecord old (m.chain first) (m.chain last)
+pub record AreWithin {L : Type 0} (m : LinkModel L) (client host : List ℕ) (start : Start) (old : State) (first last : L) : Type 0 where
+  pub pull : EachPulled m client host (from_state start old) first last (λ versions v. segments_len (versions ++ v ∷ []) ≤ max_pull)
+  pub read : EachPulled m client host (from_state start old) first last (λ versions v. IsReadable v.segment)
+  pub segment : LeftFitsSegment (from_state start old) (m.chain first) (m.chain last)
+  pub record_fits : AllFitsRecord start old (m.chain first) (m.chain last)
 
 -- what a sync needs: nothing fails meanwhile, the link is honest, the replica agrees with the chain, others add fewer than sixteen versions,
 -- and all is within its limits
-pub record CanSync {D L : Type 0} (d : DiskModel D) (m : LinkModel L) (old : Replica) (before after : D) (first last : L) (client host : List ℕ) : Type 0 where
+pub record CanSync {D L : Type 0} (d : DiskModel D) (m : LinkModel L) (start : Start) (old : Replica) (before after : D) (first last : L)
+    (client host : List ℕ) : Type 0 where
   pub is_open : is_closed old.journal ≡ false
   pub disk_works : ¬ (Rose (d.faults before) (d.faults after))
   pub link_works : ¬ (Rose (m.faults first) (m.faults last))
   pub honest : IsHonest m first client
-  pub agrees : Agrees (state_of old.core) (m.chain first)
+  pub agrees : Agrees (from_state start (state_of old.core)) (m.chain first)
   pub few : ¬ (OthersAdded (server_chain m first) (server_chain m last) 16)
-  pub within : AreWithin m client host (state_of old.core) first last
+  pub within : AreWithin m client host start (state_of old.core) first last
 
 -- what a refusal for a version of the chain rests on was pulled
 abbrev pub RestsOnPulled : {L : Type 0} → LinkModel L → (client host : List ℕ) → (old : State) → (first last : L) → SyncError → Type 0

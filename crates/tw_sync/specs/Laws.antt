@@ -41,6 +41,6 @@ AgreeingReplicasAreEqual = (one other : State) (chain : List Version) → IsChai
 -- pulled, of the others what was left after it is left
 abbrev pub AddedWasSent : Type 0
 AddedWasSent = (old : State) (before after : ServerChain) (legs more : List Leg) (v : Version) (ops : List SyncOp) → IsSound old
-    → Went old before after (legs ++ Push v ops ∷ more)
+    → Went (starts_at old) before after (legs ++ Push v ops ∷ more)
     → (mine : List SyncOp) × (later : List SyncOp) × (was : WasSent (starts_at old) after.chain mine later v.id)
     × (left_of_later (starts_at old).tasks mine later was.pulled ≡ joined (rest is_batch (come (starts_at old) legs).left))

@@ -6,6 +6,8 @@ pub mod Causes
 pub mod Heard
 pub mod Answers
 pub mod Refused
+pub mod Start
+pub mod Given
 pub mod Cursor
 pub mod Sync
 pub mod Measured

@@ -21,6 +21,7 @@ use Rattle.tw_sync.specs.Measured.{IsMeasured}
 use Rattle.tw_sync.specs.Honest.{HonestRefused, RestsOnPulled}
 use Rattle.tw_sync.specs.Way.{TellsOf, WentOn}
 use Rattle.tw_sync.specs.Cursor.{place, IsOnPath, IsIn, LiesIn, GoesFurther}
+use Rattle.tw_sync.specs.Start.Start.{Base}
 use Rattle.tw_sync.specs.declared.cursor.Cursor.{Cursor}
 use Rattle.tw_sync.specs.declared.error.SyncError.{SyncError}
 use Rattle.tw_sync.specs.declared.error.SyncError.TheVariants as errors
@@ -144,7 +145,7 @@ pub record HeardToStop {L : Type 0} (m : LinkModel L) (client host : List ℕ) (
   pub hs : List Heard
   pub hears : HearsUntil m client host first now hs e
   pub refused : HeardRefused client hs e
-  pub measured : IsMeasured state client hs e
+  pub measured : IsMeasured Base state client hs e
   pub tells : TellsOf legs e hs
   pub few : IsHonest m first client → m.exchanges now ≤ m.exchanges first + most_exchanges (brought hs) + length (added_of legs) + 1
 
@@ -152,14 +153,15 @@ pub record HeardToStop {L : Type 0} (m : LinkModel L) (client host : List ℕ) (
 pub record StopsTruly {L : Type 0} (m : LinkModel L) (client host : List ℕ) (state : State) (first now : L) (legs : List Leg) (e : SyncError) : Type 0 where
   pub whole : IsChain (m.chain now)
   pub grows : Grows (m.chain first) (m.chain now)
-  pub refused : HonestRefused state (server_chain m first) (server_chain m now) e
+  pub refused : HonestRefused Base state (server_chain m first) (server_chain m now) e
   pub pulled : RestsOnPulled m client host state first now e
   pub went : WentOn state (server_chain m first) (server_chain m now) legs e
 
--- a sync that began at this state and this link is refused, where it has gone a path
-pub record IsStopped {L : Type 0} (m : LinkModel L) (client host : List ℕ) (state : State) (first now : L) (e : SyncError) : Type 0 where
+-- a sync that began at this state and this link is refused, where it has gone a path. Unless memory ran out its cursor is there
+pub record IsStopped {L : Type 0} (m : LinkModel L) (client host : List ℕ) (state : State) (first now : L) (cursor : Cursor) (e : SyncError) : Type 0 where
   pub legs : List Leg
   pub path : IsPath (starts_at state) legs
+  pub stands : (e ≡ errors.Memory) ⊎ IsOnPath state legs cursor
   pub kept : IsLinkKept m first now
   pub cause : IsCause m first now e
   pub heard : IsTrue (m.tells_list first) → HeardToStop m client host state first now legs e
@@ -178,9 +180,9 @@ PullsOne {L = L} m client host hand before cursor after moved more = (state : St
     → IsPulling m client host state first before cursor → PullsOn more m client host state first after moved
 
 -- it is refused
-abbrev pub StopsPulling : {L : Type 0} → LinkModel L → (client host : List ℕ) → TasksValue → (before : L) → Cursor → (after : L) → SyncError → Type 0
-StopsPulling {L = L} m client host hand before cursor after e = (state : State) (first : L) → state.tasks ≡ hand
-    → IsPulling m client host state first before cursor → IsStopped m client host state first after e
+abbrev pub StopsPulling : {L : Type 0} → LinkModel L → (client host : List ℕ) → TasksValue → (before : L) → Cursor → (after : L) → Cursor → SyncError → Type 0
+StopsPulling {L = L} m client host hand before cursor after moved e = (state : State) (first : L) → state.tasks ≡ hand
+    → IsPulling m client host state first before cursor → IsStopped m client host state first after moved e
 
 -- it has met the server's chain
 abbrev pub Meets : {L : Type 0} → LinkModel L → (client host : List ℕ) → TasksValue → (before : L) → Cursor → (after : L) → Cursor → Type 0
@@ -193,14 +195,14 @@ FindsOne {L = L} m client host hand before cursor after moved = (state : State) 
     → IsAsking m client host state first before cursor → IsPulling m client host state first after moved
 
 -- it is refused
-abbrev pub StopsAsking : {L : Type 0} → LinkModel L → (client host : List ℕ) → TasksValue → (before : L) → Cursor → (after : L) → SyncError → Type 0
-StopsAsking {L = L} m client host hand before cursor after e = (state : State) (first : L) → state.tasks ≡ hand
-    → IsAsking m client host state first before cursor → IsStopped m client host state first after e
+abbrev pub StopsAsking : {L : Type 0} → LinkModel L → (client host : List ℕ) → TasksValue → (before : L) → Cursor → (after : L) → Cursor → SyncError → Type 0
+StopsAsking {L = L} m client host hand before cursor after moved e = (state : State) (first : L) → state.tasks ≡ hand
+    → IsAsking m client host state first before cursor → IsStopped m client host state first after moved e
 
 -- a sync whose version came too late is refused, since there is nothing to pull
 abbrev pub FindsNoneLate : {L : Type 0} → LinkModel L → (client host : List ℕ) → (before : L) → Cursor → (after : L) → Cursor → Type 0
 FindsNoneLate {L = L} m client host before cursor after moved = cursor.conflicts ≤ 15 → (state : State) (first : L) (last : List ℕ)
-    → IsLate m client host state first before cursor last → IsStopped m client host state first after (errors.OutOfSync moved.walker.at last)
+    → IsLate m client host state first before cursor last → IsStopped m client host state first after moved (errors.OutOfSync moved.walker.at last)
 
 -- after a conflict that named this version it has pulled all
 abbrev pub PullsLate : {L : Type 0} → LinkModel L → (client host : List ℕ) → TasksValue → (before : L) → Cursor → (last : List ℕ) → (after : L) → Cursor → Type 0
@@ -208,11 +210,11 @@ PullsLate {L = L} m client host hand before cursor last after moved = (state : S
     → IsLate m client host state first before cursor last → HasPulled m client host state first after moved
 
 -- it is refused
-abbrev pub StopsLate : {L : Type 0} → LinkModel L → (client host : List ℕ) → TasksValue → (before : L) → Cursor → (last : List ℕ) → (after : L) → SyncError → Type 0
-StopsLate {L = L} m client host hand before cursor last after e = (state : State) (first : L) → state.tasks ≡ hand
-    → IsLate m client host state first before cursor last → IsStopped m client host state first after e
+abbrev pub StopsLate : {L : Type 0} → LinkModel L → (client host : List ℕ) → TasksValue → (before : L) → Cursor → (last : List ℕ) → (after : L) → Cursor → SyncError → Type 0
+StopsLate {L = L} m client host hand before cursor last after moved e = (state : State) (first : L) → state.tasks ≡ hand
+    → IsLate m client host state first before cursor last → IsStopped m client host state first after moved e
 
 -- a sync that has pulled all is refused
-abbrev pub StopsSending : {L : Type 0} → LinkModel L → (client host : List ℕ) → (before : L) → Cursor → (after : L) → SyncError → Type 0
-StopsSending {L = L} m client host before cursor after e = (state : State) (first : L) → HasPulled m client host state first before cursor
-    → IsStopped m client host state first after e
+abbrev pub StopsSending : {L : Type 0} → LinkModel L → (client host : List ℕ) → (before : L) → Cursor → (after : L) → Cursor → SyncError → Type 0
+StopsSending {L = L} m client host before cursor after moved e = (state : State) (first : L) → HasPulled m client host state first before cursor
+    → IsStopped m client host state first after moved e

@@ -161,7 +161,12 @@ GoesOnToRefusal hs (errors.Gone base) = GoesOnFromAllButLast hs
 GoesOnToRefusal hs (errors.OutOfSync base parent) = GoesOnFromAllButLast hs
 GoesOnToRefusal hs (errors.Busy parent) = GoesOnFromAllButLast hs
 GoesOnToRefusal hs (errors.PullTooLong bytes) = GoesOnFromAllButLast hs
-GoesOnToRefusal hs e = GoesOnFrom hs
+GoesOnToRefusal hs errors.Link = GoesOnFrom hs
+GoesOnToRefusal hs (errors.Segment version) = GoesOnFrom hs
+GoesOnToRefusal hs (errors.SegmentTooLong bytes) = GoesOnFrom hs
+-- the replica was not moved, whatever stopped the sync
+GoesOnToRefusal hs (errors.Journal e) = GoesOnFrom hs ⊎ GoesOnFromAllButLast hs
+GoesOnToRefusal hs errors.Memory = GoesOnFrom hs ⊎ GoesOnFromAllButLast hs
 
 -- what was heard by a sync that is refused
 pub record HeardRefused (client : List ℕ) (hs : List Heard) (e : SyncError) : Type 0 where
@@ -175,6 +180,11 @@ pub record IsUnchanged {D : Type 0} (old new : Replica) (before after : D) : Typ
   pub same : IsSame old new before after
   pub is_open : is_closed old.journal ≡ false
 
+-- an open replica was moved, or is as it was
+pub record IsMovedOrSame {D : Type 0} (old new : Replica) (before after : D) : Type 0 where
+  pub stays : new.core.base ≡ old.core.base → IsSame old new before after
+  pub is_open : is_closed old.journal ≡ false
+
 -- why the record is not written, and what stays
 abbrev pub JournalRefused : {D L : Type 0} → DiskModel D → (old new : Replica) (before after : D) (first last : L) → AppendError → Type 0
 JournalRefused m old new before after first last journal.Disk =
@@ -185,21 +195,21 @@ JournalRefused m old new before after first last (journal.TooLong bytes) = (2 ^ 
 -- why a sync is refused, and what stays. Counts show the faults of the disk and of the link
 abbrev pub SyncRefused : {D L : Type 0} → DiskModel D → LinkModel L → (old new : Replica) (before after : D) (first last : L) → SyncError → Type 0
 SyncRefused m links old new before after first last (errors.Journal e) = JournalRefused m old new before after first last e
-SyncRefused m links old new before after first last errors.Link = Rose (links.faults first) (links.faults last) × IsUnchanged old new before after
-SyncRefused m links old new before after first last (errors.Reply kind) = IsUnchanged old new before after
-SyncRefused m links old new before after first last (errors.Gone base) = IsUnchanged old new before after
-SyncRefused m links old new before after first last (errors.Busy parent) = IsUnchanged old new before after
-SyncRefused m links old new before after first last (errors.OutOfSync base parent) = IsUnchanged old new before after
-SyncRefused m links old new before after first last (errors.Segment version) = IsUnchanged old new before after
-SyncRefused m links old new before after first last (errors.SegmentTooLong bytes) = (max_len < bytes) × IsUnchanged old new before after
-SyncRefused m links old new before after first last (errors.PullTooLong bytes) = (max_pull < bytes) × IsUnchanged old new before after
+SyncRefused m links old new before after first last errors.Link = Rose (links.faults first) (links.faults last) × IsMovedOrSame old new before after
+SyncRefused m links old new before after first last (errors.Reply kind) = IsMovedOrSame old new before after
+SyncRefused m links old new before after first last (errors.Gone base) = IsMovedOrSame old new before after
+SyncRefused m links old new before after first last (errors.Busy parent) = IsMovedOrSame old new before after
+SyncRefused m links old new before after first last (errors.OutOfSync base parent) = IsMovedOrSame old new before after
+SyncRefused m links old new before after first last (errors.Segment version) = IsMovedOrSame old new before after
+SyncRefused m links old new before after first last (errors.SegmentTooLong bytes) = (max_len < bytes) × IsMovedOrSame old new before after
+SyncRefused m links old new before after first last (errors.PullTooLong bytes) = (max_pull < bytes) × IsMovedOrSame old new before after
 SyncRefused m links old new before after first last errors.Memory = IsUnchanged old new before after
 
 -- the causes after which a version may have been added that a refused sync was not told of
 abbrev pub MayAdd : SyncError → Type 0
 MayAdd errors.Link = Unit {0}
 MayAdd errors.Memory = Unit {0}
-MayAdd (errors.Journal e) = ⊥
+MayAdd (errors.Journal e) = Unit {0}
 MayAdd (errors.Reply kind) = ⊥
 MayAdd (errors.Gone base) = ⊥
 MayAdd (errors.Busy parent) = ⊥

@@ -14,7 +14,9 @@ use Rattle.tw_http.specs.declared.message.Request.{Request}
 use Rattle.tw_bodies.specs.Body.{is_group}
 use Rattle.tw_state.specs.State.{State, start, committed, undone}
 use Rattle.tw_path.specs.Fold.{IsFold}
+use Rattle.tw_path.specs.Path.{Reached}
 use Rattle.tw_outcome.specs.Agreement.{Agrees}
+use Rattle.tw_outcome.specs.Start.{StartsSoundly}
 use Rattle.tw_outcome.specs.End.{Answer as EndAnswer, End}
 
 -- the chain of the machines' one client, and for each machine the states that the images of its disk open to
@@ -45,12 +47,14 @@ pub record IsCommit (state next : State) : Type 0 where
   pub group : is_group ops ≡ true
   pub step : committed renumber ops state ≡ Some next
 
--- a sync, whatever it answers, whatever was lost before it ended and whoever else added meanwhile
+-- a sync, whatever it answers, whatever was lost before it ended and whoever else added meanwhile. A snapshot that it starts from is sound
 pub record IsSync (chain now : List Version) (state next : State) : Type 0 where
   pub own : List Version
   pub own_now : List Version
   pub answer : EndAnswer
-  pub ended : End answer state next (record { chain = chain; own = own }) (record { chain = now; own = own_now })
+  pub from : Reached
+  pub sound : StartsSoundly now state from
+  pub ended : End answer state from next (record { chain = chain; own = own }) (record { chain = now; own = own_now })
 
 -- what a run makes of the state that it opens, if it writes a record
 abbrev pub Makes : (chain now : List Version) → State → Option State → Type 0

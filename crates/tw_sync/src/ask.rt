@@ -97,8 +97,8 @@ pub(crate) fn ask_add<L: Link>(
     add_answer(alloc, reply.as_slice())
 }
 
-// Sends a request, and gives the bytes of the reply.
-fn exchange<L: Link>(
+/// Sends a request, and gives the bytes of the reply.
+pub(crate) fn exchange<L: Link>(
     alloc: Global,
     link: &mut L,
     request: &Request,

@@ -1,7 +1,8 @@
 // Where a sync is in the chain.
-ghost use Rattle.std.specs.Prelude.{◌≡◌, ◌≤◌, ◌⊎◌, [], true, false};
+ghost use Rattle.std.specs.Prelude.{◌≡◌, ◌≤◌, ◌⊎◌, [], true, false, IfOk};
 ghost use Rattle.tw_groups.specs.Groups.{joined};
 ghost use Rattle.tw_groups.specs.Held.{groups_in};
+ghost use Rattle.tw_path.specs.Walk.{IsPendingThere};
 ghost use Rattle.tw_sync.specs.Refused.{max_pull};
 
 mod add;
@@ -9,16 +10,16 @@ mod report;
 mod start;
 mod take_version;
 
-use tw_model::SyncOp;
+use std::alloc::Global;
+use tw_model::{Op, SyncOp};
 use tw_path::Walker;
+use tw_world::Memory;
 use uuid::Uuid;
 
-/// Where a sync is: at a version, with what is left there of the local list, and what came on the way.
+/// Where a sync is: at a version, with what is left there of the local list, and what is carried.
 pub struct Cursor {
-    /// The version, what of the tasks is known there, and what is left of the pending operations.
+    /// The version, what of the tasks is known there, what is left of the pending operations, and what is carried.
     pub walker: Walker,
-    /// The operations of the versions on the way, also of those that did not fit.
-    pub remote: Vec<SyncOp>,
     /// How many versions were pulled.
     pub versions: u64,
     /// How many bytes their segments have.
@@ -38,7 +39,6 @@ impl Drop for Cursor {
     fn drop(self) {
         let Cursor {
             walker: _walker,
-            remote: _remote,
             versions: _versions,
             bytes: _bytes,
             conflicts: _conflicts,
@@ -65,20 +65,27 @@ impl Cursor {
         self.walker.at
     }
 
-    /// The operations of the versions on the way. All else is let go.
-    pub fn into_remote(self) -> Vec<SyncOp>
-        ensures { result.items ≡ self.remote.items }
+    /// What is left, as pending operations with the old values that they find there. Then the cursor is good for what is carried alone.
+    pub fn pending_there(&mut self, alloc: Global) -> Result<Vec<Op>, Memory>
+        ensures pending { IfOk result (λ ops. IsPendingThere self.old.walker ops.items) }
+        ensures carried { self.new.walker.carried ≡ self.old.walker.carried }
+    {
+        self.walker.pending(alloc)
+    }
+
+    /// What is carried to the tasks at hand. All else is let go.
+    pub fn into_carried(self) -> Vec<SyncOp>
+        ensures { result ≡ self.walker.carried }
     {
         let Cursor {
-            walker: _walker,
-            remote,
+            walker,
             versions: _versions,
             bytes: _bytes,
             conflicts: _conflicts,
             pending: _pending,
             unsent: _unsent,
         } = self;
-        remote
+        walker.into_carried()
     }
 }
 

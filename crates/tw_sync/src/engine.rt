@@ -1,35 +1,31 @@
 // A sync of a replica with a server.
-ghost use Rattle.std.specs.Prelude.{◌≡◌, ◌⊎◌, IfOk, OnOk, IfErr, Err, true, false};
+ghost use Rattle.std.specs.Prelude.{◌≡◌, IfOk, OnOk, IfErr, Err, true, false};
 ghost use Rattle.tw_world.specs.Disk.{FaultsRise};
 ghost use Rattle.tw_journal.specs.Journal.{is_closed};
 ghost use Rattle.tw_journal.specs.declared.error.AppendError.TheVariants as journal;
 ghost use Rattle.tw_http.specs.Link.{IsHonest};
 ghost use Rattle.tw_http.specs.Messages.{IsHost};
-ghost use Rattle.tw_protocol.specs.Chain.{Grows};
 ghost use Rattle.tw_state.specs.Core.{state_of};
 ghost use Rattle.tw_replica.specs.Replica.{IsLengthKept};
-ghost use Rattle.tw_sync.specs.Heard.{HearsThat};
-ghost use Rattle.tw_sync.specs.Answers.{IsLinkKept};
-ghost use Rattle.tw_sync.specs.Refused.{SyncRefused};
-ghost use Rattle.tw_sync.specs.Way.{WentUntil};
-ghost use Rattle.tw_sync.specs.Sync.{HeardEnd};
-ghost use Rattle.tw_sync.specs.Honest.{CanSync, IsWant};
+ghost use Rattle.tw_outcome.specs.Start.{IsNewReplica};
+ghost use Rattle.tw_sync.specs.Start.{IsKnownStart};
+ghost use Rattle.tw_sync.specs.Start.Start.{Base, Snapshot};
 ghost use Rattle.tw_sync.specs.Progress.{Meets, StopsPulling};
-ghost use Rattle.tw_sync.specs.Contract.{EndsOn, EndsUnwritten, KeepsAgreement, SendsLaterAlone, SendsNothingAgain, RefusedTruly, LeavesOneEnd, LeavesRecords};
-ghost use Rattle.tw_sync.specs.Contract.{HearsItsRefusal, HearsItsNumber, AsksFew, AnyEnd, DoneEnd, RefusedEnd};
-ghost use Rattle.tw_sync.specs.Moved.{moved_state, LeavesMove, IsMovedTo, IsNotMoved};
+ghost use Rattle.tw_sync.specs.Contract.{AnyEnd, DoneEnd, RefusedEnd, Runs};
 ghost use Rattle.tw_sync.specs.declared.error.SyncError.TheVariants as errors;
 
 use crate::cursor::Cursor;
 use crate::error::SyncError;
+use crate::given::{Given, ask_snapshot};
 use crate::pulling::{pull, pull_late};
 use crate::pushing::{Sent, push};
 use crate::report::SyncReport;
+use crate::standing::{end_at, stop_at, take_over};
 use std::alloc::Global;
 use tw_http::Link;
 use tw_journal::AppendError;
 use tw_model::Tasks;
-use tw_replica::{RecordError, Replica};
+use tw_replica::Replica;
 use tw_world::Disk;
 use uuid::Uuid;
 
@@ -37,8 +33,10 @@ use uuid::Uuid;
 ///
 /// It asks until the server knows no further version and what is left is added, or nothing is left. What is left goes
 /// in versions of at most 1,048,576 bytes, or of one operation. A version of another client that came in between is
-/// pulled first, at most fifteen times. Then one record is written, unless the base has stayed. After a refusal the
-/// replica is unchanged, but closed if its disk failed.
+/// pulled first, at most fifteen times. Then one record is written, unless the base has stayed. A sync that the link or
+/// the server stops keeps what it has read and sent. If its record is not written the replica is unchanged, but closed if
+/// its disk failed. A replica that has no version and nothing pending first asks for the server's snapshot, and starts from
+/// it if it reads as tasks; any other reply is passed over.
 pub fn sync<D: Disk, L: Link>(
     alloc: Global,
     replica: &mut Replica,
@@ -49,40 +47,90 @@ pub fn sync<D: Disk, L: Link>(
 ) -> Result<SyncReport, SyncError>
     requires host { IsHost host.now }
     requires length { IsLengthKept D.model replica.old disk.old }
-    ensures ended { IfOk result (EndsOn L.model client replica.old replica.new link.old link.new) }
-    ensures unwritten { IfErr result (λ e. EndsUnwritten L.model client replica.old replica.new link.old link.new) }
-    ensures agrees { KeepsAgreement L.model client replica.old replica.new link.old link.new }
-    ensures way { IfErr result (WentUntil L.model client host.now (state_of replica.old.core) link.old link.new) }
-
-    ensures grows { IsHonest L.model link.old client → Grows (L.model.chain link.old) (L.model.chain link.new) }
-
-    // What a refused sync sent is not sent again.
-    ensures cancels { IfOk result (SendsLaterAlone L.model client replica.old link.old link.new) }
-    ensures cancels_too { IfErr result (λ e. SendsNothingAgain L.model client replica.old link.old link.new) }
-
+    ensures runs { Runs D.model L.model client host.now replica.old replica.new disk.old disk.new link.old link.new result }
     ensures closed { is_closed replica.old.journal ≡ true → result ≡ Err (errors.Journal journal.Closed) }
-    ensures refused { IfErr result (SyncRefused D.model L.model replica.old replica.new disk.old disk.new link.old link.new) }
-    ensures honest { IfErr result (RefusedTruly L.model client replica.old link.old link.new) }
-    ensures complete { IfErr result (λ e. CanSync D.model L.model replica.old disk.old disk.new link.old link.new client host.now → IsWant e) }
-
-    ensures records { LeavesRecords D.model L.model client replica.old replica.new disk.old disk.new link.old link.new result }
-    ensures any_moment { LeavesOneEnd D.model L.model client replica.old disk.old disk.new link.old link.new }
     ensures length { IsLengthKept D.model replica.new disk.new }
-    ensures disk_kept { FaultsRise D.model disk.old disk.new }
-
-    ensures heard { IfOk result (λ report. HearsThat L.model client host.now link.old link.new (λ hs. HeardEnd client hs report)) }
-    ensures refused_heard { IfErr result (HearsItsRefusal L.model client host.now link.old link.new) }
-    ensures measured { IfErr result (HearsItsNumber L.model client host.now replica.old link.old link.new) }
-    ensures exchanges { IfOk result (AsksFew L.model client link.old link.new) }
-    ensures link_kept { IsLinkKept L.model link.old link.new }
+    ensures kept { FaultsRise D.model disk.old disk.new }
 {
     if replica.is_closed() {
         return Err(SyncError::Journal(AppendError::Closed));
     }
+    if is_new(replica) {
+        return sync_new(alloc, replica, disk, link, client, host);
+    }
     meet_and_move(alloc, replica, disk, link, client, host)
 }
 
-// A sync of an open replica: meets the chain, and moves the replica to the cursor at its end.
+// Whether a replica has no version yet, and nothing pending.
+fn is_new(replica: &Replica) -> bool
+    ensures { result ≡ true → IsNewReplica (state_of replica.now.core) }
+{
+    replica.base() == Uuid::nil() && replica.pending().len() == 0
+}
+
+// A sync of a new replica: from a snapshot, if the server gives one that can be read.
+fn sync_new<D: Disk, L: Link>(
+    alloc: Global,
+    replica: &mut Replica,
+    disk: &mut D,
+    link: &mut L,
+    client: Uuid,
+    host: &str,
+) -> Result<SyncReport, SyncError>
+    requires host { IsHost host.now }
+    requires open { is_closed replica.old.journal ≡ false }
+    requires length { IsLengthKept D.model replica.old disk.old }
+    requires fresh { IsNewReplica (state_of replica.old.core) }
+    ensures runs { Runs D.model L.model client host.now replica.old replica.new disk.old disk.new link.old link.new result }
+    ensures length { IsLengthKept D.model replica.new disk.new }
+    ensures kept { FaultsRise D.model disk.old disk.new }
+{
+    match ask_snapshot(alloc, link, client, host)? {
+        Some(given) => sync_from(alloc, replica, disk, link, client, host, given),
+        None => meet_and_move(alloc, replica, disk, link, client, host),
+    }
+}
+
+// A sync of a new replica from a snapshot: pulls what follows it, and takes over the tasks to which that leads.
+fn sync_from<D: Disk, L: Link>(
+    alloc: Global,
+    replica: &mut Replica,
+    disk: &mut D,
+    link: &mut L,
+    client: Uuid,
+    host: &str,
+    given: Given,
+) -> Result<SyncReport, SyncError>
+    requires host { IsHost host.now }
+    requires open { is_closed replica.old.journal ≡ false }
+    requires length { IsLengthKept D.model replica.old disk.old }
+    requires fresh { IsNewReplica (state_of replica.old.core) }
+    requires known { IsHonest L.model link.old client → IsKnownStart (Snapshot given.version given.tasks) (L.model.chain link.old) }
+    ensures any { AnyEnd D.model L.model client (Snapshot given.version given.tasks) replica.old replica.new disk.old disk.new link.old link.new }
+    ensures done { IfOk result (DoneEnd D.model L.model client host.now (Snapshot given.version given.tasks)
+        replica.old replica.new disk.old disk.new link.old link.new) }
+    ensures refused { IfErr result (RefusedEnd D.model L.model client host.now (Snapshot given.version given.tasks)
+        replica.old replica.new disk.old disk.new link.old link.new) }
+    ensures length { IsLengthKept D.model replica.new disk.new }
+    ensures kept { FaultsRise D.model disk.old disk.new }
+{
+    let Given { version, tasks } = given;
+    let mut cursor = Cursor::at_snapshot(alloc, &tasks, version)?;
+    match meet(alloc, link, client, host, &tasks, &mut cursor) {
+        Ok(()) => {
+            let report = cursor.report();
+            take_over(alloc, replica, disk, cursor, tasks)?;
+            Ok(report)
+        }
+        Err(SyncError::Memory) => Err(SyncError::Memory),
+        Err(error) => {
+            take_over(alloc, replica, disk, cursor, tasks)?;
+            Err(error)
+        }
+    }
+}
+
+// A sync of an open replica from its base: meets the chain, and moves the replica to the place at which it is done, or is stopped.
 fn meet_and_move<D: Disk, L: Link>(
     alloc: Global,
     replica: &mut Replica,
@@ -94,17 +142,25 @@ fn meet_and_move<D: Disk, L: Link>(
     requires host { IsHost host.now }
     requires open { is_closed replica.old.journal ≡ false }
     requires length { IsLengthKept D.model replica.old disk.old }
-    ensures any { AnyEnd D.model L.model client replica.old replica.new disk.old disk.new link.old link.new }
-    ensures done { IfOk result (DoneEnd D.model L.model client host.now replica.old replica.new disk.old disk.new link.old link.new) }
-    ensures refused { IfErr result (RefusedEnd D.model L.model client host.now replica.old replica.new disk.old disk.new link.old link.new) }
+    ensures any { AnyEnd D.model L.model client Base replica.old replica.new disk.old disk.new link.old link.new }
+    ensures done { IfOk result (DoneEnd D.model L.model client host.now Base replica.old replica.new disk.old disk.new link.old link.new) }
+    ensures refused { IfErr result (RefusedEnd D.model L.model client host.now Base replica.old replica.new disk.old disk.new link.old link.new) }
     ensures length { IsLengthKept D.model replica.new disk.new }
     ensures kept { FaultsRise D.model disk.old disk.new }
 {
     let mut cursor = Cursor::start(alloc, replica)?;
-    meet(alloc, link, client, host, replica.tasks(), &mut cursor)?;
-    let report = cursor.report();
-    stand_at(alloc, replica, disk, cursor)?;
-    Ok(report)
+    match meet(alloc, link, client, host, replica.tasks(), &mut cursor) {
+        Ok(()) => {
+            let report = cursor.report();
+            end_at(alloc, replica, disk, cursor)?;
+            Ok(report)
+        }
+        Err(SyncError::Memory) => Err(SyncError::Memory),
+        Err(error) => {
+            stop_at(alloc, replica, disk, cursor)?;
+            Err(error)
+        }
+    }
 }
 
 // Pulls, and sends what is left, until nothing is left.
@@ -119,7 +175,7 @@ fn meet<L: Link>(
     requires host { IsHost host.now }
     requires fresh { cursor.old.conflicts ≡ 0 }
     ensures met { OnOk result (Meets L.model client host.now hand.now link.old cursor.old link.new cursor.new) }
-    ensures stopped { IfErr result (StopsPulling L.model client host.now hand.now link.old cursor.old link.new) }
+    ensures stopped { IfErr result (StopsPulling L.model client host.now hand.now link.old cursor.old link.new cursor.new) }
 {
     pull(alloc, link, client, host, hand, cursor)?;
     while cursor.has_left() {
@@ -129,27 +185,4 @@ fn meet<L: Link>(
         }
     }
     Ok(())
-}
-
-// Moves the replica to a cursor by one record, unless its base is there.
-fn stand_at<D: Disk>(
-    alloc: Global,
-    replica: &mut Replica,
-    disk: &mut D,
-    cursor: Cursor,
-) -> Result<(), RecordError>
-    requires length { IsLengthKept D.model replica.old disk.old }
-    requires open { is_closed replica.old.journal ≡ false }
-    ensures moved { OnOk result (IsMovedTo D.model replica.old replica.new disk.old disk.new cursor (moved_state cursor (state_of replica.old.core))) }
-    ensures any_moment { LeavesMove D.model replica.old disk.old disk.new cursor }
-    ensures length { IsLengthKept D.model replica.new disk.new }
-    ensures refused { IfErr result (IsNotMoved D.model replica.old replica.new disk.old disk.new cursor) }
-    ensures kept { FaultsRise D.model disk.old disk.new }
-{
-    let base = cursor.at();
-    if base == replica.base() {
-        return Ok(());
-    }
-    let remote = cursor.into_remote();
-    replica.finish_sync(alloc, disk, base, remote)
 }

@@ -33,9 +33,10 @@ pub enum ReplyKind {
     Status { code: u16 },
 }
 
-/// Why a sync was refused. Only a fault of the disk changes the replica: it closes it.
+/// Why a sync was refused. After `Journal` and `Memory` the replica is as it was, but closed if its disk failed. After each other cause it
+/// is where the sync was stopped: it keeps what was read and sent, and what is left stays pending.
 ///
-/// After `Link`, `Memory` and a fault of the disk the server may have added one version; the next sync pulls it.
+/// After `Link`, `Memory` and `Journal` the server may have added one version more; the next sync pulls it.
 #[derive(Clone, Copy, PartialEq, Eq, Drop)]
 pub enum SyncError {
     /// The record of the sync was not written.

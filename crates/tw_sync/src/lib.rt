@@ -7,10 +7,12 @@ mod ask;
 mod cursor;
 mod engine;
 mod error;
+mod given;
 pub mod laws;
 mod pulling;
 mod pushing;
 mod report;
+mod standing;
 
 pub use engine::sync;
 pub use error::{ReplyKind, SyncError};

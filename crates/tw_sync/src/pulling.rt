@@ -24,7 +24,7 @@ pub(crate) fn pull<L: Link>(
     ensures pulled { OnOk result (PullsAll L.model client host.now hand.now link.old cursor.old link.new cursor.new) }
     ensures conflicts { OnOk result (cursor.new.conflicts ≡ cursor.old.conflicts) }
     ensures unsent { OnOk result (cursor.new.unsent ≡ cursor.old.unsent) }
-    ensures stopped { IfErr result (StopsPulling L.model client host.now hand.now link.old cursor.old link.new) }
+    ensures stopped { IfErr result (StopsPulling L.model client host.now hand.now link.old cursor.old link.new cursor.new) }
 {
     while pull_one(alloc, link, client, host, hand, cursor)? {}
     Ok(())
@@ -48,7 +48,7 @@ fn pull_one<L: Link>(
 
     // If a version came too late, there is one more.
     ensures late { IfOk result (λ more. more ≡ false → FindsNoneLate L.model client host.now link.old cursor.old link.new cursor.new) }
-    ensures stopped { IfErr result (StopsAsking L.model client host.now hand.now link.old cursor.old link.new) }
+    ensures stopped { IfErr result (StopsAsking L.model client host.now hand.now link.old cursor.old link.new cursor.new) }
 {
     match ask_child(alloc, link, client, host, cursor.walker.at)? {
         ChildAnswer::Found { id, segment } => {
@@ -77,7 +77,7 @@ pub(crate) fn pull_late<L: Link>(
     ensures conflicts { OnOk result (cursor.new.conflicts ≡ cursor.old.conflicts) }
     ensures unsent { OnOk result (cursor.new.unsent ≡ cursor.old.unsent) }
     ensures few { OnOk result (cursor.new.conflicts ≤ 15) }
-    ensures stopped { IfErr result (StopsLate L.model client host.now hand.now link.old cursor.old latest link.new) }
+    ensures stopped { IfErr result (StopsLate L.model client host.now hand.now link.old cursor.old latest link.new cursor.new) }
 {
     if cursor.conflicts > 15 {
         return Err(SyncError::Busy { parent: latest });

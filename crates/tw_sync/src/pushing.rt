@@ -42,7 +42,7 @@ pub(crate) fn push<L: Link>(
     requires tries { cursor.old.conflicts ≤ 15 }
     ensures pushed { IfOk result (SendsLeft L.model client host.now link.old cursor.old link.new cursor.new) }
     ensures counted { IfOk result (λ sent. CountsSent sent cursor.old cursor.new) }
-    ensures stopped { IfErr result (StopsSending L.model client host.now link.old cursor.old link.new) }
+    ensures stopped { IfErr result (StopsSending L.model client host.now link.old cursor.old link.new cursor.new) }
 {
     let Letter { batch, ops, text } = write_letter(alloc, &cursor.walker.left)?;
     match ask_add(alloc, link, client, host, cursor.walker.at, text)? {

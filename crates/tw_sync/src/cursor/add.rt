@@ -24,10 +24,8 @@ impl Cursor {
         requires { IsFirstBatch batch self.old.walker.left.items }
         ensures { OnOk result (AddsVersion self.old self.new id ops.items) }
     {
-        let mut ops = ops;
         let count = ops.len() as u64;
         self.walker.push(alloc, id, &ops, batch)?;
-        self.remote.append(&mut ops)?;
         self.unsent = self.unsent.saturating_sub(count);
         Ok(())
     }

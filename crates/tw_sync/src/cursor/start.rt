@@ -2,14 +2,18 @@
 ghost use Rattle.std.specs.Prelude.{◌≡◌, ◌≤◌, ◌∷◌, [], length, IfOk};
 ghost use Rattle.tw_model.specs.LocalOps.{plain};
 ghost use Rattle.tw_replica.specs.Replica.{held_state};
+ghost use Rattle.tw_state.specs.State.{State};
 ghost use Rattle.tw_sync.specs.Cursor.{IsAtStart};
+ghost use Rattle.tw_sync.specs.Start.{from_state};
+ghost use Rattle.tw_sync.specs.Start.Start.{Snapshot};
 
 use crate::cursor::Cursor;
 use std::alloc::Global;
-use tw_model::Op;
+use tw_model::{Op, Tasks};
 use tw_path::Walker;
 use tw_replica::Replica;
 use tw_world::Memory;
+use uuid::Uuid;
 
 impl Cursor {
     /// A cursor at the base of a replica, where all that is pending is left.
@@ -21,12 +25,27 @@ impl Cursor {
         let pending = count_exchanged(&ops);
         Ok(Cursor {
             walker,
-            remote: Vec::new(alloc),
             versions: 0,
             bytes: 0,
             conflicts: 0,
             pending,
             unsent: pending,
+        })
+    }
+
+    /// A cursor at a snapshot, where nothing is left.
+    pub fn at_snapshot(alloc: Global, tasks: &Tasks, version: Uuid) -> Result<Cursor, Memory>
+        ensures { IfOk result (λ cursor. (state : State) → IsAtStart (from_state (Snapshot version tasks.now) state) cursor) }
+    {
+        let none = Vec::new(alloc);
+        let walker = Walker::start(alloc, tasks, version, &none)?;
+        Ok(Cursor {
+            walker,
+            versions: 0,
+            bytes: 0,
+            conflicts: 0,
+            pending: 0,
+            unsent: 0,
         })
     }
 }

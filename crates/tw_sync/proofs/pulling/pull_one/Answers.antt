@@ -20,10 +20,10 @@ returns-in_err-take_version-in-Found-clause-stopped g c =
     let k = c.in_ok-id.ensures in
     let bytes : c.as_slice.result.now ≡ c.in-Found.segment = search rules in
     passed_on c.from_residual-in_err-take_version-in-Found.result _ _ c.from_residual-in_err-take_version-in-Found.ensures.1
-    (λ state first hand s. pulling_untaken g.L.Link.model c.args.client c.args.host.now state first c.args.link.now c.ask_child.new.link c.args.cursor.now (λ hs. Unit {0}) c.in-Found.id c.in-Found.segment c.in_err-take_version-in-Found.field-0.0 s
+    (λ state first hand s. pulling_untaken g.L.Link.model c.args.client c.args.host.now state first c.args.link.now c.ask_child.new.link c.args.cursor.now c.take_version.new.self (λ hs. Unit {0}) c.in-Found.id c.in-Found.segment c.in_err-take_version-in-Found.field-0.0 s
     (child_is_asked g.L.Link.model c.args.client c.args.host.now c.args.link.now c.ask_child.new.link k.kept k.count c.args.cursor.now.walker.at _ _ c.in-Found.is k.heard k.welcome)
     (λ honest. child_says_truly g.L.Link.model c.args.client c.args.link.now c.ask_child.new.link c.args.cursor.now.walker.at _ _ c.in-Found.is (k.grows honest) (k.own honest) (k.answer honest))
-    (subst (λ xs. IsNotTaken c.args.cursor.now c.in-Found.id xs c.in_err-take_version-in-Found.field-0.0) bytes c.in_err-take_version-in-Found.ensures.refused))
+    (subst (λ xs. IsNotTaken c.args.cursor.now c.in-Found.id xs c.in_err-take_version-in-Found.field-0.0) bytes c.in_err-take_version-in-Found.ensures.refused) c.in_err-take_version-in-Found.ensures.kept)
 
 pub returns-in_ok-take_version-in-Found-clause-goes_on : goal.returns-in_ok-take_version-in-Found-clause-goes_on
 returns-in_ok-take_version-in-Found-clause-goes_on g c = λ state first hand s.

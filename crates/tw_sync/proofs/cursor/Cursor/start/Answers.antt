@@ -1,4 +1,4 @@
-use Rattle.std.proofs.Common.{◌≡◌, ◌∙◌, List, ℕ, length, ap, subst, rules, refl, arith}
+use Rattle.std.proofs.Common.{◌≡◌, ◌∙◌, List, ℕ, length, ap, subst, refl, arith}
 use Rattle.tw_model.specs.Ops.{TasksValue}
 use Rattle.tw_model.specs.LocalOps.{plain}
 use Rattle.tw_model.specs.declared.Op.{Op}
@@ -19,7 +19,6 @@ returns c =
       on_path = record {
         path = tt;
         stands = subst (λ (p : List Op). StandsAt state.tasks (before_pending state.base state.tasks p) walker) kept two;
-        remote = search rules;
         versions = refl;
         bytes = refl;
         pending = count;

@@ -1,0 +1,88 @@
+use Rattle.std.proofs.Common.{◌^◌, ◌≡◌, None, refl, sym, subst, rules}
+use Rattle.tw_state.specs.Core.{state_of}
+use Rattle.tw_sync.specs.Start.Start.{Snapshot}
+use Rattle.tw_sync.specs.Contract.{DoneEnd}
+use Rattle.tw_sync.specs.declared.error.SyncError.TheVariants as errors
+use Rattle.tw_sync.proofs.StepTaken.{nothing_grown}
+use Rattle.tw_replica.proofs.RecordAdded.{nothing_written}
+use Rattle.tw_sync.proofs.Hearing.{kept_same}
+use Rattle.tw_sync.proofs.Served.{grows_same}
+use Rattle.tw_sync.proofs.Results.{passed_on}
+use Rattle.tw_sync.proofs.StoppedEnds.{forgotten_any, forgotten_refused, stopped_any, stopped_end_is, unstopped_any, unstopped_end}
+use Rattle.tw_sync.proofs.Unheard.{unasked, no_memory}
+use Rattle.tw_sync.proofs.SyncEnds.{unmoved_any, unmoved_end, moved_any, moved_end}
+use Rattle.tw_sync.proofs.engine.sync_from.Goals as goal
+
+-- ---- no cursor to begin at
+
+pub returns-in_err-cursor-clause-any : goal.returns-in_err-cursor-clause-any
+returns-in_err-cursor-clause-any g c = record {
+  agrees = λ honest a fold. a;
+  grows = λ honest. grows_same (g.L.Link.model.chain c.args.link.now);
+  any_moment = λ bodies on. record { next = None; made = tt; end = λ h. tt; leaves = nothing_written g.D.Disk.model g.met.D.Disk.only_now c.args.replica.now c.args.disk.now bodies None on };
+  growth = λ bodies on. nothing_grown g.D.Disk.model g.met.D.Disk.only_now c.args.disk.now (2 ^ 30);
+  link_kept = kept_same g.L.Link.model c.args.link.now;
+}
+
+pub returns-in_err-cursor-clause-refused : goal.returns-in_err-cursor-clause-refused
+returns-in_err-cursor-clause-refused g c =
+    passed_on c.from_residual.result _ _ c.from_residual.ensures.1
+    (no_memory g.D.Disk.model g.L.Link.model c.args.client c.args.host.now c.args.replica.now c.args.disk.now c.args.link.now c.args.link.now (Snapshot c.args.given.version c.args.given.tasks) c.requires.open
+    (unasked g.L.Link.model c.args.client c.args.host.now c.args.link.now errors.Memory (g.met.L.Link.tells_chain c.args.link.now)))
+
+-- ---- the chain is met
+
+pub meet-requires-clause-fresh : goal.meet-requires-clause-fresh
+meet-requires-clause-fresh g c = (c.in_ok-cursor.ensures (state_of c.args.replica.now.core)).conflicts
+
+pub returns-in_err-take_over-in-Ok-clause-any : goal.returns-in_err-take_over-in-Ok-clause-any
+returns-in_err-take_over-in-Ok-clause-any g c =
+    unmoved_any g.L.Link.model c.args.client c.args.host.now c.args.given.tasks (Snapshot c.args.given.version c.args.given.tasks) c.args.replica.now c.requires.fresh c.args.link.now c.meet.new.link c.in_ok-cursor.cursor c.meet.new.cursor (g.met.L.Link.tells_chain c.args.link.now) refl (c.in_ok-cursor.ensures (state_of c.args.replica.now.core)) c.in-Ok.ensures.met g.D.Disk.model c.take_over.new.replica c.args.disk.now c.take_over.new.disk c.requires.open c.take_over.ensures.any_moment c.take_over.ensures.growth c.in_err-take_over-in-Ok.field-0.0 c.in_err-take_over-in-Ok.ensures.refused
+
+pub returns-in_err-take_over-in-Ok-clause-refused : goal.returns-in_err-take_over-in-Ok-clause-refused
+returns-in_err-take_over-in-Ok-clause-refused g c =
+    passed_on c.from_residual-in_err-take_over-in-Ok.result _ _ c.from_residual-in_err-take_over-in-Ok.ensures.1
+    (unmoved_end g.L.Link.model c.args.client c.args.host.now c.args.given.tasks (Snapshot c.args.given.version c.args.given.tasks) c.args.replica.now c.requires.fresh c.args.link.now c.meet.new.link c.in_ok-cursor.cursor c.meet.new.cursor (g.met.L.Link.tells_chain c.args.link.now) refl (c.in_ok-cursor.ensures (state_of c.args.replica.now.core)) c.in-Ok.ensures.met g.D.Disk.model c.take_over.new.replica c.args.disk.now c.take_over.new.disk c.requires.open c.take_over.ensures.any_moment c.take_over.ensures.growth c.in_err-take_over-in-Ok.field-0.0 c.in_err-take_over-in-Ok.ensures.refused)
+
+pub returns-in_ok-take_over-in-Ok-clause-any : goal.returns-in_ok-take_over-in-Ok-clause-any
+returns-in_ok-take_over-in-Ok-clause-any g c =
+    moved_any g.L.Link.model c.args.client c.args.host.now c.args.given.tasks (Snapshot c.args.given.version c.args.given.tasks) c.args.replica.now c.requires.fresh c.args.link.now c.meet.new.link c.in_ok-cursor.cursor c.meet.new.cursor (g.met.L.Link.tells_chain c.args.link.now) refl (c.in_ok-cursor.ensures (state_of c.args.replica.now.core)) c.in-Ok.ensures.met g.D.Disk.model c.take_over.new.replica c.args.disk.now c.take_over.new.disk c.requires.open c.take_over.ensures.any_moment c.take_over.ensures.growth c.in_ok-take_over-in-Ok.ensures.moved
+
+pub returns-in_ok-take_over-in-Ok-clause-done : goal.returns-in_ok-take_over-in-Ok-clause-done
+returns-in_ok-take_over-in-Ok-clause-done g c =
+    subst (DoneEnd g.D.Disk.model g.L.Link.model c.args.client c.args.host.now (Snapshot c.args.given.version c.args.given.tasks) c.args.replica.now c.take_over.new.replica c.args.disk.now c.take_over.new.disk c.args.link.now c.meet.new.link) (sym c.report-report.ensures)
+    (moved_end g.L.Link.model c.args.client c.args.host.now c.args.given.tasks (Snapshot c.args.given.version c.args.given.tasks) c.args.replica.now c.requires.fresh c.args.link.now c.meet.new.link c.in_ok-cursor.cursor c.meet.new.cursor (g.met.L.Link.tells_chain c.args.link.now) refl (c.in_ok-cursor.ensures (state_of c.args.replica.now.core)) c.in-Ok.ensures.met g.D.Disk.model c.take_over.new.replica c.args.disk.now c.take_over.new.disk c.requires.open c.take_over.ensures.any_moment c.take_over.ensures.growth c.in_ok-take_over-in-Ok.ensures.moved)
+
+-- ---- there was no memory
+
+pub returns-in-Err-Memory-clause-any : goal.returns-in-Err-Memory-clause-any
+returns-in-Err-Memory-clause-any g c =
+    forgotten_any g.L.Link.model c.args.client c.args.host.now c.args.given.tasks (Snapshot c.args.given.version c.args.given.tasks) c.args.replica.now c.requires.fresh c.args.link.now c.meet.new.link c.in_ok-cursor.cursor c.meet.new.cursor c.in-Err-Memory.field-0 (g.met.L.Link.tells_chain c.args.link.now) refl (c.in_ok-cursor.ensures (state_of c.args.replica.now.core)) c.in-Err-Memory.ensures.stopped g.D.Disk.model c.args.disk.now
+    (λ bodies on. nothing_written g.D.Disk.model g.met.D.Disk.only_now c.args.replica.now c.args.disk.now bodies None on) (λ bodies on. nothing_grown g.D.Disk.model g.met.D.Disk.only_now c.args.disk.now (2 ^ 30))
+
+pub returns-in-Err-Memory-clause-refused : goal.returns-in-Err-Memory-clause-refused
+returns-in-Err-Memory-clause-refused g c =
+    forgotten_refused g.L.Link.model c.args.client c.args.host.now c.args.given.tasks (Snapshot c.args.given.version c.args.given.tasks) c.args.replica.now c.requires.fresh c.args.link.now c.meet.new.link c.in_ok-cursor.cursor c.meet.new.cursor c.in-Err-Memory.field-0 (g.met.L.Link.tells_chain c.args.link.now) refl (c.in_ok-cursor.ensures (state_of c.args.replica.now.core)) c.in-Err-Memory.ensures.stopped g.D.Disk.model c.args.disk.now c.in-Err-Memory.field-0-is c.requires.open
+
+-- ---- it was stopped
+
+pub returns-in_err-take_over-in-Err-clause-any : goal.returns-in_err-take_over-in-Err-clause-any
+returns-in_err-take_over-in-Err-clause-any g c =
+    let other : ¬ (c.in-Err.error ≡ errors.Memory) = search rules in
+    unstopped_any g.L.Link.model c.args.client c.args.host.now c.args.given.tasks (Snapshot c.args.given.version c.args.given.tasks) c.args.replica.now c.requires.fresh c.args.link.now c.meet.new.link c.in_ok-cursor.cursor c.meet.new.cursor c.in-Err.error (g.met.L.Link.tells_chain c.args.link.now) refl (c.in_ok-cursor.ensures (state_of c.args.replica.now.core)) c.in-Err.ensures.stopped other g.D.Disk.model c.take_over-in-Err.new.replica c.args.disk.now c.take_over-in-Err.new.disk c.requires.open c.take_over-in-Err.ensures.any_moment c.take_over-in-Err.ensures.growth c.in_err-take_over-in-Err.field-0.0 c.requires.known c.in_err-take_over-in-Err.ensures.refused
+
+pub returns-in_err-take_over-in-Err-clause-refused : goal.returns-in_err-take_over-in-Err-clause-refused
+returns-in_err-take_over-in-Err-clause-refused g c =
+    let other : ¬ (c.in-Err.error ≡ errors.Memory) = search rules in
+    passed_on c.from_residual-in_err-take_over-in-Err.result _ _ c.from_residual-in_err-take_over-in-Err.ensures.1
+    (unstopped_end g.L.Link.model c.args.client c.args.host.now c.args.given.tasks (Snapshot c.args.given.version c.args.given.tasks) c.args.replica.now c.requires.fresh c.args.link.now c.meet.new.link c.in_ok-cursor.cursor c.meet.new.cursor c.in-Err.error (g.met.L.Link.tells_chain c.args.link.now) refl (c.in_ok-cursor.ensures (state_of c.args.replica.now.core)) c.in-Err.ensures.stopped other g.D.Disk.model c.take_over-in-Err.new.replica c.args.disk.now c.take_over-in-Err.new.disk c.requires.open c.take_over-in-Err.ensures.any_moment c.take_over-in-Err.ensures.growth c.in_err-take_over-in-Err.field-0.0 c.requires.known c.in_err-take_over-in-Err.ensures.refused)
+
+pub returns-in_ok-take_over-in-Err-clause-any : goal.returns-in_ok-take_over-in-Err-clause-any
+returns-in_ok-take_over-in-Err-clause-any g c =
+    let other : ¬ (c.in-Err.error ≡ errors.Memory) = search rules in
+    stopped_any g.L.Link.model c.args.client c.args.host.now c.args.given.tasks (Snapshot c.args.given.version c.args.given.tasks) c.args.replica.now c.requires.fresh c.args.link.now c.meet.new.link c.in_ok-cursor.cursor c.meet.new.cursor c.in-Err.error (g.met.L.Link.tells_chain c.args.link.now) refl (c.in_ok-cursor.ensures (state_of c.args.replica.now.core)) c.in-Err.ensures.stopped other g.D.Disk.model c.take_over-in-Err.new.replica c.args.disk.now c.take_over-in-Err.new.disk c.requires.open c.take_over-in-Err.ensures.any_moment c.take_over-in-Err.ensures.growth c.in_ok-take_over-in-Err.ensures.moved
+
+pub returns-in_ok-take_over-in-Err-clause-refused : goal.returns-in_ok-take_over-in-Err-clause-refused
+returns-in_ok-take_over-in-Err-clause-refused g c =
+    let other : ¬ (c.in-Err.error ≡ errors.Memory) = search rules in
+    stopped_end_is g.L.Link.model c.args.client c.args.host.now c.args.given.tasks (Snapshot c.args.given.version c.args.given.tasks) c.args.replica.now c.requires.fresh c.args.link.now c.meet.new.link c.in_ok-cursor.cursor c.meet.new.cursor c.in-Err.error (g.met.L.Link.tells_chain c.args.link.now) refl (c.in_ok-cursor.ensures (state_of c.args.replica.now.core)) c.in-Err.ensures.stopped other g.D.Disk.model c.take_over-in-Err.new.replica c.args.disk.now c.take_over-in-Err.new.disk c.requires.open c.take_over-in-Err.ensures.any_moment c.take_over-in-Err.ensures.growth c.in_ok-take_over-in-Err.ensures.moved
