@@ -1,5 +1,5 @@
 -- What a demand makes of the accounts of the clients, and of the records.
-use Rattle.std.proofs.Common.{◌≡◌, ◌∙◌, ℕ, ◌+◌, ◌≤◌, Bool, true, false, not, cond, ◌&&◌, if◌then◌else◌, Option, Some, None, List, [], ◌∷◌, ◌++◌, length, take, drop, map, refl, sym, ap, subst, arith}
+use Rattle.std.proofs.Common.{◌≡◌, ◌∙◌, ℕ, ◌≤◌, Bool, true, false, not, cond, ◌&&◌, if◌then◌else◌, Option, Some, None, List, [], ◌∷◌, ◌++◌, length, take, drop, map, refl, sym, ap, subst, arith}
 use Rattle.std.proofs.lemmas.Bool.{false≢true}
 use Rattle.std.proofs.lemmas.Bool.Decides.{nat_tests}
 use Rattle.std.proofs.lemmas.Cmp.{nat_list_eq_equiv}
@@ -17,7 +17,7 @@ use Rattle.tw_records.specs.Bodies.{body_of, is_body, accepted_in, entry_of, is_
 use Rattle.tw_records.specs.Reading.{StandFor}
 use Rattle.tw_records.specs.Demands.{log_after, OwnAccountIsAnswered, OtherAccountsStay, AccountsStay, AnsweredStands}
 use Rattle.tw_records.proofs.Named.{IsLong}
-use Rattle.tw_records.proofs.Standing.{version_stands_after, snapshot_stands_after}
+use Rattle.tw_records.proofs.More.{version_stands_after, snapshot_stands_after}
 
 -- ---- the accounts
 

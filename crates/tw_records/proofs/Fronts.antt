@@ -5,7 +5,7 @@ use Rattle.std.proofs.lemmas.List.{drop-take, length-take}
 use Rattle.tw_protocol.specs.Chain.{IsUuid}
 use Rattle.tw_records.specs.Log.{Accepted, HasUuids, Log}
 use Rattle.tw_records.specs.Bodies.{is_kind, is_body, entry_of, accepted_in, is_next_entry, follows}
-use Rattle.tw_records.specs.Bodies.{is_snapshot_body, snapshot_in, image_of, is_next_image, is_stored}
+use Rattle.tw_records.specs.Bodies.{snapshot_in, image_of, is_next_image, is_stored}
 
 -- the front of a list has so many elements if the list has
 long_front : (n k : ℕ) (xs : List ℕ) → n ≤ k → nat_le n (length (take k xs)) ≡ nat_le n (length xs)

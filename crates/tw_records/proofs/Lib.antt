@@ -2,6 +2,10 @@ pub mod Spelled
 pub mod Fronts
 pub mod Bare
 pub mod Named
+pub mod Back
 pub mod Standing
+pub mod More
+pub mod Inside
+pub mod Freshness
 pub mod Walks
 pub mod Demands

@@ -1,13 +1,16 @@
 -- What the fields of a body spell has the body again.
-use Rattle.std.proofs.Common.{◌≡◌, ℕ, ◌+◌, ◌<◌, ◌≤◌, true, ◌==◌, nat_le, List, [], ◌∷◌, ◌++◌, length, take, drop, sym, ap, ◌∙◌, arith}
+use Rattle.std.proofs.Common.{◌≡◌, ℕ, ◌+◌, ◌<◌, ◌≤◌, true, ◌==◌, nat_le, List, [], ◌∷◌, ◌++◌, length, take, drop, sym, ap, ◌∙◌, append_assoc, arith}
 use Rattle.std.proofs.lemmas.Bool.{true≢false, and_parts, eqb-true}
 use Rattle.std.proofs.lemmas.Bool.Decides.{nat_tests}
-use Rattle.std.proofs.lemmas.List.{drop-drop, take-append-drop, length-take, length-drop}
+use Rattle.std.proofs.lemmas.List.{append-nil, drop-drop, take-append-drop, length-take, length-drop}
 use Rattle.std.proofs.lemmas.List.Elements.{All-take, All-drop}
 use Rattle.tw_world.specs.Bytes.{IsBytes}
 use Rattle.tw_protocol.specs.Chain.{IsUuid}
-use Rattle.tw_records.specs.Log.{HasUuids}
-use Rattle.tw_records.specs.Bodies.{is_kind, is_body, body_of, accepted_in, snapshot_body, snapshot_in}
+use Rattle.tw_protocol.specs.Answer.{version}
+use Rattle.tw_records.specs.declared.entry.Entry.{Entry}
+use Rattle.tw_records.specs.declared.image.Image.{Image}
+use Rattle.tw_records.specs.Log.{Accepted, ClientSnapshot, HasUuids, accepted_for}
+use Rattle.tw_records.specs.Bodies.{is_kind, is_body, body_of, entry_of, accepted_in, version_front, snapshot_body, snapshot_in, snapshot_for, image_of, snapshot_front}
 
 pub body_back : (body : List ℕ) → is_body body ≡ true → body_of (accepted_in body) ≡ body
 body_back [] e = absurd (true≢false (sym e))
@@ -30,6 +33,22 @@ snapshot_back (kind ∷ fields) e le =
     let two : take 16 (drop 17 whole) ++ drop 33 whole ≡ drop 17 whole = ap (λ l. take 16 (drop 17 whole) ++ l) (sym (drop-drop 16 17 whole)) ∙ take-append-drop 16 (drop 17 whole) in
     let three : take 16 (drop 1 whole) ++ drop 17 whole ≡ drop 1 whole = ap (λ l. take 16 (drop 1 whole) ++ l) (sym (drop-drop 16 1 whole)) ∙ take-append-drop 16 (drop 1 whole) in
     ap (λ l. 3 ∷ (take 16 (drop 1 whole) ++ l)) two ∙ ap (λ l. 3 ∷ l) three ∙ ap (λ x. x ∷ fields) (sym k)
+
+-- ---- the front of a body, and what comes after it
+
+pub version_split : (a : Accepted) → body_of a ≡ version_front (entry_of a) ++ a.version.segment
+version_split a =
+    ap (λ l. 1 ∷ l) (sym (append_assoc a.client (a.version.id ++ a.version.parent) a.version.segment ∙ ap (λ l. a.client ++ l) (append_assoc a.version.id a.version.parent a.version.segment)))
+
+pub snapshot_split : (t : ClientSnapshot) → snapshot_body t ≡ snapshot_front (image_of t) ++ t.snapshot.bytes
+snapshot_split t = ap (λ l. 3 ∷ l) (sym (append_assoc t.client t.snapshot.version t.snapshot.bytes))
+
+-- a record without its segment or its bytes is its front
+pub bare_front : (e : Entry) → body_of (accepted_for e.client (version e.id e.parent [])) ≡ version_front e
+bare_front e = ap (λ l. 1 ∷ (e.client ++ (e.id ++ l))) (append-nil e.parent)
+
+pub bare_image_front : (image : Image) → snapshot_body (snapshot_for image []) ≡ snapshot_front image
+bare_image_front image = ap (λ l. 3 ∷ (image.client ++ l)) (append-nil image.version)
 
 -- ---- a body of a version
 

@@ -1,11 +1,9 @@
 -- An opening reads what records stand for.
-use Rattle.std.proofs.Common.{◌≡◌, ℕ, zero, suc, ◌+◌, ◌-◌, ◌*◌, ◌<◌, ◌≤◌, Bool, true, false, cond, ◌&&◌, ◌==◌, nat_le, nat_eq, List, [], ◌∷◌, ◌++◌, length, get_or, drop, map, reverse, Option, Some, None, option_and_then, refl, sym, ap, subst, ◌∙◌, append_assoc, arith}
+use Rattle.std.proofs.Common.{◌≡◌, ℕ, zero, suc, ◌+◌, ◌-◌, ◌*◌, ◌<◌, ◌≤◌, Bool, true, false, cond, ◌&&◌, ◌==◌, nat_le, List, [], ◌∷◌, ◌++◌, length, get_or, map, reverse, Some, refl, sym, ap, subst, ◌∙◌, append_assoc, arith}
 use Rattle.std.specs.Prelude.{Result, Ok, Err}
-use Rattle.std.proofs.lemmas.Bool.{true≢false, and_parts, eqb-true}
+use Rattle.std.proofs.lemmas.Bool.{and_parts}
 use Rattle.std.proofs.lemmas.Bool.Decides.{nat_tests}
 use Rattle.std.proofs.lemmas.List.{append-nil, length-append, length-map, length-drop, reverse-append, reverse-reverse, length-reverse, map-append, get_or_append_left, get_or-drop, drop-map}
-use Rattle.std.proofs.lemmas.Cmp.{nat_list_eq_equiv}
-use lib.Pointwise.{pointwise}
 use Rattle.std.proofs.Math.Seq.{get_or-append_seam}
 use Rattle.tw_protocol.specs.Chain.{same_id}
 use Rattle.tw_protocol.specs.Snapshots.{is_welcome}
@@ -14,76 +12,17 @@ use Rattle.tw_records.specs.declared.entry.Entry.{Entry}
 use Rattle.tw_records.specs.Log.{Accepted, ClientSnapshot, account_of}
 use Rattle.tw_records.specs.Bodies.{block_size, block_of, last_of, is_kind, is_body, is_next_entry, follows, body_of, snapshot_body, entry_of, accepted_in}
 use Rattle.tw_records.specs.Bodies.{snapshot_in, image_of, is_snapshot_body, is_next_image, is_stored}
-use Rattle.tw_records.specs.Reading.{Reading, nothing_read, with_version, with_block, with_snapshot, read_body, read_from, StandFor, is_block}
+use Rattle.tw_records.specs.Reading.{Reading, nothing_read, with_version, with_block, with_snapshot, read_body, read_from, is_block}
 use Rattle.tw_records.specs.Table.{Source, Own, Named, Block, Stored, Odd, sources_of, other, is_block_body, Row, Placed, Table, version_in, stored_in, log_in}
 use Rattle.tw_records.specs.Table.{with_row, with_image, entry_at, body_at, taken, and_then, table_by}
-use Rattle.tw_records.specs.Laws.{bare_version, bare_snapshot, tabled, StandingIsRead, NumbersTell, OpenedStands, VersionStands, SnapshotStands}
+use Rattle.tw_records.specs.Laws.{bare_version, bare_snapshot, tabled, StandingIsRead, NumbersTell}
+use Rattle.tw_records.proofs.Back.{read_back, back_is, some_from, same_reading, by_kind, snapshot_tests, both, third_kind}
 use Rattle.tw_records.proofs.Bare.{next_bare, welcome_bare}
 use Rattle.tw_records.proofs.Spelled.{body_back, snapshot_back}
 use Rattle.tw_records.proofs.Named.{AreLong, long_more, long_last, fields_long, named_at, block_length}
 
 abbrev start : Table
 start = record { rows = []; images = [] }
-
--- ---- reading from the end
-
-abbrev read_back : List (List ℕ) → Option Reading
-read_back [] = Some nothing_read
-read_back (body ∷ earlier) = option_and_then (λ r. read_body r body) (read_back earlier)
-
-and_some : (o : Option Reading) → option_and_then (λ r. Some r) o ≡ o
-and_some None = refl
-and_some (Some r) = refl
-
-pub read_push : (r : Reading) (xs : List (List ℕ)) (x : List ℕ) → read_from r (xs ++ x ∷ []) ≡ option_and_then (λ q. read_body q x) (read_from r xs)
-read_push r [] x = and_some (read_body r x)
-read_push r (y ∷ ys) x = by (read_body r y) (λ q. read_push q ys x)
-  where
-    by : (o : Option Reading) → ((q : Reading) → read_from q (ys ++ x ∷ []) ≡ option_and_then (λ p. read_body p x) (read_from q ys)) → option_and_then (λ q. read_from q (ys ++ x ∷ [])) o ≡ option_and_then (λ q. read_body q x) (option_and_then (λ q. read_from q ys) o)
-    by None f = refl
-    by (Some q) f = f q
-
-back_is : (back : List (List ℕ)) → read_from nothing_read (reverse back) ≡ read_back back
-back_is [] = refl
-back_is (body ∷ earlier) = ap (read_from nothing_read) (reverse-append (body ∷ []) earlier) ∙ read_push nothing_read (reverse earlier) body ∙ ap (option_and_then (λ r. read_body r body)) (back_is earlier)
-
-some_from : (f : Reading → Option Reading) (o : Option Reading) (r : Reading) → option_and_then f o ≡ Some r → (q : Reading) × (o ≡ Some q) × (f q ≡ Some r)
-some_from f None r e = absurd (cc)
-some_from f (Some q) r e = (q, refl, e)
-
--- ---- the three kinds of body
-
-abbrev the : Reading → Option Reading → Reading
-the r None = r
-the r (Some q) = q
-
-same_reading : (q r : Reading) → Some q ≡ Some r → q ≡ r
-same_reading q r e = ap (the q) e
-
-by_kind : (P : Reading → Type 0) (q r : Reading) (body : List ℕ) → read_body q body ≡ Some r
-    → (follows q.log.versions body ≡ true → P (with_version q body)) → (is_block q body ≡ true → P (with_block q)) → (is_stored q.log body ≡ true → P (with_snapshot q body)) → P r
-by_kind P q r body e first second third = by (follows q.log.versions body) (is_block q body) (is_stored q.log body) refl refl refl e
-  where
-    by : (t u w : Bool) → follows q.log.versions body ≡ t → is_block q body ≡ u → is_stored q.log body ≡ w → cond t (Some (with_version q body)) (cond u (Some (with_block q)) (cond w (Some (with_snapshot q body)) None)) ≡ Some r → P r
-    by true u w a b c e = subst P (same_reading (with_version q body) r e) (first a)
-    by false true w a b c e = subst P (same_reading (with_block q) r e) (second b)
-    by false false true a b c e = subst P (same_reading (with_snapshot q body) r e) (third c)
-    by false false false a b c e = absurd (cc)
-
--- the three tests of a snapshot's body
-snapshot_tests : (body : List ℕ) (t : Bool) → is_snapshot_body body && t ≡ true → (is_kind 3 body ≡ true) × (nat_le 33 (length body) ≡ true) × (t ≡ true)
-snapshot_tests body t e =
-    let one = and_parts (is_snapshot_body body) t e in
-    let two = and_parts (is_kind 3 body) (nat_le 33 (length body)) one.0 in
-    (two.0, two.1, one.1)
-
-both : (a b : Bool) → a ≡ true → b ≡ true → a && b ≡ true
-both true b p q = q
-both false b p q = absurd (true≢false (sym p))
-
-third_kind : (body : List ℕ) → is_kind 3 body ≡ true → (is_kind 1 body ≡ false) × (is_kind 2 body ≡ false)
-third_kind [] e = absurd (true≢false (sym e))
-third_kind (kind ∷ fields) e = let three : kind ≡ 3 = eqb-true kind 3 e in (ap (λ k. k == 1) three, ap (λ k. k == 2) three)
 
 module _ (all : List (List ℕ)) where
   abbrev by_all : Table → List Source → Result Table ℕ
@@ -96,7 +35,7 @@ module _ (all : List (List ℕ)) where
   and_ok (Ok t) = refl
   and_ok (Err n) = refl
 
-  table_push : (t : Table) (ss : List Source) (s : Source) (mid : Table) → by_all t ss ≡ Ok mid → by_all t (ss ++ s ∷ []) ≡ take_one mid s
+  pub table_push : (t : Table) (ss : List Source) (s : Source) (mid : Table) → by_all t ss ≡ Ok mid → by_all t (ss ++ s ∷ []) ≡ take_one mid s
   table_push t [] s mid e = and_ok (take_one t s) ∙ ap (λ (r : Result Table ℕ). take_one (got t r) s) e
     where
       got : Table → Result Table ℕ → Table
@@ -109,19 +48,19 @@ module _ (all : List (List ℕ)) where
       by (Err n) e f = absurd (cc)
 
   -- the body with this number names the last so many of these versions, in its first places
-  record Names (k b : ℕ) (log : List Accepted) : Type 0 where
-    whole : 0 < k → is_block_body block_size (body_at all b) ≡ true
-    says : (j : ℕ) (d : Entry) → j < k → entry_at j (body_at all b) ≡ get_or (map entry_of log) (length log - k + j) d
+  pub record Names (k b : ℕ) (log : List Accepted) : Type 0 where
+    pub whole : 0 < k → is_block_body block_size (body_at all b) ≡ true
+    pub says : (j : ℕ) (d : Entry) → j < k → entry_at j (body_at all b) ≡ get_or (map entry_of log) (length log - k + j) d
 
   -- the bodies, of which the last comes first, were read, and lead to their table also where the last so many versions are told by a block
-  record Stands (back : List (List ℕ)) (r : Reading) : Type 0 where
-    few : r.fresh ≤ length r.log.versions
-    long : AreLong r.log.versions
-    versions : map version_in (tabled back).rows ≡ map bare_version r.log.versions
-    images : map stored_in (tabled back).images ≡ map bare_snapshot r.log.snapshots
-    records : map (λ (x : Row). body_at all x.number) (tabled back).rows ≡ map body_of r.log.versions
-    pictures : map (λ (x : Placed). body_at all x.number) (tabled back).images ≡ map snapshot_body r.log.snapshots
-    walk : (k b : ℕ) → k ≤ r.fresh → Names k b r.log.versions → by_all start (sources_of block_size k b back) ≡ Ok (tabled back)
+  pub record Stands (back : List (List ℕ)) (r : Reading) : Type 0 where
+    pub few : r.fresh ≤ length r.log.versions
+    pub long : AreLong r.log.versions
+    pub versions : map version_in (tabled back).rows ≡ map bare_version r.log.versions
+    pub images : map stored_in (tabled back).images ≡ map bare_snapshot r.log.snapshots
+    pub records : map (λ (x : Row). body_at all x.number) (tabled back).rows ≡ map body_of r.log.versions
+    pub pictures : map (λ (x : Placed). body_at all x.number) (tabled back).images ≡ map snapshot_body r.log.snapshots
+    pub walk : (k b : ℕ) → k ≤ r.fresh → Names k b r.log.versions → by_all start (sources_of block_size k b back) ≡ Ok (tabled back)
 
   nothing_stands : Stands [] nothing_read
   nothing_stands = record { few = omega arith; long = tt; versions = refl; images = refl; records = refl; pictures = refl; walk = λ k b le names. ends k b le }
@@ -340,7 +279,7 @@ module _ (all : List (List ℕ)) where
       let there = body_there earlier later body at in
       by_kind (Stands (body ∷ earlier)) got.0 r body got.2 (version_stands earlier body got.0 there h) (block_stands earlier body got.0 there h) (image_stands earlier body got.0 there h)
 
-stood : (bodies : List (List ℕ)) (r : Reading) → read_from nothing_read bodies ≡ Some r → Stands bodies (reverse bodies) r
+pub stood : (bodies : List (List ℕ)) (r : Reading) → read_from nothing_read bodies ≡ Some r → Stands bodies (reverse bodies) r
 stood bodies r e =
     stand bodies (reverse bodies) [] (sym (append-nil (reverse (reverse bodies)) ∙ reverse-reverse bodies)) r
     (sym (back_is (reverse bodies)) ∙ ap (read_from nothing_read) (reverse-reverse bodies) ∙ e)
@@ -352,54 +291,3 @@ standing_is_read bodies log stands =
 
 pub numbers_tell : NumbersTell
 numbers_tell bodies log stands = let h = stood bodies (record { log = log; fresh = stands.0 }) stands.1 in (h.records, h.pictures)
-
--- ---- one record more
-
-more : (bodies : List (List ℕ)) (r q : Reading) (body : List ℕ) → read_from nothing_read bodies ≡ Some r → read_body r body ≡ Some q → read_from nothing_read (bodies ++ body ∷ []) ≡ Some q
-more bodies r q body e f = read_push nothing_read bodies body ∙ ap (option_and_then (λ p. read_body p body)) e ∙ f
-
-pub version_stands_after : VersionStands
-version_stands_after bodies log body stands f =
-    let r : Reading = record { log = log; fresh = stands.0 } in
-    (stands.0 + 1, more bodies r (with_version r body) body stands.1 (ap (λ t. cond t (Some (with_version r body)) (cond (is_block r body) (Some (with_block r)) (cond (is_stored log body) (Some (with_snapshot r body)) None))) f))
-
-no_version : (r : Reading) (body : List ℕ) → is_kind 1 body ≡ false → follows r.log.versions body ≡ false
-no_version r body k = ap (λ t. (t && nat_le 49 (length body)) && is_next_entry r.log.versions (entry_of (accepted_in body))) k
-
-no_block : (r : Reading) (body : List ℕ) → is_kind 2 body ≡ false → is_block r body ≡ false
-no_block r [] k = none (nat_le block_size r.fresh)
-  where
-    none : (b : Bool) → b && false ≡ false
-    none true = refl
-    none false = refl
-no_block r (kind ∷ fields) k = none (nat_le block_size r.fresh) (nat_eq kind 2) (pointwise nat_eq fields (drop 1 (block_of (map entry_of (last_of block_size r.log.versions))))) (turned kind k)
-  where
-    turned : (kind : ℕ) → (kind == 2) ≡ false → nat_eq kind 2 ≡ false
-    turned kind k = grind (arith, nat_tests)
-
-    none : (b t u : Bool) → t ≡ false → b && (t && u) ≡ false
-    none true true u e = absurd (true≢false e)
-    none true false u e = refl
-    none false t u e = refl
-
-pub snapshot_stands_after : SnapshotStands
-snapshot_stands_after bodies log body stands f =
-    let r : Reading = record { log = log; fresh = stands.0 } in
-    let checks = snapshot_tests body (is_next_image log (image_of (snapshot_in body))) f in
-    let others = third_kind body checks.0 in (
-      stands.0,
-      more bodies r (with_snapshot r body) body stands.1
-          (λ i. cond (no_version r body others.0 i) (Some (with_version r body)) (cond (no_block r body others.1 i) (Some (with_block r)) (cond (f i) (Some (with_snapshot r body)) None))),
-    )
-
-pub opened_stands : OpenedStands
-opened_stands bodies r e = by (nat_le block_size r.fresh) refl
-  where
-    by : (t : Bool) → nat_le block_size r.fresh ≡ t → StandFor (cond t (bodies ++ block_of (map entry_of (last_of block_size r.log.versions)) ∷ []) bodies) r.log
-    by false few = (r.fresh, e)
-    by true many =
-        let block = block_of (map entry_of (last_of block_size r.log.versions)) in (
-          0,
-          more bodies r (with_block r) block e
-              (ap (λ t. cond t (Some (with_block r)) (cond (is_stored r.log block) (Some (with_snapshot r block)) None)) (both (nat_le block_size r.fresh) (same_id block block) many (nat_list_eq_equiv.refl block))),
-        )

@@ -59,6 +59,10 @@ block_size = 256
 abbrev pub named : Entry → List ℕ
 named e = e.client ++ (e.id ++ e.parent)
 
+-- what the body of an accepted version has before its segment
+abbrev pub version_front : Entry → List ℕ
+version_front e = 1 ∷ named e
+
 -- the body of a block: the kind 2, and the versions without their segments
 abbrev pub block_of : List Entry → List ℕ
 block_of entries = 2 ∷ flat_map named entries
@@ -75,6 +79,10 @@ snapshot_body t = 3 ∷ (t.client ++ (t.snapshot.version ++ t.snapshot.bytes))
 -- what a server has in memory of it
 abbrev pub image_of : ClientSnapshot → Image
 image_of t = record { client = t.client; version = t.snapshot.version }
+
+-- what its body has before the bytes
+abbrev pub snapshot_front : Image → List ℕ
+snapshot_front image = 3 ∷ (image.client ++ image.version)
 
 abbrev pub snapshot_for : Image → List ℕ → ClientSnapshot
 snapshot_for image bytes = record { client = image.client; snapshot = record { version = image.version; bytes = bytes } }

@@ -1,8 +1,9 @@
 -- The laws of openings, and worked rows of the walk with blocks of two.
-use Rattle.std.specs.Prelude.{◌≡◌, ℕ, zero, true, cond, List, [], ◌∷◌, ◌++◌, length, map, reverse, Some, Ok}
+use Rattle.std.specs.Prelude.{◌≡◌, ℕ, zero, true, cond, List, [], ◌∷◌, ◌++◌, length, map, reverse, Ok}
 use Rattle.tw_records.specs.Log.{Accepted, ClientSnapshot, Log}
 use Rattle.tw_records.specs.Bodies.{block_size, is_kind, body_of, entry_of, accepted_in, follows, snapshot_body, image_of, snapshot_in, snapshot_for, is_stored}
-use Rattle.tw_records.specs.Reading.{Reading, nothing_read, read_from, StandFor, opened_records}
+use Rattle.tw_records.specs.Reading.{StandFor}
+use Rattle.tw_records.specs.Opening.{opened_records}
 use Rattle.tw_records.specs.Table.{Own, Named, Block, Stored, Odd, sources_of, Row, Placed, Table, with_row, with_image, log_in, body_at, table_in}
 
 -- ---- what an opening makes of records that stand
@@ -37,7 +38,7 @@ NumbersTell = (bodies : List (List ℕ)) (log : Log) → StandFor bodies log
 
 -- what an opening leaves stands for the same log
 abbrev pub OpenedStands : Type 0
-OpenedStands = (bodies : List (List ℕ)) (r : Reading) → read_from nothing_read bodies ≡ Some r → StandFor (opened_records bodies r) r.log
+OpenedStands = (bodies : List (List ℕ)) (log : Log) → StandFor bodies log → StandFor (opened_records bodies (tabled (reverse bodies))) log
 
 -- one record more
 abbrev pub VersionStands : Type 0

@@ -39,7 +39,3 @@ read_from r (body ∷ bodies) = option_and_then (λ next. read_from next bodies)
 -- records with these bodies lead to this log
 abbrev pub StandFor : List (List ℕ) → Log → Type 0
 StandFor bodies log = (fresh : ℕ) × (read_from nothing_read bodies ≡ Some (record { log = log; fresh = fresh }))
-
--- the records once a server was opened: with a block at their end, if at least 256 versions come after the last one
-abbrev pub opened_records : List (List ℕ) → Reading → List (List ℕ)
-opened_records bodies r = cond (nat_le block_size r.fresh) (bodies ++ block_of (map entry_of (last_of block_size r.log.versions)) ∷ []) bodies

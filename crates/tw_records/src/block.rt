@@ -12,7 +12,8 @@ use uuid::Uuid;
 
 /// The body of a block of these versions: the kind 2, and the three uuids of each version.
 pub fn block_of(alloc: Global, entries: &[Entry]) -> Result<Vec<u8>, Memory>
-    ensures { IfOk result (λ body. body.items ≡ block_of entries.now) }
+    ensures items { IfOk result (λ body. body.items ≡ block_of entries.now) }
+    ensures long { IfOk result (λ body. length body.items ≡ 1 + 48 * length entries.now) }
 {
     let mut body = Vec::with_capacity(alloc, entries.len().saturating_mul(48).saturating_add(1))?;
     body.push(2)?;
@@ -21,7 +22,8 @@ pub fn block_of(alloc: Global, entries: &[Entry]) -> Result<Vec<u8>, Memory>
 }
 
 fn put_entries(body: &mut Vec<u8>, entries: &[Entry]) -> Result<(), Memory>
-    ensures { OnOk result (body.new.items ≡ body.old.items ++ flat_map named entries.now) }
+    ensures items { OnOk result (body.new.items ≡ body.old.items ++ flat_map named entries.now) }
+    ensures long { OnOk result (length body.new.items ≡ length body.old.items + 48 * length entries.now) }
 {
     for entry in entries {
         put_entry(body, entry)?;
@@ -30,7 +32,8 @@ fn put_entries(body: &mut Vec<u8>, entries: &[Entry]) -> Result<(), Memory>
 }
 
 fn put_entry(body: &mut Vec<u8>, entry: &Entry) -> Result<(), Memory>
-    ensures { OnOk result (body.new.items ≡ body.old.items ++ named entry.now) }
+    ensures items { OnOk result (body.new.items ≡ body.old.items ++ named entry.now) }
+    ensures long { OnOk result (length body.new.items ≡ length body.old.items + 48) }
 {
     put_uuid(body, &entry.client)?;
     put_uuid(body, &entry.id)?;

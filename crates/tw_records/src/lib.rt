@@ -13,4 +13,4 @@ mod walk;
 pub use block::{block_of, entry_at, is_block_body};
 pub use entry::{BEFORE_SEGMENT, Entry, body_of, read_entry};
 pub use image::{BEFORE_BYTES, Image, read_image, snapshot_body};
-pub use walk::{Source, sources_of};
+pub use walk::{Source, fresh_versions, sources_of};

@@ -1,7 +1,8 @@
 // Where an opening finds each version and each snapshot: the walk over records, from the last one back.
-ghost use Rattle.std.specs.Prelude.{◌≡◌, ◌++◌, [], ◌∷◌, zero, List, ℕ, map, length, reverse, OnOk, IfOk};
+ghost use Rattle.std.specs.Prelude.{◌≡◌, ◌<◌, ◌^◌, ◌++◌, [], ◌∷◌, zero, List, ℕ, map, length, reverse, All, OnOk, IfOk};
 ghost use Rattle.tw_records.specs.Bodies.{block_size, kind_in};
 ghost use Rattle.tw_records.specs.Table.{sources_of, passing_after, block_after, found_at, version_at, missing};
+ghost use Rattle.tw_records.specs.Opening.{IsInside, fresh_by, fresh_after};
 
 use std::alloc::{AllocError, Global};
 
@@ -29,6 +30,14 @@ struct Walk {
 
 /// The sources of records with these kinds, in the order of the file.
 pub fn sources_of(alloc: Global, kinds: &[u8]) -> Result<Vec<Source>, AllocError>
+    ensures walked { IfOk result (λ sources. (bodies : List (List ℕ)) → kinds.now ≡ map kind_in bodies
+        → sources.items ≡ sources_of block_size zero zero (reverse bodies)) }
+    ensures inside { IfOk result (λ sources. All (IsInside (length kinds.now)) sources.items) }
+{
+    walk_back(alloc, kinds)
+}
+
+fn walk_back(alloc: Global, kinds: &[u8]) -> Result<Vec<Source>, AllocError>
     ensures { IfOk result (λ sources. (bodies : List (List ℕ)) → kinds.now ≡ map kind_in bodies
         → sources.items ≡ sources_of block_size zero zero (reverse bodies)) }
 {
@@ -103,4 +112,26 @@ fn end(found: &mut Vec<Source>, walk: Walk) -> Result<(), AllocError>
         found.push(Source::Odd { number: walk.block })?;
     }
     Ok(())
+}
+
+/// How many versions come after the last block, by the kinds of the records.
+pub fn fresh_versions(kinds: &[u8]) -> u64
+    ensures { result ≡ fresh_after 0 kinds.now }
+{
+    let mut fresh = 0;
+    for kind in kinds {
+        fresh = fresh_by(fresh, *kind);
+    }
+    fresh
+}
+
+fn fresh_by(fresh: u64, kind: u8) -> u64
+    requires { fresh < 2 ^ 63 }
+    ensures { result ≡ fresh_by fresh kind }
+{
+    match kind {
+        1 => fresh + 1,
+        2 => 0,
+        _ => fresh,
+    }
 }

@@ -1,5 +1,5 @@
 -- The accounts of the clients, after a request.
-use Rattle.std.proofs.Common.{◌≡◌, ◌∙◌, ℕ, Bool, true, false, cond, List, [], ◌∷◌, ◌++◌, refl, sym, ap}
+use Rattle.std.proofs.Common.{◌≡◌, ◌∙◌, inl, inr, ℕ, Bool, true, false, cond, List, [], ◌∷◌, ◌++◌, refl, sym, ap}
 use Rattle.std.proofs.lemmas.List.{append-nil}
 use Rattle.tw_protocol.specs.Chain.{Version, latest, has_id, Grows}
 use Rattle.tw_protocol.specs.Answer.{Finding, version, accepts, answer, answered}
@@ -15,7 +15,7 @@ use Rattle.tw_http.specs.Serving.{client_of, demand_of, says}
 use Rattle.tw_records.specs.Log.{Log, chain_of, account_of}
 use Rattle.tw_records.proofs.Demands as demands
 use Rattle.tw_server.specs.Log.{log_after}
-use Rattle.tw_server.specs.Laws.{OtherAccountsStay, OwnAccountIsAnswered, AcceptedStandsLast, ParentIsAcceptedOnce}
+use Rattle.tw_server.specs.Laws.{OtherAccountsStay, OwnAccountIsAnswered, AcceptedStandsLast, ParentIsAcceptedOnce, CrashLeavesAccount}
 
 pub other_accounts_stay : OtherAccountsStay
 other_accounts_stay log request id other not = demands.other_accounts_stay log (client_of request) (demand_of request) id other not
@@ -74,3 +74,7 @@ parent_is_accepted_once log later more client parent segment id again drawn want
       ap (told later client) refused,
       own_account_is_answered later (Add client parent again) drawn ∙ (λ i. record { chain = same i; stored = (account_of client later).stored }),
     )
+
+pub crash_leaves_account : CrashLeavesAccount
+crash_leaves_account log request id file (inl old) = record { held = log; holds = old; account = inl refl }
+crash_leaves_account log request id file (inr answered) = record { held = log_after log request id; holds = answered; account = inr (own_account_is_answered log request id) }

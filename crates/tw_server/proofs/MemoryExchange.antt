@@ -1,9 +1,8 @@
 -- What an exchange over a link in memory does to its chain.
-use Rattle.std.proofs.Common.{◌≡◌, ◌∙◌, inl, inr, ℕ, ◌+◌, ◌/◌, ◌%◌, ◌<◌, ◌≤◌, ◌&&◌, Bool, true, false, cond, if◌then◌else◌, Option, Some, None, IfSome, Result, Ok, Err, OnOk, OnErr, is_err, List, [], ◌∷◌, ◌++◌, length, take, drop, map, refl, sym, ap, subst, arith}
+use Rattle.std.proofs.Common.{◌≡◌, ◌∙◌, inl, inr, ℕ, ◌+◌, ◌/◌, ◌%◌, ◌<◌, ◌≤◌, ◌&&◌, Bool, true, false, cond, if◌then◌else◌, Option, Some, None, IfSome, Result, Ok, Err, OnOk, List, [], ◌∷◌, ◌++◌, length, take, drop, map, refl, sym, ap, subst, arith}
 use Rattle.std.specs.Prelude.{slice_index, bit_and, bit_or}
 use Rattle.std.specs.Result.{IfErr}
 use Rattle.std.specs.Int.{to_be_bytes, w128}
-use Rattle.std.proofs.lemmas.Bool.{true≢false}
 use Rattle.std.proofs.lemmas.Cmp.{nat_list_eq_equiv}
 use Rattle.std.proofs.lemmas.Grind.{and_numeral, or_numeral}
 use Rattle.std.proofs.lemmas.List.{append-nil, append_assoc, drop_at}
@@ -296,11 +295,3 @@ module _ (old new : MemoryLink) (same : new.client ≡ old.client) (request repl
       → IfErr r (λ e. P e × MayAct (before_request old) (holding_of new.server) request) → IsAnswered memory_link_model old new request reply r
   delivered (Ok u) P acts text may = heard acts text
   delivered (Err e) P acts text may = may_have_acted e may.1
-
-pub on_err_there : {A E : Type 0} (r : Result A E) (P : Type 0) → is_err r ≡ true → OnErr r P → P
-on_err_there (Ok x) P e p = absurd (true≢false (sym e))
-on_err_there (Err x) P e p = p
-
-pub on_ok_there : {A E : Type 0} (r : Result A E) (P : Type 0) → is_err r ≡ false → OnOk r P → P
-on_ok_there (Ok x) P e p = p
-on_ok_there (Err x) P e p = absurd (true≢false e)

@@ -18,9 +18,10 @@ use Rattle.tw_http.specs.Messages.{max_body, request_body}
 use Rattle.tw_http.specs.Serving.{client_of, demand_of, says, response_of, account_after}
 use Rattle.tw_records.specs.Log.{Accepted, ClientSnapshot, Log, accepted_for, chain_of, stored_from, account_of}
 use Rattle.tw_records.specs.Demands.{added, stored}
-use Rattle.tw_records.specs.Reading.{Reading, nothing_read, read_from, StandFor}
+use Rattle.tw_records.specs.Reading.{nothing_read, read_from}
 use Rattle.tw_server.specs.Log.{log_after, response_at}
-use Rattle.tw_server.specs.Server.{magic, drawn_id, IsServerOn, IsOpenedOn}
+use Rattle.tw_server.specs.Opening.{IsOpenedOn}
+use Rattle.tw_server.specs.Server.{magic, drawn_id, IsServerOn}
 use Rattle.tw_server.specs.declared.server.Server.{Server}
 use Rattle.tw_server.specs.declared.memory.server.MemoryVersion.{MemoryVersion}
 use Rattle.tw_server.specs.declared.memory.server.MemorySnapshot.{MemorySnapshot}
@@ -175,15 +176,8 @@ pub was_open : {A E : Type 0} (b : Bool) (r : Result A E) (x : A) (e : E) → r 
 was_open true r x e is refused = let no : Ok x ≡ Err e = sym is ∙ refused refl in absurd (let odd : ⊥ = cc in odd)
 was_open false r x e is refused = refl
 
-abbrev read_log : Option Reading → Log
-read_log None = record { versions = []; snapshots = [] }
-read_log (Some r) = r.log
-
-nil_log : (bodies : List (List ℕ)) (log : Log) → bodies ≡ [] → StandFor bodies log → log ≡ record { versions = []; snapshots = [] }
-nil_log bodies log none stands = sym (ap read_log (ap (read_from nothing_read) (sym none) ∙ stands.1))
-
 -- a server that was opened on a disk with no bytes has no versions and no snapshots
 pub opened_empty : (before after : MemoryDisk) (server : Server) → memory_model.seen before ≡ [] → IsOpenedOn memory_model before after server → IsServerOn memory_model server after (record { versions = []; snapshots = [] })
 opened_empty before after server none o =
-    let none_there = one_records magic (memory_model.seen before) o.holds.0 [] o.holds.1 (inr (refl, subst IsTail (sym none) tt)) in
-    subst (λ log. IsServerOn memory_model server after log) (nil_log o.holds.0 o.log none_there o.holds.2) o.now
+    let nothing : o.bodies ≡ [] = one_records magic (memory_model.seen before) o.bodies [] o.records (inr (refl, subst IsTail (sym none) tt)) in
+    o.now (record { versions = []; snapshots = [] }) (0, ap (read_from nothing_read) nothing)

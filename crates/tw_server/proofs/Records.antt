@@ -1,13 +1,12 @@
 -- The bodies of the log's records, the child of a parent, and the stored snapshot.
-use Rattle.std.proofs.Common.{◌≡◌, ◌∙◌, ℕ, ◌<◌, ◌≤◌, true, cond, Option, Some, None, option_map, IfSome, List, [], length, get_or, drop, map, refl, sym, ap, arith}
-use Rattle.std.specs.Prelude.{Contains}
+use Rattle.std.proofs.Common.{◌≡◌, ◌∙◌, ℕ, ◌<◌, true, cond, Option, Some, None, option_map, List, [], ◌++◌, length, get_or, drop, map, refl, sym, ap, arith}
 use Rattle.std.specs.List.{position, slice_get}
 use Rattle.std.proofs.lemmas.Option.{slice_get_read}
 use Rattle.std.proofs.lemmas.Bool.{and_parts}
-use Rattle.std.proofs.lemmas.List.{get_or-map, length-map}
+use Rattle.std.proofs.lemmas.List.{get_or-map, length-map, drop_at}
 use Rattle.std.proofs.lemmas.List.Quantifiers.{position-Some}
 use Rattle.uuid.specs.Parts.{zero_bytes}
-use Rattle.tw_protocol.specs.Chain.{same_id, has_id, latest}
+use Rattle.tw_protocol.specs.Chain.{same_id, latest}
 use Rattle.tw_protocol.specs.Answer.{Finding}
 use Rattle.tw_protocol.specs.Answer.Finding.{UpToDate, Gone}
 use Rattle.tw_protocol.specs.Snapshots.{Snapshot as Stored_snapshot, is_wanted, offered}
@@ -17,8 +16,9 @@ use Rattle.tw_http.specs.declared.message.Response.TheVariants as answer
 use Rattle.tw_http.specs.declared.message.Request.TheVariants.{Child, Snapshot}
 use Rattle.tw_http.specs.Serving.{says, response_of, account_after}
 use Rattle.tw_records.specs.declared.entry.Entry.{Entry}
-use Rattle.tw_records.specs.Log.{Accepted, Log, chain_of, account_of, HasUuids, IsSound}
-use Rattle.tw_records.specs.Bodies.{body_of, entry_of, snapshot_body}
+use Rattle.tw_records.specs.declared.image.Image.{Image}
+use Rattle.tw_records.specs.Log.{Accepted, Log, chain_of, account_of, IsSound}
+use Rattle.tw_records.specs.Bodies.{body_of, entry_of, version_front, snapshot_body, snapshot_front}
 use Rattle.tw_records.specs.Table.{body_at}
 use Rattle.tw_server.specs.declared.images.Placed.{Placed}
 use Rattle.tw_server.specs.declared.server.Server.{Server}
@@ -26,8 +26,12 @@ use Rattle.tw_server.specs.declared.versions.Versions.{Versions}
 use Rattle.tw_server.specs.Log.{IsSegmentOf, response_at}
 use Rattle.tw_server.specs.Server.{HasPlaces, snapshot_of}
 use Rattle.tw_server.specs.Versions.{is_child, image_at}
-use Rattle.tw_server.proofs.Logs.{body_long, segment_behind, bytes_long, bytes_behind, child_at, child_none, position_none}
-use Rattle.tw_server.proofs.Knowing.{known_long, client_long}
+use Rattle.tw_records.proofs.Spelled.{version_split, snapshot_split}
+use Rattle.tw_server.proofs.Logs.{child_at, child_none, position_none}
+
+-- what comes after one front is the same
+same_rest : (front xs ys : List ℕ) → front ++ xs ≡ front ++ ys → xs ≡ ys
+same_rest front xs ys e = sym (drop_at front xs (length front) refl) ∙ ap (drop (length front)) e ∙ drop_at front ys (length front) refl
 
 -- ---- the record of a version
 
@@ -48,59 +52,59 @@ module _ (server : Server) (bodies : List (List ℕ)) (log : Log) (places : HasP
       ∙ ap (λ xs. get_or xs place []) places.numbers
       ∙ get_or-map body_of log.versions place d [] within
 
-  uuids : (d : Accepted) → HasUuids (get_or log.versions place d)
-  uuids d = places.sound.uuids place d within
+  -- it begins with what the server knows of it
+  pub version_begins : (e : Entry) → get_or server.versions.entries.items place e ≡ e → (d : Accepted) → body_at bodies number ≡ version_front e ++ (get_or log.versions place d).version.segment
+  version_begins e here d =
+      let a = get_or log.versions place d in
+      let is : e ≡ entry_of a = sym here ∙ ap (λ es. get_or es place e) places.knows.entries ∙ get_or-map entry_of log.versions place d e within in
+      version_body d ∙ version_split a ∙ ap (λ x. version_front x ++ a.version.segment) (sym is)
 
-  pub version_long : 49 ≤ length (body_at bodies number)
-  version_long =
+  pub segment_at : (e : Entry) → get_or server.versions.entries.items place e ≡ e → (segment : List ℕ) → body_at bodies number ≡ version_front e ++ segment → IsSegmentOf log.versions place segment
+  segment_at e here segment is d = same_rest (version_front e) segment (get_or log.versions place d).version.segment (sym is ∙ version_begins e here d)
+
+  pub version_known : (e : Entry) → get_or server.versions.entries.items place e ≡ e → (front : List ℕ) → front ≡ version_front e → (rest : List ℕ) × (body_at bodies number ≡ front ++ rest)
+  version_known e here front is =
       let d : Accepted = record { client = []; version = record { id = []; parent = []; segment = [] } } in
-      let a = get_or log.versions place d in
-      let u = uuids d in
-      let long = body_long a.client a.version.id a.version.parent a.version.segment u.client u.id.long u.parent.long in
-      let same = ap length (version_body d) in
-      omega (arith, long, same)
-
-  pub segment_at : (segment : List ℕ) → segment ≡ drop 49 (body_at bodies number) → IsSegmentOf log.versions place segment
-  segment_at segment is d =
-      let a = get_or log.versions place d in
-      let u = uuids d in
-      is ∙ ap (drop 49) (version_body d) ∙ segment_behind a.client a.version.id a.version.parent a.version.segment u.client u.id.long u.parent.long
+      let segment = (get_or log.versions place d).version.segment in
+      (segment, version_begins e here d ∙ ap (λ f. f ++ segment) (sym is))
 
 -- ---- the record of a stored snapshot
 
 module _ (server : Server) (bodies : List (List ℕ)) (log : Log) (places : HasPlaces server bodies log) (client : List ℕ) (p : Placed) (stored : image_at server.images client ≡ Some p) where
-  fits_by : (o : Option Stored_snapshot) → IfSome o (λ s. has_id s.version (chain_of client log.versions) ≡ true) → IfSome o (λ s. (length client ≡ 16) × (length s.version ≡ 16))
-  fits_by None h = h
-  fits_by (Some s) h = (client_long client s.version log.versions places.sound.uuids h, known_long s.version (chain_of client log.versions) (places.accounts client).chain.uuids h)
-
   body_is : Some (body_at bodies p.number) ≡ option_map (λ s. snapshot_body (snapshot_of client s)) (account_of client log).stored
   body_is = ap (option_map (λ (q : Placed). body_at bodies q.number)) (sym stored) ∙ places.images client
 
   version_is : Some p.version ≡ option_map (λ (s : Stored_snapshot). s.version) (account_of client log).stored
   version_is = ap (option_map (λ (q : Placed). q.version)) (sym stored) ∙ places.knows.images client
 
-  long_by : (o : Option Stored_snapshot) (body : List ℕ) → Some body ≡ option_map (λ s. snapshot_body (snapshot_of client s)) o → IfSome o (λ s. (length client ≡ 16) × (length s.version ≡ 16)) → 33 ≤ length body
-  long_by None body e h = absurd (let no : ⊥ = cc in no)
-  long_by (Some s) body e h =
-      let same : body ≡ snapshot_body (snapshot_of client s) = cc in
-      let long = bytes_long client s.version s.bytes h.0 h.1 in
-      let equal = ap length same in
-      omega (arith, long, equal)
+  abbrev image : Image
+  image = record { client = client; version = p.version }
 
-  pub image_long : 33 ≤ length (body_at bodies p.number)
-  image_long = long_by (account_of client log).stored (body_at bodies p.number) body_is (fits_by (account_of client log).stored (places.accounts client).stored)
-
-  fetched_by : (o : Option Stored_snapshot) (version body bytes : List ℕ) → Some version ≡ option_map (λ (s : Stored_snapshot). s.version) o → Some body ≡ option_map (λ s. snapshot_body (snapshot_of client s)) o
-      → IfSome o (λ s. (length client ≡ 16) × (length s.version ≡ 16)) → bytes ≡ drop 33 body → answer.Snapshot version bytes ≡ response_of (offered o)
-  fetched_by None version body bytes v b h is = absurd (let no : ⊥ = cc in no)
-  fetched_by (Some s) version body bytes v b h is =
-      let same : version ≡ s.version = cc in
+  begins_by : (o : Option Stored_snapshot) (body : List ℕ) → Some p.version ≡ option_map (λ (s : Stored_snapshot). s.version) o → Some body ≡ option_map (λ s. snapshot_body (snapshot_of client s)) o
+      → (rest : List ℕ) × (body ≡ snapshot_front image ++ rest)
+  begins_by None body v b = absurd (let no : ⊥ = cc in no)
+  begins_by (Some s) body v b =
+      let same : p.version ≡ s.version = cc in
       let equal : body ≡ snapshot_body (snapshot_of client s) = cc in
-      λ i. answer.Snapshot (same i) ((is ∙ ap (drop 33) equal ∙ bytes_behind client s.version s.bytes h.0 h.1) i)
+      (s.bytes, equal ∙ snapshot_split (snapshot_of client s) ∙ ap (λ x. snapshot_front (record { client = client; version = x }) ++ s.bytes) (sym same))
 
-  pub fetched_response : (bytes id : List ℕ) → bytes ≡ drop 33 (body_at bodies p.number) → answer.Snapshot p.version bytes ≡ response_at log (Snapshot client) id
-  fetched_response bytes id is =
-      fetched_by (account_of client log).stored p.version (body_at bodies p.number) bytes version_is body_is (fits_by (account_of client log).stored (places.accounts client).stored) is
+  -- it begins with what the server knows of it
+  pub image_known : (front : List ℕ) → front ≡ snapshot_front image → (rest : List ℕ) × (body_at bodies p.number ≡ front ++ rest)
+  image_known front is =
+      let begins = begins_by (account_of client log).stored (body_at bodies p.number) version_is body_is in
+      (begins.0, begins.1 ∙ ap (λ f. f ++ begins.0) (sym is))
+
+  fetched_by : (o : Option Stored_snapshot) (body bytes : List ℕ) → Some p.version ≡ option_map (λ (s : Stored_snapshot). s.version) o → Some body ≡ option_map (λ s. snapshot_body (snapshot_of client s)) o
+      → body ≡ snapshot_front image ++ bytes → answer.Snapshot p.version bytes ≡ response_of (offered o)
+  fetched_by None body bytes v b is = absurd (let no : ⊥ = cc in no)
+  fetched_by (Some s) body bytes v b is =
+      let same : p.version ≡ s.version = cc in
+      let equal : body ≡ snapshot_body (snapshot_of client s) = cc in
+      let rest : bytes ≡ s.bytes = same_rest (snapshot_front image) bytes s.bytes (sym is ∙ equal ∙ snapshot_split (snapshot_of client s) ∙ ap (λ x. snapshot_front (record { client = client; version = x }) ++ s.bytes) (sym same)) in
+      λ i. answer.Snapshot (same i) (rest i)
+
+  pub fetched_response : (bytes id : List ℕ) → body_at bodies p.number ≡ snapshot_front image ++ bytes → answer.Snapshot p.version bytes ≡ response_at log (Snapshot client) id
+  fetched_response bytes id is = fetched_by (account_of client log).stored (body_at bodies p.number) bytes version_is body_is is
 
 absent_by : (o : Option Stored_snapshot) → None ≡ option_map (λ (s : Stored_snapshot). s.version) o → answer.UpToDate ≡ response_of (offered o)
 absent_by None e = refl
@@ -154,8 +158,10 @@ child_inside versions client parent n place =
     let same = versions.paired in
     omega (arith, at, same)
 
-pub number_there : (numbers : List ℕ) (place number : ℕ) → place < length numbers → number ≡ get_or numbers place number → slice_get numbers place ≡ Some number
-number_there numbers place number inside at = slice_get_read numbers (length numbers) place number refl inside at
+pub child_listed : (versions : Versions) (client parent : List ℕ) (n : ℕ) → position (is_child client parent) versions.entries.items ≡ Some n → n < length versions.entries.items
+child_listed versions client parent n place =
+    let d : Entry = record { client = []; id = []; parent = [] } in
+    (position-Some (is_child client parent) versions.entries.items n d place).0
 
-pub number_listed : (numbers : List ℕ) (place number : ℕ) → place < length numbers → number ≡ get_or numbers place number → Contains numbers number
-number_listed numbers place number inside at = (place, inside, sym at)
+pub there : {X : Type 0} (items : List X) (place : ℕ) (item : X) → place < length items → item ≡ get_or items place item → slice_get items place ≡ Some item
+there items place item inside at = slice_get_read items (length items) place item refl inside at

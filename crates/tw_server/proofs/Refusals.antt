@@ -1,13 +1,18 @@
 -- Why a request is not answered if the journal refuses.
-use Rattle.std.proofs.Common.{◌≡◌, ◌∙◌, ◌⊎◌, inl, inr, ℕ, ◌<◌, ◌≤◌, Bool, ◌&&◌, nat_le, List, length, drop, ap, true, false, Result, Ok, Err, refl, sym, subst, arith}
+use Rattle.std.proofs.Common.{◌≡◌, ◌∙◌, inl, inr, ℕ, ◌+◌, Bool, List, ◌++◌, length, take, drop, ap, true, false, Result, Ok, Err, refl, sym, subst, arith}
 use Rattle.std.specs.Result.{IsErrAnd, IfErr, IfOk}
 use Rattle.std.proofs.lemmas.Bool.{true≢false}
-use Rattle.tw_world.specs.Disk.{DiskModel, Untouched}
+use Rattle.tw_world.specs.Disk.{DiskModel, Tells, Untouched}
 use Rattle.tw_journal.proofs.Offsets.{still_open}
-use Rattle.tw_journal.specs.Journal.{AppendRefused, ReadRefused, PartRefused, IsOnWay, HasNoPart, IsNoRecordAt, IsNoPartAt, IsSameBesideRoom, is_closed as is_journal_closed}
+use Rattle.tw_journal.proofs.Unique.{one_place}
+use Rattle.tw_journal.specs.Journal.{AppendRefused, ReadRefused, OnBody, HasBody, HasOffset, IsNoRecordAt, IsSameBesideRoom, is_closed as is_journal_closed}
 use Rattle.tw_journal.specs.Reading.{StopsAt}
-use Rattle.std.proofs.lemmas.Bool.Decides.{nat_tests}
-use Rattle.std.proofs.lemmas.List.{length-take}
+use Rattle.std.specs.Prelude.{nat_eq}
+use Rattle.std.specs.List.{starts_with}
+use Rattle.std.proofs.lemmas.Cmp.{nat_list_eq_equiv}
+use Rattle.std.proofs.lemmas.List.{take-append-drop, take_at}
+use Rattle.tw_protocol.specs.Chain.{same_id}
+use Rattle.tw_protocol.proofs.Chains.{same_id_exact}
 use Rattle.tw_journal.specs.declared.journal.Journal.{Journal}
 use Rattle.tw_journal.specs.declared.error.AppendError.{AppendError}
 use Rattle.tw_journal.specs.declared.error.AppendError.TheVariants as appends
@@ -17,8 +22,7 @@ use Rattle.tw_journal.specs.declared.error.ReadError.{ReadError}
 use Rattle.tw_journal.specs.declared.error.ReadError.TheVariants as reads
 use Rattle.tw_server.specs.declared.server.Server.{Server}
 use Rattle.tw_server.specs.Faults.{read_in_answer, append_in_answer}
-use Rattle.tw_records.specs.Bodies.{is_kind, is_body}
-use Rattle.tw_server.specs.Server.{magic, AnswerRefused, IsNoVersionAt, HasNumber, IsLongBody, sized_body, is_closed}
+use Rattle.tw_server.specs.Server.{magic, AnswerRefused, HasFront, IsKnownFront, IsDamage, is_closed}
 
 -- a server that is open after a refusal was open before
 pub was_open_before : {D X : Type 0} (m : DiskModel D) (old new : Server) (before after : D) (r : Result X AnswerError) → (is_closed old ≡ true → r ≡ Err answer.Closed) → IfErr r (AnswerRefused m old new before after) → is_closed new ≡ false → is_closed old ≡ false
@@ -32,57 +36,52 @@ was_open_before m old new before after r closed refused open_now = by (is_closed
 
 -- ---- damage
 
-short_is_none : (body : List ℕ) → length body < 49 → is_body body ≡ false
-short_is_none body few =
-    let no : nat_le 49 (length body) ≡ false = grind (arith, nat_tests) in
-    ap (λ (t : Bool). is_kind 1 body && t) no ∙ and_false (is_kind 1 body)
-  where
-    and_false : (t : Bool) → t && false ≡ false
-    and_false true = refl
-    and_false false = refl
-
-no_version : (journal : Journal) (file : List ℕ) (n from offset : ℕ) → from ≤ 49 → StopsAt journal.start journal.offsets.items n file offset ⊎ HasNoPart journal file n from 0 offset → IsNoVersionAt file offset
-no_version journal file n from offset least (inl stops) = inl stops.none
-no_version journal file n from offset least (inr (size, stands, few)) = inr (size, stands.here, short_is_none (sized_body file offset size) (let long = length-take size (drop 5 (drop offset file)) in omega (arith, few, long, least)))
-
-on_way : (journal : Journal) (file : List ℕ) (n from offset : ℕ) → StopsAt journal.start journal.offsets.items n file offset ⊎ HasNoPart journal file n from 0 offset → IsOnWay journal file n offset
-on_way journal file n from offset (inl stops) = (stops.number, stops.way)
-on_way journal file n from offset (inr (size, stands, few)) = (n, stands.way)
-
 -- a read leaves the journal
 same_journal : (journal : Journal) → IsSameBesideRoom journal journal
 same_journal journal = record { selector = refl; version = refl; start = refl; offsets = refl; firsts = refl; end = refl; count = refl; closed = refl }
 
-pub read_refused : {D : Type 0} (m : DiskModel D) (server : Server) (old new : D) (n : ℕ) (e : ReadError) → is_closed server ≡ false → HasNumber server n → ReadRefused m old new server.journal e → IsNoRecordAt m old server.journal n e
-    → AnswerRefused m server server old new (read_in_answer e)
-read_refused m server old new n reads.Disk open_now known refused none = (refused, open_now)
-read_refused m server old new n reads.Closed open_now known refused none = absurd (true≢false (sym refused ∙ open_now))
-read_refused m server old new n (reads.Damaged offset) open_now known refused none = (
+-- the journal does not read a record, after a read that changed nothing
+pub read_refused : {D : Type 0} (m : DiskModel D) (server : Server) (old mid new : D) (n : ℕ) (front : List ℕ) (e : ReadError) → is_closed server ≡ false → HasFront server n front → Untouched m old mid → ReadRefused m mid new server.journal e
+    → IsNoRecordAt m mid server.journal n e → AnswerRefused m server server old new (read_in_answer e)
+read_refused m server old mid new n front reads.Disk open_now known same refused none = (let first = same.kept.faults in let then = refused in omega (arith, first, then), open_now)
+read_refused m server old mid new n front reads.Closed open_now known same refused none = absurd (true≢false (sym refused ∙ open_now))
+read_refused m server old mid new n front (reads.Damaged offset) open_now known same refused none = (
   refl,
   record {
-    at = λ tells. inl (none tells).none;
-    way = λ tells. (n, known, ((none tells).number, (none tells).way));
-    never = λ tells log on. refused tells magic on.bodies on.journal;
+    lost = λ tells.
+        let stops = subst (λ file. StopsAt server.journal.start server.journal.offsets.items n file offset) (same.seen tells) (none (same.kept.tells ∙ tells)) in
+        record { number = n; front = front; known = known; lost = inl stops };
+    never = λ tells log on. refused (same.kept.tells ∙ tells) magic on.bodies (still_open m magic server.journal old mid on.bodies same on.journal);
   },
 )
-read_refused m server old new n reads.Memory open_now known refused none = same_journal server.journal
+read_refused m server old mid new n front reads.Memory open_now known same refused none = same_journal server.journal
 
--- after a read, what a body has before its segment or its bytes is not in the record
-pub short_refused : {D : Type 0} (m : DiskModel D) (server : Server) (old mid new : D) (n from : ℕ) (e : ReadError) → from ≤ 49 → is_closed server ≡ false → HasNumber server n → IsLongBody m server old n from → Untouched m old mid
-    → PartRefused m mid new server.journal n from 0 e → IsNoPartAt m mid server.journal n from 0 e → AnswerRefused m server server old new (read_in_answer e)
-short_refused m server old mid new n from reads.Disk least open_now known long same refused none = (let first = same.kept.faults in let then = refused in omega (arith, first, then), open_now)
-short_refused m server old mid new n from reads.Closed least open_now known long same refused none = absurd (true≢false (sym refused ∙ open_now))
-short_refused m server old mid new n from (reads.Damaged offset) least open_now known long same refused none = (
-  refl,
-  record {
-    at = λ tells. subst (λ file. IsNoVersionAt file offset) (same.seen tells) (no_version server.journal (m.seen mid) n from offset least (none (same.kept.tells ∙ tells)));
-    way = λ tells. (n, known, subst (λ file. IsOnWay server.journal file n offset) (same.seen tells) (on_way server.journal (m.seen mid) n from offset (none (same.kept.tells ∙ tells))));
-    never = λ tells log on.
-        refused (same.kept.tells ∙ tells) magic on.bodies (still_open m magic server.journal old mid on.bodies same on.journal)
-        (let enough = long log on in omega (arith, enough));
-  },
-)
-short_refused m server old mid new n from reads.Memory least open_now known long same refused none = same_journal server.journal
+-- a body that begins so is this front, and what comes after it
+pub front_and_rest : (body front : List ℕ) → starts_with nat_eq body front ≡ true → body ≡ front ++ drop (length front) body
+front_and_rest body front e = sym (take-append-drop (length front) body) ∙ ap (λ l. l ++ drop (length front) body) (sym (same_id_exact front (take (length front) body) e))
+
+begins : (body front : List ℕ) → take (length front) body ≡ front → starts_with nat_eq body front ≡ true
+begins body front e = ap (same_id front) e ∙ nat_list_eq_equiv.refl front
+
+-- the record with this number is another one
+pub other_record : {D : Type 0} (m : DiskModel D) (server : Server) (old mid : D) (n : ℕ) (front body : List ℕ) (offset : ℕ) → IsKnownFront m server old n front → starts_with nat_eq body front ≡ false
+    → (Tells m old → HasBody server.journal (m.seen old) n body) → OnBody m server.journal old n (λ stored. body ≡ stored) → Untouched m old mid → (Tells m mid → HasOffset server.journal (m.seen mid) n offset) → IsDamage m server old offset
+other_record m server old mid n front body offset known other has is same way = record {
+  lost = λ tells.
+      let there = has tells in
+      let at = subst (λ file. HasOffset server.journal file n offset) (same.seen tells) (way (same.kept.tells ∙ tells)) in
+      let one = one_place server.journal.start server.journal.offsets.items n (m.seen old) there.at (length body) offset at.0 there.stands at.1 in
+      let bytes : body ≡ take at.0 (drop (offset + 5) (m.seen old)) = there.is ∙ (λ i. take (one.1 i) (drop (one.0 i + 5) (m.seen old))) in
+      record {
+        number = n;
+        front = front;
+        known = known.0;
+        lost = inr (record { size = at.0; stands = at.1; differs = λ e. true≢false (sym (begins body front (ap (take (length front)) bytes ∙ e)) ∙ other) });
+      };
+  never = λ tells log on.
+      let rest = known.1 log on in
+      true≢false (sym (begins body front (ap (take (length front)) (is magic on.bodies on.journal ∙ rest.1) ∙ take_at front rest.0 (length front) refl)) ∙ other);
+}
 
 -- a fault that became this error
 pub from_fault : {X E : Type 0} (P : E → Type 0) (r : Result X E) (e : E) → IsErrAnd r (λ s. s ≡ e) → P e → IfErr r P

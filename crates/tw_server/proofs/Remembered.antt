@@ -1,13 +1,10 @@
 -- An answer by what a server knows.
-use Rattle.std.proofs.Common.{◌≡◌, ◌∙◌, ℕ, zero, suc, ◌+◌, ◌-◌, ◌%◌, ◌^◌, ◌<◌, ◌≤◌, Bool, true, false, not, cond, Option, Some, None, option_map, List, [], ◌∷◌, ◌++◌, length, get_or, take, drop, refl, sym, ap, subst, arith}
+use Rattle.std.proofs.Common.{◌≡◌, ◌∙◌, ℕ, zero, suc, ◌+◌, ◌%◌, ◌^◌, ◌<◌, Bool, true, false, not, cond, Option, Some, None, option_map, List, [], ◌∷◌, ◌++◌, length, get_or, refl, sym, ap, subst, arith}
 use Rattle.std.specs.List.{position}
 use Rattle.std.specs.Ordering.{is_eq}
-use Rattle.std.proofs.lemmas.List.{length-map, length-drop, take_rest}
+use Rattle.std.proofs.lemmas.List.{length-map}
 use Rattle.std.proofs.lemmas.List.Quantifiers.{position-Some}
-use Rattle.tw_world.specs.Disk.{DiskModel, Tells, Untouched}
 use Rattle.tw_world.specs.declared.ids.IdWords.{IdWords}
-use Rattle.tw_journal.proofs.Unique.{one_place}
-use Rattle.tw_journal.specs.Journal.{HasBody, HasPart}
 use Rattle.tw_protocol.specs.Chain.{same_id, latest, has_id}
 use Rattle.tw_protocol.specs.Answer.{accepts, version}
 use Rattle.tw_protocol.specs.Answer.Finding.{Conflict, Taken, UpToDate, Gone}
@@ -24,8 +21,9 @@ use Rattle.tw_server.specs.declared.server.Server.{Server}
 use Rattle.tw_server.specs.Log.{IsSegmentOf, log_after, response_at}
 use Rattle.tw_server.specs.Server.{Knows, drawn_id}
 use Rattle.tw_server.specs.Versions.{is_child, image_at, uuid_cmp}
-use Rattle.tw_server.specs.Remembered.{IsAnswerByMemory, IsRestIn, without_bytes}
-use Rattle.tw_server.proofs.Adds.{conflicts, answer_is, nothing_added, one_added, drawn_after, added_says, reads_only, told_store, not_stored, one_stored, snapshot}
+use Rattle.tw_server.specs.Remembered.{IsAnswerByMemory, without_bytes}
+use Rattle.tw_server.proofs.Adds.{conflicts, answer_is, nothing_added, one_added, drawn_after, added_says, reads_only}
+use Rattle.tw_server.proofs.AddSnapshots.{told_store, not_stored, one_stored, snapshot}
 use Rattle.tw_server.proofs.LogLaws.{told}
 use Rattle.tw_server.proofs.Knowing.{version_known, image_known}
 use Rattle.tw_server.proofs.Records.{found_response, none_response, says_of}
@@ -150,31 +148,3 @@ module _ (client : List ℕ) (server : Server) (log : Log) (ids : IdWords) where
 
   pub absent_known : Knows server log → image_at server.images client ≡ None → IsAnswerByMemory server log (Snapshot client) ids ids responses.UpToDate
   absent_known known none = fetch_known responses.UpToDate known (absent_by (account_of client log).stored (ap (option_map (λ (q : Placed). q.version)) (sym none) ∙ known.images client))
-
--- ---- the bytes
-
-pub rest_there : {D : Type 0} (m : DiskModel D) (server : Server) (disk : D) (n from : ℕ) (body bytes rest : List ℕ) → (Tells m disk → HasBody server.journal (m.seen disk) n body) → bytes ≡ body → from ≤ length bytes → rest ≡ take (length bytes - from) (drop from bytes)
-    → Tells m disk → IsRestIn server (m.seen disk) n from rest
-rest_there m server disk n from body bytes rest has same long is tells = record {
-  body = body;
-  stands = has tells;
-  long = omega (arith, long, ap length same);
-  is = is ∙ take_rest bytes from ∙ ap (drop from) same;
-}
-
--- what comes after the end of a body is nothing
-pub nothing_after : (body part : List ℕ) (from : ℕ) → length body < from → part ≡ take 0 (drop from body) → part ≡ drop from body
-nothing_after body part from short is = is ∙ nil (drop from body) (length-drop from body)
-  where
-    nil : (xs : List ℕ) → length xs ≡ length body - from → take 0 xs ≡ xs
-    nil [] long = refl
-    nil (x ∷ xs) long = absurd (omega (arith, long, short))
-
--- a body that is too short has no part there
-pub never_part : {D : Type 0} (m : DiskModel D) (server : Server) (old mid : D) (n from : ℕ) (body part : List ℕ) → Untouched m old mid → (Tells m old → HasBody server.journal (m.seen old) n body) → length body < from → (Tells m mid → HasPart server.journal (m.seen mid) n from part)
-    → Tells m old → ⊥
-never_part m server old mid n from body part same has few other tells =
-    let one = has tells in
-    let two = subst (λ file. HasPart server.journal file n from part) (same.seen tells) (other (same.kept.tells ∙ tells)) in
-    let size = (one_place server.journal.start server.journal.offsets.items n (m.seen old) one.at (length body) two.at two.size one.stands two.stands).1 in
-    omega (arith, few, size, two.inside)

@@ -4,6 +4,7 @@ pub mod Log
 pub mod Message
 pub mod Serve
 pub mod Server
+pub mod Reader
 pub mod Opening
 pub mod Versions
 pub mod Room

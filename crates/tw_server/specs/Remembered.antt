@@ -1,5 +1,5 @@
 -- What a server answers by what it knows, whatever its file holds.
-use Rattle.std.specs.Prelude.{◌≡◌, ℕ, ◌≤◌, List, [], length, drop, Some}
+use Rattle.std.specs.Prelude.{◌≡◌, ℕ, List, [], ◌++◌, Some}
 use Rattle.std.specs.List.{position, slice_get}
 use Rattle.tw_world.specs.Disk.{DiskModel, Tells}
 use Rattle.tw_world.specs.declared.ids.IdWords.{IdWords}
@@ -10,7 +10,9 @@ use Rattle.tw_http.specs.declared.message.Response.TheVariants as responses
 use Rattle.tw_http.specs.Serving.{client_of}
 use Rattle.tw_server.specs.declared.server.Server.{Server}
 use Rattle.tw_server.specs.declared.images.Placed.{Placed}
+use Rattle.tw_records.specs.declared.entry.Entry.{Entry}
 use Rattle.tw_records.specs.Log.{Log, IsSound}
+use Rattle.tw_records.specs.Bodies.{version_front, snapshot_front}
 use Rattle.tw_server.specs.Log.{log_after, response_at}
 use Rattle.tw_server.specs.Server.{Knows, drawn_id, IsDrawn, is_accepted}
 use Rattle.tw_server.specs.Versions.{is_child, image_at}
@@ -34,26 +36,21 @@ pub record IsAnswerByMemory (server : Server) (log : Log) (request : Request) (o
   pub drawn : IsDrawn (is_accepted log request) old new
   pub knows : Knows server (log_after log request (drawn_id old.start))
 
--- the bytes are what comes after so many of the body to which the way to the record with a number leads in a file
-pub record IsRestIn (server : Server) (file : List ℕ) (n from : ℕ) (bytes : List ℕ) : Type 0 where
-  pub body : List ℕ
-  pub stands : HasBody server.journal file n body
-  pub long : from ≤ length body
-  pub is : bytes ≡ drop from body
-
--- the segment is that of the record of the first version of the client that has this parent
+-- the segment is that of the first version of the client that has this parent: its record begins with what the server knows of it
 pub record IsChildsSegment (server : Server) (file client parent segment : List ℕ) : Type 0 where
   pub place : ℕ
   pub first : position (is_child client parent) server.versions.entries.items ≡ Some place
+  pub entry : Entry
+  pub row : slice_get server.versions.entries.items place ≡ Some entry
   pub number : ℕ
   pub at : slice_get server.versions.numbers.items place ≡ Some number
-  pub rest : IsRestIn server file number 49 segment
+  pub stands : HasBody server.journal file number (version_front entry ++ segment)
 
--- the snapshot is that of the record of the client's stored snapshot
+-- the snapshot is that of the client's stored snapshot: its record begins with what the server knows of it
 pub record IsStoredSnapshot (server : Server) (file client bytes : List ℕ) : Type 0 where
   pub placed : Placed
   pub stored : image_at server.images client ≡ Some placed
-  pub rest : IsRestIn server file placed.number 33 bytes
+  pub stands : HasBody server.journal file placed.number (snapshot_front (record { client = client; version = placed.version }) ++ bytes)
 
 -- the bytes of a response are of a record that is there
 abbrev pub CarriesBytes : {D : Type 0} → DiskModel D → Server → D → (client : List ℕ) → Response → Type 0

@@ -1,16 +1,14 @@
 -- A server on its disk, and why it refuses.
-use Rattle.std.specs.Prelude.{◌≡◌, ◌⊎◌, ℕ, ◌+◌, ◌%◌, ◌<◌, ◌≤◌, ◌^◌, Bool, true, false, List, [], codes, length, take, drop, map}
-use Rattle.std.specs.Prelude.{if◌then◌else◌, Option, Some, None, option_map, Contains, slice_index_or}
+use Rattle.std.specs.Prelude.{◌≡◌, ◌⊎◌, ℕ, ◌+◌, ◌%◌, ◌<◌, ◌^◌, Bool, true, false, List, ◌++◌, codes, length, take, drop, map}
+use Rattle.std.specs.Prelude.{if◌then◌else◌, Option, Some, option_map}
+use Rattle.std.specs.List.{slice_get}
 use Rattle.tw_world.specs.Disk.{DiskModel, Tells, LeavesOnly, Rose}
-use Rattle.tw_journal.specs.Journal.{IsOpenOn, IsOnWay, IsSameBesideRoom, is_closed as is_journal_closed, journal_end}
-use Rattle.tw_journal.specs.Form.{offset_in}
-use Rattle.tw_journal.specs.Reading.{IsNoRecord, IsSizeAt}
+use Rattle.tw_journal.specs.Journal.{IsOpenOn, HasRecordAt, IsSameBesideRoom, is_closed as is_journal_closed, journal_end}
+use Rattle.tw_journal.specs.Reading.{StopsAt}
 use Rattle.tw_journal.specs.Record.{IsLongerBy}
-use Rattle.tw_journal.specs.Open.{Records, IsDamagedAt}
+use Rattle.tw_journal.specs.Open.{Records}
 use Rattle.tw_server.specs.declared.server.Server.{Server}
 use Rattle.tw_server.specs.declared.images.Placed.{Placed}
-use Rattle.tw_server.specs.declared.error.ServerOpenError.{ServerOpenError}
-use Rattle.tw_server.specs.declared.error.ServerOpenError.TheVariants as opening
 use Rattle.tw_server.specs.declared.error.AnswerError.{AnswerError}
 use Rattle.tw_server.specs.declared.error.AnswerError.TheVariants as answer
 use Rattle.tw_protocol.specs.Answer.{accepts}
@@ -26,8 +24,9 @@ use Rattle.tw_http.specs.declared.message.Asked.{Asked}
 use Rattle.tw_http.specs.declared.message.Asked.TheVariants as kinds
 use Rattle.tw_http.specs.Responses.{answers}
 use Rattle.tw_records.specs.Log.{ClientSnapshot, Log, IsSound, chain_of, account_of}
-use Rattle.tw_records.specs.Bodies.{body_of, entry_of, is_body, snapshot_body}
-use Rattle.tw_records.specs.Reading.{Reading, nothing_read, read_body, read_from, StandFor}
+use Rattle.tw_records.specs.declared.entry.Entry.{Entry}
+use Rattle.tw_records.specs.Bodies.{body_of, entry_of, version_front, snapshot_body, snapshot_front}
+use Rattle.tw_records.specs.Reading.{StandFor}
 use Rattle.tw_records.specs.Table.{body_at}
 use Rattle.tw_server.specs.Log.{log_after, response_at}
 use Rattle.tw_server.specs.Versions.{image_at}
@@ -164,28 +163,50 @@ IsAnsweredUndrawn m old new before after request response = (ids : IdWords) → 
 
 -- ---- damage
 
--- the record of a version, or of a stored snapshot
-abbrev pub HasNumber : Server → ℕ → Type 0
-HasNumber server n =
-    Contains server.versions.numbers.items n
-    ⊎ ((client : List ℕ) × (p : Placed) × (image_at server.images client ≡ Some p) × (p.number ≡ n))
+-- the record with this number is that of a version that the server knows, and this is what it has before its segment
+pub record IsVersionFront (server : Server) (n : ℕ) (front : List ℕ) : Type 0 where
+  pub place : ℕ
+  pub entry : Entry
+  pub row : slice_get server.versions.entries.items place ≡ Some entry
+  pub number : slice_get server.versions.numbers.items place ≡ Some n
+  pub is : front ≡ version_front entry
 
--- whatever log the server has on the disk, the body of the record with this number has at least so many bytes
-abbrev pub IsLongBody : {D : Type 0} → DiskModel D → Server → D → (n bytes : ℕ) → Type 0
-IsLongBody m server disk n bytes = (log : Log) (on : IsServerOn m server disk log) → bytes ≤ length (body_at on.bodies n)
+-- it is that of a client's stored snapshot, and this is what it has before the bytes
+pub record IsSnapshotFront (server : Server) (n : ℕ) (front : List ℕ) : Type 0 where
+  pub client : List ℕ
+  pub placed : Placed
+  pub stored : image_at server.images client ≡ Some placed
+  pub number : placed.number ≡ n
+  pub is : front ≡ snapshot_front (record { client = client; version = placed.version })
 
--- the body, of so many bytes, of a record at this offset
-abbrev pub sized_body : (file : List ℕ) (offset size : ℕ) → List ℕ
-sized_body file offset size = take size (drop 5 (drop offset file))
+-- the server knows the record with this number, and that its body begins so
+abbrev pub HasFront : Server → ℕ → List ℕ → Type 0
+HasFront server n front = IsVersionFront server n front ⊎ IsSnapshotFront server n front
 
--- at this offset of a file there is no record, or one whose body is no version
-abbrev pub IsNoVersionAt : List ℕ → ℕ → Type 0
-IsNoVersionAt file offset = IsNoRecord (drop offset file) ⊎ ((size : ℕ) × IsSizeAt (drop offset file) size × (is_body (sized_body file offset size) ≡ false))
+-- whatever log the server has on the disk, the body of the record with this number begins so
+abbrev pub IsFrontOn : {D : Type 0} → DiskModel D → Server → D → (n : ℕ) → (front : List ℕ) → Type 0
+IsFrontOn m server disk n front = (log : Log) (on : IsServerOn m server disk log) → (rest : List ℕ) × (body_at on.bodies n ≡ front ++ rest)
 
--- damage was found at this offset of a disk, on the way to the record of a version or of a snapshot, so that the server has no log on it
+-- the server knows this of it, and that is so on the disk
+abbrev pub IsKnownFront : {D : Type 0} → DiskModel D → Server → D → (n : ℕ) → (front : List ℕ) → Type 0
+IsKnownFront m server disk n front = HasFront server n front × IsFrontOn m server disk n front
+
+-- the way to the record with this number leads at this offset to another record: its body does not begin so
+pub record IsOtherAt (server : Server) (file : List ℕ) (n : ℕ) (front : List ℕ) (offset : ℕ) : Type 0 where
+  pub size : ℕ
+  pub stands : HasRecordAt server.journal file n offset size
+  pub differs : take (length front) (take size (drop (offset + 5) file)) ≡ front → ⊥
+
+-- the way to a record that the server knows stops at this offset of a file, or leads there to another record
+pub record IsLostAt (server : Server) (file : List ℕ) (offset : ℕ) : Type 0 where
+  pub number : ℕ
+  pub front : List ℕ
+  pub known : HasFront server number front
+  pub lost : StopsAt server.journal.start server.journal.offsets.items number file offset ⊎ IsOtherAt server file number front offset
+
+-- damage was found at this offset of a disk, so that the server has no log on it
 pub record IsDamage {D : Type 0} (m : DiskModel D) (server : Server) (disk : D) (offset : ℕ) : Type 0 where
-  pub at : Tells m disk → IsNoVersionAt (m.seen disk) offset
-  pub way : Tells m disk → (n : ℕ) × HasNumber server n × IsOnWay server.journal (m.seen disk) n offset
+  pub lost : Tells m disk → IsLostAt server (m.seen disk) offset
   pub never : Tells m disk → (log : Log) → IsServerOn m server disk log → ⊥
 
 -- why a request is not answered
@@ -195,58 +216,3 @@ AnswerRefused m old new before after answer.Closed = (is_closed old ≡ true) ×
 AnswerRefused m old new before after (answer.Damaged offset) = (new ≡ old) × IsDamage m old before offset
 AnswerRefused m old new before after (answer.TooLong bytes) = (2 ^ 30 < bytes) × (after ≡ before) × IsSameBesideRoom old.journal new.journal
 AnswerRefused m old new before after answer.Memory = IsSameBesideRoom old.journal new.journal
-
--- ---- an opening
-
--- the server knows the log of the first so many bodies, and so many of its versions come after the last block
-pub record IsReadTo (server : Server) (bodies : List (List ℕ)) (n fresh : ℕ) : Type 0 where
-  pub log : Log
-  pub read : read_from nothing_read (take n bodies) ≡ Some (record { log = log; fresh = fresh })
-  pub places : HasPlaces server bodies log
-
--- whichever bodies its journal has on a disk, of which the server knows the first so many
-abbrev pub OnRead : {D : Type 0} → DiskModel D → Server → D → (n fresh : ℕ) → (List (List ℕ) → Type 0) → Type 0
-OnRead m server disk n fresh P = (bodies : List (List ℕ)) → IsOpenOn m magic server.journal disk bodies → IsReadTo server bodies n fresh → P bodies
-
--- the file had records that stand for a log, and the server is open on them
-pub record IsOpenedOn {D : Type 0} (m : DiskModel D) (before after : D) (server : Server) : Type 0 where
-  pub log : Log
-  pub holds : HoldsLog log (m.seen before)
-  pub now : IsServerOn m server after log
-
--- the bodies before this number stand for a log, and the body of this number may not follow them
-pub record IsBadAt (file : List ℕ) (bodies : List (List ℕ)) (n offset : ℕ) : Type 0 where
-  pub reading : Reading
-  pub read : read_from nothing_read (take n bodies) ≡ Some reading
-  pub inside : n < length bodies
-  pub bad : read_body reading (slice_index_or bodies n []) ≡ None
-  pub at : offset ≡ offset_in magic file bodies n
-
--- the file's records stand for no log, from this offset on
-pub record IsDamagedLog (file : List ℕ) (offset : ℕ) : Type 0 where
-  pub bodies : List (List ℕ)
-  pub records : Records magic file bodies
-  pub number : ℕ
-  pub bad : IsBadAt file bodies number offset
-
--- a file of another form, or one with bytes that are no record, or a record that may not follow, at this offset
-abbrev pub IsDamagedFile : List ℕ → ℕ → Type 0
-IsDamagedFile file offset = IsDamagedAt magic file offset ⊎ IsDamagedLog file offset
-
--- why a body is not taken
-abbrev pub TakeRefused : {D : Type 0} → DiskModel D → (before after : D) → ServerOpenError → Type 0
-TakeRefused m before after opening.Disk = Rose (m.faults before) (m.faults after)
-TakeRefused m before after (opening.Damaged offset) = Unit {0}
-TakeRefused m before after opening.Memory = Unit {0}
-
--- if a body is damaged, it may not follow
-abbrev pub IsBadBody : List ℕ → List (List ℕ) → ℕ → ServerOpenError → Type 0
-IsBadBody file bodies n opening.Disk = Unit {0}
-IsBadBody file bodies n (opening.Damaged offset) = IsBadAt file bodies n offset
-IsBadBody file bodies n opening.Memory = Unit {0}
-
--- why a server is not opened
-abbrev pub ServerOpenRefused : {D : Type 0} → DiskModel D → (before after : D) → ServerOpenError → Type 0
-ServerOpenRefused m before after opening.Disk = Rose (m.faults before) (m.faults after)
-ServerOpenRefused m before after (opening.Damaged offset) = Tells m before → IsDamagedFile (m.seen before) offset
-ServerOpenRefused m before after opening.Memory = Unit {0}

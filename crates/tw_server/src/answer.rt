@@ -1,8 +1,8 @@
 // The answer to a request.
-ghost use Rattle.std.specs.Prelude.{◌≡◌, ◌⊎◌, ◌<◌, ◌≤◌, ◌+◌, true, false, drop, length, List, ℕ, Err, IfOk, IfErr, IsSome, OnOk, OnErr};
+ghost use Rattle.std.specs.Prelude.{◌≡◌, ◌⊎◌, ◌<◌, ◌+◌, ◌++◌, true, false, length, List, ℕ, Err, IfOk, IfErr, IsSome, OnOk, OnErr};
 ghost use Rattle.std.specs.BTreeMap.{get};
 ghost use Rattle.tw_world.specs.Disk.{Tells, FaultsRise, Untouched};
-ghost use Rattle.tw_journal.specs.Journal.{IsSameBesideRoom, HasRoom as HasJournalRoom, OnBody, journal_count};
+ghost use Rattle.tw_journal.specs.Journal.{IsSameBesideRoom, HasRoom as HasJournalRoom, HasBody, OnBody, journal_count};
 ghost use Rattle.tw_http.specs.declared.message.Request.TheVariants as asks;
 ghost use Rattle.tw_http.specs.declared.message.Asked.TheVariants as kinds;
 ghost use Rattle.tw_http.specs.Serving.{kind_of};
@@ -11,8 +11,8 @@ ghost use Rattle.tw_records.specs.Log.{Log};
 ghost use Rattle.tw_server.specs.Log.{log_after};
 ghost use Rattle.tw_server.specs.Room.{HasRoom};
 ghost use Rattle.tw_server.specs.Server.{Knows, drawn_id, Replies, most_added, IsServerOn, OnLog, IsAnswered, is_closed, server_end};
-ghost use Rattle.tw_server.specs.Remembered.{IsRemembered, IsRememberedUndrawn, IsRestIn};
-ghost use Rattle.tw_server.specs.Server.{LeavesLog, GrowsLogBy, IsAnsweredUndrawn, RespondsAt, AnswerRefused, HasNumber, IsLongBody};
+ghost use Rattle.tw_server.specs.Remembered.{IsRemembered, IsRememberedUndrawn};
+ghost use Rattle.tw_server.specs.Server.{LeavesLog, GrowsLogBy, IsAnsweredUndrawn, RespondsAt, AnswerRefused, IsKnownFront};
 ghost use Rattle.tw_server.specs.Versions.{image_at, uuid_cmp};
 
 use crate::error::AnswerError;
@@ -20,7 +20,7 @@ use crate::images::Placed;
 use crate::server::Server;
 use std::alloc::Global;
 use tw_http::{Bytes, Request, Response};
-use tw_records::{BEFORE_BYTES, BEFORE_SEGMENT, Entry, Image, body_of, snapshot_body};
+use tw_records::{Entry, Image, body_of, snapshot_body};
 use tw_world::{Disk, IdWords};
 use uuid::Uuid;
 
@@ -154,7 +154,8 @@ impl Server {
         ensures answered { IfOk result (IsAnsweredUndrawn D.model self.old self.new disk.old disk.new (asks.AddSnapshot client version bytes.now)) }
         ensures remembered { IfOk result (IsRememberedUndrawn D.model self.old self.new disk.old (asks.AddSnapshot client version bytes.now)) }
         ensures kind { IfOk result (Replies kinds.AddSnapshot) }
-        ensures any_moment { (id : List ℕ) → LeavesLog D.model self.old disk.old disk.new (λ log. log_after log (asks.AddSnapshot client version bytes.now) id) }
+        ensures any_moment { (id : List ℕ)
+            → LeavesLog D.model self.old disk.old disk.new (λ log. log_after log (asks.AddSnapshot client version bytes.now) id) }
         ensures growth { GrowsLogBy D.model self.old disk.old disk.new (length bytes.now + 38) }
         ensures length { is_closed self.new ≡ false → D.model.len disk.new ≡ server_end self.new }
         ensures kept { FaultsRise D.model disk.old disk.new }
@@ -207,11 +208,12 @@ impl Server {
     {
         match self.versions.child(client, parent) {
             Some(n) => {
-                let id = self.versions.entries[n].id;
+                let entry = self.versions.entries[n];
                 let number = self.versions.numbers[n];
-                let segment = self.rest(alloc, disk, number, BEFORE_SEGMENT)?;
+                let front = body_of(alloc, &entry, &[])?;
+                let segment = self.rest(alloc, disk, number, front.as_slice())?;
                 Ok(Response::Child {
-                    id,
+                    id: entry.id,
                     parent,
                     segment,
                 })
@@ -244,42 +246,40 @@ impl Server {
     {
         match self.images.get(client) {
             Some(stored) => {
-                let bytes = self.rest(alloc, disk, stored.number, BEFORE_BYTES)?;
-                Ok(Response::Snapshot {
-                    version: stored.version,
-                    bytes,
-                })
+                let version = stored.version;
+                let front = snapshot_body(alloc, &Image { client, version }, &[])?;
+                let bytes = self.rest(alloc, disk, stored.number, front.as_slice())?;
+                Ok(Response::Snapshot { version, bytes })
             }
             None => Ok(Response::UpToDate),
         }
     }
 
-    // What comes after so many bytes of the body of the record with this number.
+    // What comes after this front of the body of the record with this number. If the body does not begin so, the record is
+    // another one, which is damage.
     fn rest<D: Disk>(
         &self,
         alloc: Global,
         disk: &mut D,
         n: u64,
-        from: usize,
+        front: &[u8],
     ) -> Result<Bytes, AnswerError>
         requires inside { n < journal_count self.now.journal }
         requires open { is_closed self.now ≡ false }
         requires length { D.model.len disk.old ≡ server_end self.now }
-        requires few { from ≤ 49 }
 
-        ensures rest { IfOk result (λ rest. OnBody D.model self.now.journal disk.old n (λ body. rest ≡ drop from body)) }
-        ensures there { IfOk result (λ rest. Tells D.model disk.old → IsRestIn self.now (D.model.seen disk.old) n from rest) }
+        ensures rest { IfOk result (λ rest. OnBody D.model self.now.journal disk.old n (λ body. body ≡ front.now ++ rest)) }
+        ensures there { IfOk result (λ rest. Tells D.model disk.old → HasBody self.now.journal (D.model.seen disk.old) n (front.now ++ rest)) }
         ensures untouched { Untouched D.model disk.old disk.new }
-        ensures refused { HasNumber self.now n → IsLongBody D.model self.now disk.old n from → IfErr result (AnswerRefused D.model self.now self.now disk.old disk.new) }
+        ensures refused { IsKnownFront D.model self.now disk.old n front.now → IfErr result (AnswerRefused D.model self.now self.now disk.old disk.new) }
     {
         let body = self.journal.body(alloc, disk, n)?;
         let bytes = body.as_slice();
-        if bytes.len() < from {
-            // The read of what such a body does not have reports the record's offset.
-            let none = self.journal.part(alloc, disk, n, from as u64, 0)?;
-            return Ok(Bytes::from_slice(alloc, none.as_slice())?);
+        if !bytes.starts_with(front) {
+            let offset = self.journal.offset(disk, n)?;
+            return Err(AnswerError::Damaged { offset });
         }
-        let rest = Bytes::from_slice(alloc, &bytes[from..])?;
+        let rest = Bytes::from_slice(alloc, &bytes[front.len()..])?;
         Ok(rest)
     }
 }

@@ -25,7 +25,7 @@ pub enum AnswerError {
     Disk,
     /// The disk failed in an append before: the server is to be opened again.
     Closed,
-    /// The bytes at this offset of the file are no record, or one whose body is too short for what is in it.
+    /// The bytes at this offset of the file are no record, or another one than the server knows there.
     Damaged { offset: u64 },
     /// The record would have so many bytes, more than 2^30. Nothing is written.
     TooLong { bytes: u64 },

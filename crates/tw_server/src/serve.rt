@@ -30,7 +30,7 @@ pub enum ServeEnd {
     DiskFault,
     /// A fault of the disk closed the server before, and the message is a request.
     Closed,
-    /// The bytes at this offset of the file are no record, or one whose body is too short for what is in it.
+    /// The bytes at this offset of the file are no record, or another one than the server knows there.
     Damaged { offset: u64 },
     /// There was no memory. A version or a snapshot may have been added.
     Memory,

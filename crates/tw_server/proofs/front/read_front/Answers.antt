@@ -4,7 +4,7 @@ use Rattle.tw_journal.specs.Journal.{PartRefused}
 use Rattle.tw_journal.specs.declared.error.ReadError.{ReadError}
 use Rattle.tw_server.proofs.Fronts.{short_front, front_refused}
 use Rattle.tw_server.proofs.Refusals.{if_ok_weaker}
-use Rattle.tw_server.proofs.Taken.{if_err_weaker}
+use Rattle.tw_server.proofs.Results.{if_err_weaker}
 use Rattle.tw_server.proofs.front.read_front.Goals as goal
 
 pub returns-in-Err-Damaged-clause-front : goal.returns-in-Err-Damaged-clause-front

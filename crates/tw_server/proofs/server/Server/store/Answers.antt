@@ -12,7 +12,7 @@ use Rattle.tw_server.proofs.Disks.{first_moment, no_growth, growth_is, room_on, 
 use Rattle.tw_server.proofs.Knowing.{kept_before}
 use Rattle.tw_server.proofs.Counts.{numbers_moved, placed_moved, placed_more, append_count}
 use Rattle.tw_server.proofs.Refusals.{append_closes, is_err}
-use Rattle.tw_server.proofs.Adds.{bad_answer, store_answer, stored_moments, snapshot}
+use Rattle.tw_server.proofs.AddSnapshots.{bad_answer, store_answer, stored_moments, snapshot}
 use Rattle.tw_server.proofs.MemoryReplies.{on_err}
 use Rattle.tw_server.proofs.Remembered.{bad_known, stored_known}
 use Rattle.tw_server.proofs.server.Server.store.Goals as goal

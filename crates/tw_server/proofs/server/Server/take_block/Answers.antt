@@ -1,28 +1,30 @@
-use Rattle.std.proofs.Common.{◌≡◌, ◌∙◌, true, false, sym, subst}
-use Rattle.tw_journal.proofs.Offsets.{still_open}
-use Rattle.tw_records.specs.Reading.{is_block}
+use Rattle.std.proofs.Common.{◌∙◌, true, false, sym}
+use Rattle.tw_records.specs.Bodies.{block_size}
+use Rattle.tw_records.specs.declared.walk.Source.TheVariants.{Block}
+use Rattle.tw_records.specs.Table.{taken}
 use Rattle.tw_server.specs.Faults.{read_in_opening}
-use Rattle.tw_server.specs.Opening.{IsNoBlock, IsDamageOf}
-use Rattle.tw_server.specs.Server.{magic, OnRead}
-use Rattle.tw_server.specs.declared.error.ServerOpenError.{ServerOpenError}
+use Rattle.tw_server.specs.Opening.{IfDamaged, IsDamageBy, OnTable}
+use Rattle.tw_server.specs.Server.{magic}
+use Rattle.tw_server.proofs.Openings.{damage_after}
 use Rattle.tw_server.proofs.Refusals.{from_fault}
-use Rattle.tw_server.proofs.Taken.{read_is_no_block, none_is_no_block}
+use Rattle.tw_server.proofs.Taken.{block_is, read_no_damage}
 use Rattle.tw_server.proofs.server.Server.take_block.Goals as goal
 
-pub returns-then-branch-clause-taken : goal.returns-then-branch-clause-taken
-returns-then-branch-clause-taken g c = λ bodies on read log knows.
-    subst (λ body. is_block (record { log = log; fresh = c.args.fresh }) body ≡ true) (c.as_slice.ensures.value ∙ c.in_ok-body.ensures.body magic bodies on) (sym (c.in_ok-is_block.ensures log knows) ∙ c.if-branch.true)
-
-pub returns-in_err-body-clause-damaged : goal.returns-in_err-body-clause-damaged
-returns-in_err-body-clause-damaged g c =
+pub returns-in_err-show-clause-damaged : goal.returns-in_err-show-clause-damaged
+returns-in_err-show-clause-damaged g c =
     let m = g.D.Disk.model in
-    from_fault (λ (e : ServerOpenError). OnRead m c.args.self.now c.args.disk.now c.args.n c.args.fresh (λ bodies. IsNoBlock (m.seen c.args.disk.now) c.args.self.now bodies c.args.n c.args.fresh e)) c.from_residual.result (read_in_opening c.in_err-body.field-0.0) c.from_residual.ensures.1
-    (λ bodies on read. read_is_no_block m c.args.self.now c.args.disk.now c.body_through.new.disk (m.seen c.args.disk.now) bodies c.args.n c.args.fresh c.in_err-body.field-0.0 c.in_err-body.ensures.refused on)
+    from_fault (λ e. OnTable m c.args.self.now c.args.reader.now c.args.disk.now (λ bodies table. IfDamaged e (IsDamageBy (m.seen c.args.disk.now) bodies (taken block_size bodies table (Block c.args.n)))))
+    c.from_residual.result (read_in_opening c.in_err-show.field-0.0) c.from_residual.ensures.1
+    (λ bodies on shown table known. read_no_damage m c.args.self.now.journal c.args.disk.now c.show.new.disk magic bodies c.in_err-show.field-0.0 _ c.in_err-show.ensures.refused on)
+
+pub returns-then-is_block_body-clause-taken : goal.returns-then-is_block_body-clause-taken
+returns-then-is_block_body-clause-taken g c = λ bodies on shown table known.
+    let is = c.as_slice.ensures.value ∙ c.in_ok-show.ensures.body magic bodies on shown in
+    ((table, block_is table bodies c.args.n c.as_slice.result.now true is (sym c.is_block_body.ensures ∙ c.if-is_block_body.true), known), c.in_ok-show.ensures.shown magic bodies on shown)
 
 pub returns-clause-damaged : goal.returns-clause-damaged
-returns-clause-damaged g c = λ bodies on read.
+returns-clause-damaged g c = λ bodies on shown table known.
     let m = g.D.Disk.model in
-    let still = still_open m magic c.args.self.now.journal c.args.disk.now c.body_through.new.disk bodies c.in_ok-body.ensures.untouched on in
-    none_is_no_block (m.seen c.args.disk.now) c.args.self.now bodies c.args.n c.args.fresh c.damaged.result
-    (subst (λ file. IsDamageOf magic file bodies c.args.n c.damaged.result) (c.in_ok-body.ensures.untouched.seen on.rest.tells) (c.damaged.ensures.at magic bodies still))
-    (λ log knows. subst (λ body. is_block (record { log = log; fresh = c.args.fresh }) body ≡ false) (c.as_slice.ensures.value ∙ c.in_ok-body.ensures.body magic bodies on) (sym (c.in_ok-is_block.ensures log knows) ∙ c.if-branch.false))
+    let is = c.as_slice.ensures.value ∙ c.in_ok-show.ensures.body magic bodies on shown in
+    damage_after m c.args.self.now.journal c.args.disk.now c.show.new.disk bodies c.args.n c.damaged.result _ on c.in_ok-show.ensures.untouched c.requires.inside c.damaged.ensures.at
+    (block_is table bodies c.args.n c.as_slice.result.now false is (sym c.is_block_body.ensures ∙ c.if-is_block_body.false))

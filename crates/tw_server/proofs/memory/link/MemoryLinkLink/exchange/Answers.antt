@@ -4,7 +4,8 @@ use Rattle.tw_http.specs.declared.link.LinkError.TheVariants.{Failed, Memory}
 use Rattle.tw_server.specs.Memory.Holding.{Acts, IsReply, MayAct}
 use Rattle.tw_server.specs.Memory.Server.{holding_of}
 use Rattle.tw_server.specs.Memory.Link.{before_request}
-use Rattle.tw_server.proofs.MemoryExchange.{some_others, all_others, delivered, may_have_acted, acted_unheard, on_err_there, on_ok_there}
+use Rattle.tw_server.proofs.MemoryExchange.{some_others, all_others, delivered, may_have_acted, acted_unheard}
+use Rattle.tw_server.proofs.Results.{on_err_there, on_ok_there}
 use Rattle.tw_server.proofs.MemoryAlone.{keeps_some, keeps_all, keeps_acted, keeps_maybe, keeps_delivered}
 use Rattle.tw_server.proofs.memory.link.MemoryLinkLink.exchange.Goals as goal
 

@@ -1,7 +1,7 @@
 use Rattle.std.proofs.Common.{◌≡◌, ◌≤◌, ℕ, List, length, map}
 use Rattle.tw_records.specs.Bodies.{block_size, kind_in}
 use Rattle.tw_records.proofs.Walks.{IsWalked}
-use Rattle.tw_records.proofs.walk.sources_of.Given as goal
+use Rattle.tw_records.proofs.walk.walk_back.Given as goal
 
 abbrev pub invariant-loop-n : goal.invariant-loop-n
 invariant-loop-n l = record {
