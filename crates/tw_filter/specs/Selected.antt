@@ -8,6 +8,7 @@ use Rattle.tw_terms.specs.Scenes.{Scene}
 use Rattle.tw_terms.specs.Tokens.{is_name}
 use Rattle.tw_terms.specs.declared.token.Token.{Token}
 use Rattle.tw_filter.specs.Evaluation.{Standing, all_hold, with_token}
+use Rattle.tw_filter.specs.Looked.{listing_part, listed}
 
 -- with one more token, which holds for the task of a uuid or not
 abbrev pub with_token_for : Scene → (u : List ℕ) → TaskValue → Standing → Token → Standing
@@ -30,6 +31,6 @@ abbrev pub are_names : List Token → Bool
 are_names [] = false
 are_names (t ∷ ts) = list_all is_name (t ∷ ts)
 
--- the tasks that a selection looks at: those that names stand for, and else all
+-- the tasks that a selection looks at: those that names stand for, else those that a part lists, and else all
 abbrev pub looked : Scene → List Token → List (List ℕ)
-looked scene tokens = cond (are_names tokens) (selected scene tokens) (keys scene.tasks)
+looked scene tokens = cond (are_names tokens) (selected scene tokens) (listed (listing_part tokens) scene.tasks)

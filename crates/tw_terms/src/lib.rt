@@ -28,6 +28,7 @@ pub use holds::{name_holds, term_holds};
 pub use id_word::{Name, cut_part, number_in, uuid_of_36};
 pub use ids::all_ids;
 pub use tag::{is_virtual, tag_in};
+pub use task_test::{has, is_within};
 pub use term::{Term, Test};
 pub use token::{Mark, Token, push_word};
 pub use view::View;

@@ -30,7 +30,7 @@ pub(crate) fn same_status(a: Status, b: Status) -> bool
 }
 
 /// Whether a property is there.
-pub(crate) fn has(task: &TaskMap, property: &Text) -> bool
+pub fn has(task: &TaskMap, property: &Text) -> bool
     ensures { result ≡ is_some (map.get task.now property.now) }
 {
     task.get(property.as_str()).is_some()
@@ -54,7 +54,7 @@ pub(crate) fn is_value(task: &TaskMap, property: &Text, value: &Text) -> bool
 }
 
 /// Whether a property is a project or one below it.
-pub(crate) fn is_within(task: &TaskMap, property: &Text, value: &Text) -> bool
+pub fn is_within(task: &TaskMap, property: &Text, value: &Text) -> bool
     ensures { result ≡ passes (λ text. same_bytes text value.now || is_below value.now text) (map.get task.now property.now) }
 {
     match task.get(property.as_str()) {
