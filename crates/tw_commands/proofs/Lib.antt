@@ -7,3 +7,4 @@ pub mod StampedTasks
 pub mod ExactMoments
 pub mod TasksThatStay
 pub mod TakenBack
+pub mod EqualExports

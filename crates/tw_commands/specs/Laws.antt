@@ -92,13 +92,15 @@ IsSameButModified before after = (p : List ℕ) → same_bytes p (codes "modifie
 
 -- `modified` is the moment if another property differs, and if none does the task is as it was
 pub record MovesExactly (now : Moment) (before after : TaskValue) : Type 0 where
-  pub moved : (p : List ℕ) → same_bytes p (codes "modified") ≡ false → (get after p ≡ get before p → ⊥) → get after (codes "modified") ≡ Some (decimal now.seconds)
+  pub moved : (p : List ℕ) → same_bytes p (codes "modified") ≡ false → (get after p ≡ get before p → ⊥)
+      → get after (codes "modified") ≡ Some (decimal now.seconds)
   pub still : IsSameButModified before after → after ≡ before
 
 -- what any other command leaves of a task that was there
 abbrev pub ModifiedMovesExactly : Type 0
-ModifiedMovesExactly = (request : Request) (ids : IdWords) (old : State) (carried : Carried) (u : List ℕ) (before after : TaskValue) → IsCarriedOut request ids [] old carried
-    → brings_moments request.command ≡ false → get old.tasks u ≡ Some before → get carried.new.tasks u ≡ Some after → MovesExactly request.at before after
+ModifiedMovesExactly = (request : Request) (ids : IdWords) (old : State) (carried : Carried) (u : List ℕ) (before after : TaskValue)
+    → IsCarriedOut request ids [] old carried → brings_moments request.command ≡ false → get old.tasks u ≡ Some before
+    → get carried.new.tasks u ≡ Some after → MovesExactly request.at before after
 
 -- ---- what an undo takes back
 

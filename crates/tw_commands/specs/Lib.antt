@@ -10,3 +10,4 @@ pub mod Carried
 pub mod Ready
 pub mod Laws
 pub mod Stays
+pub mod Exports

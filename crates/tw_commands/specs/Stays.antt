@@ -23,8 +23,8 @@ makes _ = false
 
 -- such a command leaves each task that was there as it was
 abbrev pub MakersChangeNone : Type 0
-MakersChangeNone = (request : Request) (ids : IdWords) (old : State) (carried : Carried) (u : List ℕ) (task : TaskValue) → IsCarriedOut request ids [] old carried
-    → makes request.command ≡ true → get old.tasks u ≡ Some task → get carried.new.tasks u ≡ Some task
+MakersChangeNone = (request : Request) (ids : IdWords) (old : State) (carried : Carried) (u : List ℕ) (task : TaskValue)
+    → IsCarriedOut request ids [] old carried → makes request.command ≡ true → get old.tasks u ≡ Some task → get carried.new.tasks u ≡ Some task
 
 -- whether one of these elements gives a uuid
 abbrev pub gives : List Imported → List ℕ → Bool
@@ -48,5 +48,6 @@ is_report _ = false
 
 -- a report leaves each task that was there as it was, but for the masks of templates
 abbrev pub ReportsChangeMasks : Type 0
-ReportsChangeMasks = (request : Request) (ids : IdWords) (old : State) (carried : Carried) (u : List ℕ) (task : TaskValue) → IsCarriedOut request ids [] old carried
-    → is_report request.command ≡ true → get old.tasks u ≡ Some task → IsSameButMask (Some task) (get carried.new.tasks u)
+ReportsChangeMasks = (request : Request) (ids : IdWords) (old : State) (carried : Carried) (u : List ℕ) (task : TaskValue)
+    → IsCarriedOut request ids [] old carried → is_report request.command ≡ true → get old.tasks u ≡ Some task
+    → IsSameButMask (Some task) (get carried.new.tasks u)

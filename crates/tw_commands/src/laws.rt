@@ -1,4 +1,5 @@
 //! Laws of commands. Each is the contract of a function that does nothing.
+ghost use Rattle.tw_commands.specs.Exports.{SelectsByTasks, ExportsAreEqual};
 ghost use Rattle.tw_commands.specs.Laws.{CarriedIsApplied, ChangesAreCarriedOut, ChangesAreStamped, ModifiedMovesExactly, OthersStay, UndoTakesBack};
 ghost use Rattle.tw_commands.specs.Stays.{ImportsChangeWhatTheyGive, MakersChangeNone, ReportsChangeMasks};
 
@@ -49,4 +50,16 @@ pub fn modified_moves_exactly()
 /// An undo right after a command that wrote operations leads back to the tasks before it, and to what was pending.
 pub fn an_undo_takes_a_command_back()
     ensures { UndoTakesBack }
+{}
+
+/// A filter without numbers selects by tasks alone: of two states with equal tasks it selects the same, whatever their numbers, the base and
+/// what is pending are.
+pub fn a_filter_without_numbers_selects_by_tasks()
+    ensures { SelectsByTasks }
+{}
+
+/// Two runs of `export` print equal texts if the tasks are equal, and their filter, which has no numbers, the weights, the moment and the zone are
+/// the same. Whatever else the replicas hold makes no difference.
+pub fn exports_of_equal_tasks_are_equal()
+    ensures { ExportsAreEqual }
 {}
