@@ -5,7 +5,7 @@ use Rattle.std.proofs.lemmas.List.Concat.{flat_map-append}
 use Rattle.std.proofs.lemmas.Bool.{eqb-true}
 use Rattle.std.specs.List.{AllByRecursion}
 use Rattle.timew_interval.specs.declared.interval.Interval.{Interval}
-use Rattle.timew_month.specs.Exact.{IsExact, AddsExactly, IsText}
+use Rattle.timew_month.specs.Exact.{IsExact, AddsExactly, IsText, IsTextAfter}
 use Rattle.timew_interval.specs.Line.{line_text, lines_text}
 use Rattle.timew_month.specs.Month.{line_length}
 use Rattle.timew_interval.specs.ReadBack.{IsWritable}
@@ -70,3 +70,37 @@ module _ (bytes rest front back : List ℕ) (size : ℕ) (before after : List In
         text = so_far.text ∙ ap (λ (l : List ℕ). lines_text before ++ l) nothing ∙ append-nil (lines_text before) ∙ ap lines_text (sym a.1);
         writable = subst (AllByRecursion IsWritable) (sym a.1) so_far.writable;
       }
+
+-- ---- after other intervals
+
+-- the bytes are the text of the intervals that come after others, and this is left
+abbrev pub IsFrontAfter : (before : List Interval) (bytes rest : List ℕ) (after : List Interval) → Type 0
+IsFrontAfter before bytes rest after = (rows : List Interval) × (after ≡ before ++ rows) × IsFront bytes rest rows
+
+pub none_after : (before : List Interval) (bytes : List ℕ) → IsFrontAfter before bytes bytes before
+none_after before bytes = ([], sym (append-nil before), all_ahead bytes)
+
+adds_one : (line : List ℕ) (rows : List Interval) (r : Interval) → 0 < length line → IsExact line r → AddsExactly line rows (rows ++ r ∷ [])
+adds_one [] rows r some exact = absurd (omega arith)
+adds_one (b ∷ line) rows r some exact = (r, refl, exact)
+
+adds_none : (line : List ℕ) (rows : List Interval) → line ≡ [] → AddsExactly line rows rows
+adds_none [] rows none = refl
+adds_none (b ∷ line) rows none = absurd cc
+
+module _ (start : List Interval) (bytes rest front back : List ℕ) (size : ℕ) (before after : List Interval)
+    (is : size ≡ line_length rest) (front_is : front ≡ take size rest) (back_is : back ≡ drop size rest) (inside : size ≤ length rest) (so_far : IsFrontAfter start bytes rest before) (adds : AddsExactly front before after) where
+  pub line_more_after : (next : List ℕ) → 0 < length front → (length back ≡ 0 → ⊥) → next ≡ drop 1 back → IsFrontAfter start bytes next after
+  line_more_after next some left then =
+      let a = added front before after some adds in
+      let rows = so_far.0 in (
+        rows ++ a.0 ∷ [],
+        a.1 ∙ ap (λ (l : List Interval). l ++ a.0 ∷ []) so_far.1 ∙ append_assoc start rows (a.0 ∷ []),
+        line_more bytes rest front back size rows (rows ++ a.0 ∷ []) is front_is back_is inside so_far.2 (adds_one front rows a.0 some a.2) next some left then,
+      )
+
+  pub text_ends_after : length front ≡ 0 → length back ≡ 0 → IsTextAfter start bytes after
+  text_ends_after none end =
+      let a = none_added front before after none adds in
+      let rows = so_far.0 in
+      (rows, a.1 ∙ so_far.1, text_ends bytes rest front back size rows rows is front_is back_is inside so_far.2 (adds_none front rows a.0) none end)

@@ -45,10 +45,6 @@ one_file_more items i file all rows new lt is read more so_far =
     ∙ ap (λ (l : List (Option Interval)). map Some all ++ l) (read_found file.name 1 (lines file.bytes.items) rows read)
     ∙ sym (map-append Some all rows) ∙ ap (map Some) (sym more)
 
-pub rows_joined : (rows more : List Interval) → AllByRecursion IsRow rows → AllByRecursion IsRow more → AllByRecursion IsRow (rows ++ more)
-rows_joined [] more all other = other
-rows_joined (r ∷ rows) more all other = (all.0, rows_joined rows more all.1 other)
-
 pub stand_in_order : (items : List MonthFile) (i : ℕ) (all : List Interval) (result : Option (List Interval)) → length items ≤ i → rows_found (lines_in (files_of (take i items))) ≡ map Some all → AllByRecursion IsRow all
     → result ≡ (if in_order all then Some all else None) → IfSome result (λ rows. judged (lines_in (files_of items)) ≡ Ok rows)
 stand_in_order items i all result le read are is = subst (λ (o : Option (List Interval)). IfSome o (λ rows. judged (lines_in (files_of items)) ≡ Ok rows)) (sym is) (by_case (in_order all) refl)

@@ -23,3 +23,9 @@ pub mod ExactMonth
 pub mod Newlines
 pub mod KnownMonths
 pub mod GatheredLines
+pub mod MonthTexts
+pub mod ChangesByName
+pub mod RisingMonths
+pub mod MonthsAfter
+pub mod MonthsPut
+pub mod Edits

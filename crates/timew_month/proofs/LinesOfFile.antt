@@ -1,7 +1,7 @@
 -- Lines of a file, one after another.
-use Rattle.std.proofs.Common.{◌≡◌, ℕ, suc, ◌+◌, ◌<◌, ◌≤◌, Bool, true, false, cond, ◌==◌, List, [], ◌∷◌, length, take, drop, Ok, Err, refl, sym, ap, ◌∙◌, arith, append-nil, add-one, inl, inr, length-drop}
+use Rattle.std.proofs.Common.{◌≡◌, ℕ, suc, ◌+◌, ◌<◌, ◌≤◌, Bool, true, false, cond, ◌==◌, List, [], ◌∷◌, ◌++◌, length, take, drop, Result, Ok, Err, refl, sym, ap, ◌∙◌, arith, append-nil, add-one, inl, inr, length-drop}
 use Rattle.timew_interval.specs.declared.interval.Interval.{Interval}
-use Rattle.timew_month.specs.Month.{on_first, lines, line_length, rows_from, month_rows, with_rows, IsTaken}
+use Rattle.timew_month.specs.Month.{on_first, lines, line_length, rows_from, with_rows, IsTaken}
 use Rattle.std.proofs.lemmas.List.{take_all, drop-drop}
 use Rattle.std.proofs.lemmas.Bool.{cases_eq}
 
@@ -44,12 +44,27 @@ module _ (rest front back : List ℕ) (size : ℕ) (is : size ≡ line_length re
   pub some_line : (more : List (List ℕ)) × (lines rest ≡ front ∷ more)
   some_line = elim (cases_eq (length back) 0) [ inl none ↦ ([], no_more none) | inr some ↦ (lines (drop 1 back), some_more (λ e. omega (arith, some, e))) ]
 
-  module _ (bytes : List ℕ) (n : ℕ) (before after : List Interval) (so_far : with_rows before (rows_from n (lines rest)) ≡ month_rows bytes) where
-    pub bad_line : IsTaken false front before after → month_rows bytes ≡ Err n
+  -- what all lines come to: what those before this one gave, and what it and those after it give
+  module _ (all : Result (List Interval) ℕ) (n : ℕ) (before after : List Interval) (so_far : with_rows before (rows_from n (lines rest)) ≡ all) where
+    pub bad_line : IsTaken false front before after → all ≡ Err n
     bad_line none = sym so_far ∙ ap (λ (l : List (List ℕ)). with_rows before (rows_from n l)) some_line.1 ∙ ap (with_rows before) (none n some_line.0)
 
-    pub all_read : IsTaken true front before after → length back ≡ 0 → month_rows bytes ≡ Ok after
+    pub all_read : IsTaken true front before after → length back ≡ 0 → all ≡ Ok after
     all_read taken none = sym so_far ∙ ap (λ (l : List (List ℕ)). with_rows before (rows_from n l)) (no_more none) ∙ taken n [] ∙ ap (λ (l : List Interval). Ok l) (append-nil after)
 
-    pub on_it_goes : IsTaken true front before after → (length back ≡ 0 → ⊥) → with_rows after (rows_from (n + 1) (lines (drop 1 back))) ≡ month_rows bytes
+    pub on_it_goes : IsTaken true front before after → (length back ≡ 0 → ⊥) → with_rows after (rows_from (n + 1) (lines (drop 1 back))) ≡ all
     on_it_goes taken some = sym (taken n (lines (drop 1 back))) ∙ ap (λ (l : List (List ℕ)). with_rows before (rows_from n l)) (sym (some_more some)) ∙ so_far
+
+-- ---- intervals after others
+
+pub bad_after : (before : List Interval) (read : Result (List Interval) ℕ) (n : ℕ) → with_rows before read ≡ Err n → read ≡ Err n
+bad_after before (Ok rows) n is = absurd cc
+bad_after before (Err line) n is = is
+
+pub read_alone : (read : Result (List Interval) ℕ) (rows : List Interval) → with_rows [] read ≡ Ok rows → read ≡ Ok rows
+read_alone (Ok rows) all is = is
+read_alone (Err line) all is = absurd cc
+
+pub read_after : (before : List Interval) (read : Result (List Interval) ℕ) (all : List Interval) → with_rows before read ≡ Ok all → (rows : List Interval) × (read ≡ Ok rows) × (all ≡ before ++ rows)
+read_after before (Ok rows) all is = let same : before ++ rows ≡ all = cc in (rows, refl, sym same)
+read_after before (Err line) all is = absurd cc

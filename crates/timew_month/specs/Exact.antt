@@ -62,6 +62,10 @@ pub record IsText (bytes : List ℕ) (rows : List Interval) : Type 0 where
   pub text : bytes ≡ lines_text rows
   pub writable : AllByRecursion IsWritable rows
 
+-- a month file is the text of the intervals that come after others
+abbrev pub IsTextAfter : (before : List Interval) (bytes : List ℕ) (after : List Interval) → Type 0
+IsTextAfter before bytes after = (rows : List Interval) × (after ≡ before ++ rows) × IsText bytes rows
+
 -- a month that is still the text of its file was it before, and the line is as its interval is written
 abbrev pub StaysText : List ℕ → (before after : MonthRows) → Type 0
 StaysText line before after = after.is_text ≡ true → (before.is_text ≡ true) × AddsExactly line before.rows.items after.rows.items

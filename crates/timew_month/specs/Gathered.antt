@@ -1,5 +1,6 @@
 -- The lines of month files with their intervals in order, as they are gathered.
-use Rattle.std.specs.Prelude.{◌≡◌, ℕ, ◌+◌, ◌*◌, Bool, true, false, cond, not, ◌||◌, ◌==◌, nat_lt, List, [], ◌∷◌, ◌++◌, map, fold, Option, Some, None, is_some, Result, Err}
+use Rattle.std.specs.Prelude.{◌≡◌, ℕ, ◌+◌, ◌*◌, Bool, true, false, cond, not, ◌||◌, ◌==◌, nat_lt, List, [], ◌∷◌, ◌++◌, map, fold}
+use Rattle.std.specs.Prelude.{Option, Some, None, is_some, Result, Err}
 use Rattle.std.specs.List.{flat_map, AllByRecursion}
 use Rattle.tw_world.specs.Folder.{Files}
 use Rattle.timew_interval.specs.declared.interval.Interval.{Interval}

@@ -4,7 +4,6 @@ use Rattle.std.specs.List.{AllByRecursion}
 use Rattle.timew_interval.specs.declared.interval.Interval.{Interval}
 use Rattle.timew_month.specs.declared.months.MonthFile.{MonthFile}
 use Rattle.timew_month.specs.declared.months.KnownText.{KnownText}
-use Rattle.timew_month.specs.declared.read.month.MonthRows.{MonthRows}
 use Rattle.tw_world.specs.Folder.{same_bytes}
 use Rattle.timew_month.specs.Exact.{IsText}
 use Rattle.timew_interval.specs.Line.{lines_text}
@@ -23,13 +22,13 @@ pub record IsKnown (files : List MonthFile) (rows : List Interval) (k : KnownTex
 abbrev pub AreKnown : List MonthFile → List Interval → List KnownText → Type 0
 AreKnown files rows known = AllByRecursion (IsKnown files rows) known
 
--- the file with a number, if there is one, is the text of a month's intervals if this is said of them
-abbrev pub IsTextAs : List MonthFile → ℕ → MonthRows → Type 0
-IsTextAs files number month = (f : MonthFile) → f ≡ slice_index_or files number f → month.is_text ≡ true → IsText f.bytes.items month.rows.items
+-- the file with a number, if there is one, has these bytes
+abbrev pub HasBytes : List MonthFile → ℕ → (bytes : List ℕ) → Type 0
+HasBytes files number bytes = (f : MonthFile) → f ≡ slice_index_or files number f → f.bytes.items ≡ bytes
 
 -- what was known of files stays so with the intervals of one more
-abbrev pub StayKnown : ℕ → MonthRows → (rows0 rows1 : List Interval) → (known0 known1 : List KnownText) → Type 0
-StayKnown n month rows0 rows1 known0 known1 = (files : List MonthFile) → IsTextAs files n month → AreKnown files rows0 known0 → AreKnown files rows1 known1
+abbrev pub StayKnown : ℕ → (bytes : List ℕ) → (rows0 rows1 : List Interval) → (known0 known1 : List KnownText) → Type 0
+StayKnown n bytes rows0 rows1 known0 known1 = (files : List MonthFile) → HasBytes files n bytes → AreKnown files rows0 known0 → AreKnown files rows1 known1
 
 -- ---- months
 

@@ -11,3 +11,4 @@ pub mod Tail
 pub mod Exact
 pub mod Known
 pub mod Day
+pub mod MonthTexts

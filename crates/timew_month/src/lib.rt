@@ -8,10 +8,11 @@ mod changed;
 pub mod laws;
 mod months;
 mod read;
+mod write;
 
 pub use body::{Record, change_body, read_record, undo_body};
 pub use changed::{files_after, files_with};
-pub use months::{KnownText, MonthFile, Months, NewFile, bytes_in, names_of};
+pub use months::{KnownText, MonthFile, Months, NewFile, bytes_in};
 pub use read::month::{MonthError, read_month};
 pub use read::rows::{ReadRows, RowsError, read_known, read_rows};
-pub use read::tail::after;
+pub use write::changes::changes_to;

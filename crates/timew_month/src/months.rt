@@ -62,7 +62,7 @@ fn has_name(file: &MonthFile, name: &Text) -> bool
 }
 
 /// The names of these files.
-pub fn names_of(alloc: Global, files: &Vec<MonthFile>) -> Result<Vec<Text>, Memory>
+pub(crate) fn names_of(alloc: Global, files: &Vec<MonthFile>) -> Result<Vec<Text>, Memory>
     ensures { IfOk result (λ names. names.items ≡ names_in (files_of files.now.items)) }
 {
     let mut names = Vec::with_capacity(alloc, files.len())?;

@@ -28,7 +28,7 @@ use Rattle.timew_month.specs.declared.months.KnownText.{KnownText}
 use Rattle.timew_month.specs.declared.months.MonthFile.{MonthFile}
 use Rattle.timew_month.specs.declared.months.Months.{Months}
 use Rattle.timew_store.specs.declared.write.prepared.PreparedEdit.{PreparedEdit}
-use Rattle.timew_store.proofs.MonthsPut.{months_changed}
+use Rattle.timew_month.proofs.MonthsPut.{months_changed}
 use Rattle.timew_store.proofs.Growth.{change_size}
 use Rattle.timew_store.proofs.RestoredStore.{named_once, known_once}
 

@@ -15,11 +15,9 @@ use Rattle.timew_month.specs.declared.months.NewFile.{NewFile}
 use Rattle.timew_store.specs.declared.store.Store.{Store}
 use Rattle.timew_month.specs.Body.{FileChange, Step, AreMonths, body_of, names_rise, ◌>>=◌}
 use Rattle.timew_month.specs.Body.Step.{Change}
-use Rattle.timew_month.specs.Gathered.{NamedBytes}
 use Rattle.timew_store.specs.History.{History, applied, stepped, with_change}
 use Rattle.timew_store.specs.Held.{Held, OpensTo, OpensToEither, IsAtRest, held_by, finished, HasOld}
 use Rattle.timew_month.specs.Files.{bytes_of, replaced}
-use Rattle.timew_month.specs.NamedFiles.{bytes_in, text_in, one_change}
 use Rattle.timew_interval.specs.MonthName.{month_text}
 use Rattle.timew_month.specs.Changes.{month_change, changes_to, all_names}
 use Rattle.timew_month.specs.Records.{change_of, changes_of}
@@ -28,22 +26,12 @@ use Rattle.timew_store.specs.Store.{HoldMonths, IsStoreOn, IsMovedTo, IsChangeBo
 use Rattle.timew_store.specs.declared.error.StoreError.{StoreError}
 use Rattle.timew_store.specs.declared.error.StoreError.TheVariants as write
 use Rattle.timew_store.proofs.AfterLoading.{rise_apart}
-use Rattle.timew_store.proofs.ChangesByName.{AreMonthNames}
 use Rattle.timew_interval.proofs.MonthForm.{month_file}
-use Rattle.timew_store.proofs.RisingMonths.{changes_rise}
+use Rattle.timew_month.proofs.RisingMonths.{changes_rise}
 use Rattle.timew_store.proofs.StepAgain.{step_again}
 use Rattle.timew_store.proofs.CrashOfChange.{open_records}
 
 -- ---- the files of a change
-
-pub each_month : (kept months : List NamedBytes) (names : List (List ℕ)) → AreMonthNames names → AreMonths (flat_map (one_change kept months) names)
-each_month kept months [] good = tt
-each_month kept months (n ∷ names) good = subst AreMonths (sym (flat_map-cons (one_change kept months) n names)) (by_case (same_bytes (bytes_in kept n) (text_in months n)) (each_month kept months names good.1))
-  where
-    by_case : (b : Bool) → AreMonths (flat_map (one_change kept months) names)
-        → AreMonths (cond b [] (record { name = n; old = bytes_in kept n; new = text_in months n } ∷ []) ++ flat_map (one_change kept months) names)
-    by_case true rest = rest
-    by_case false rest = (good.0, rest)
 
 each_old : (files : Files) (rows : List Interval) (names : List (List ℕ)) → HasOld files (flat_map (month_change files rows) names)
 each_old files rows [] = tt

@@ -42,7 +42,7 @@ use Rattle.timew_interval.specs.declared.interval.Interval.{Interval}
 use Rattle.timew_store.specs.declared.store.Store.{Store}
 use Rattle.timew_month.specs.declared.months.Months.{Months}
 use Rattle.timew_store.proofs.AfterLoading.{rise_apart}
-use Rattle.timew_store.proofs.ChangesByName.{bytes_kept}
+use Rattle.timew_month.proofs.ChangesByName.{bytes_kept}
 use Rattle.timew_store.proofs.FilesRead.{judged_files}
 use Rattle.timew_interval.proofs.SameBytes.{same_bytes_exact, same_bytes_itself}
 use Rattle.timew_store.proofs.Prepares.{opens_here}

@@ -7,4 +7,3 @@ pub mod Growth
 pub mod Store
 pub mod StoreUndo
 pub mod Prepared
-pub mod MonthTexts

@@ -95,12 +95,14 @@ prepared_end p = journal_end p.journal
 -- why a change is not prepared: a closed store, a record of so many bytes, or want of memory
 abbrev pub PrepareRefused : Store → List Interval → PrepareError → Type 0
 PrepareRefused old rows prepares.Closed = is_store_closed old ≡ true
-PrepareRefused old rows (prepares.TooLong bytes) = (2 ^ 30 < bytes) × OnFolders old.months (λ files. bytes ≡ length (row_of_records (change_bodies (changes_to files rows))))
+PrepareRefused old rows (prepares.TooLong bytes) =
+    (2 ^ 30 < bytes) × OnFolders old.months (λ files. bytes ≡ length (row_of_records (change_bodies (changes_to files rows))))
 PrepareRefused old rows prepares.Memory = Unit {0}
 
 -- the record of the change is written
 abbrev pub ChangeRecorded : {F D : Type 0} → FolderModel F → DiskModel D → F → (d0 d1 : D) → Store → List Interval → Type 0
-ChangeRecorded m n f0 d0 d1 old rows = (body : List ℕ) × (journal : Journal) × IsChangeBody m n old f0 d0 rows body × HasRecordMore n old.journal journal d0 d1 body
+ChangeRecorded m n f0 d0 d1 old rows =
+    (body : List ℕ) × (journal : Journal) × IsChangeBody m n old f0 d0 rows body × HasRecordMore n old.journal journal d0 d1 body
 
 -- Why a prepared change is not written. If the disk of the journal failed, the folder was not used; if the folder failed, the record is written.
 abbrev pub WriteFailed : {F D : Type 0} → FolderModel F → DiskModel D → (f0 f1 : F) (d0 d1 : D) → WriteError → Store → List Interval → Type 0

@@ -1,9 +1,9 @@
 // Reading a month file.
 ghost use Rattle.std.specs.Prelude.{◌≡◌, ◌≤◌, [], true, Ok, IfOk, IfErr, length};
 ghost use Rattle.std.specs.List.{AllByRecursion};
-ghost use Rattle.timew_month.specs.Exact.{IsText, StaysText};
+ghost use Rattle.timew_month.specs.Exact.{IsTextAfter, StaysText};
 ghost use Rattle.timew_interval.specs.Interval.{IsRow};
-ghost use Rattle.timew_month.specs.Month.{month_rows, MonthRefused, IsTaken, line_length};
+ghost use Rattle.timew_month.specs.Month.{month_rows, with_rows, MonthRefused, IsTaken, line_length};
 
 use crate::read::day::Day;
 use crate::read::line::{Line, read_exactly};
@@ -43,7 +43,7 @@ pub(crate) fn line_length(bytes: &[u8]) -> usize
     }
 }
 
-/// The intervals of a month file, and whether it is their text.
+/// Intervals, the last of them those of a month file, and whether the file is the text of these.
 #[derive(Drop)]
 pub(crate) struct MonthRows {
     pub rows: Vec<Interval>,
@@ -88,16 +88,20 @@ pub(crate) fn room(alloc: Global, bytes: usize) -> Result<Vec<Interval>, Memory>
     Ok(Vec::with_capacity(alloc, bytes / 48)?)
 }
 
-/// The intervals of a month file, in the order of its lines. It is their text if each line is as its interval is
+/// Reads the intervals of a month file, in the order of its lines, after others. The file is their text if each line is as its interval is
 /// written, and the last one ends with a newline.
-pub(crate) fn read_lines(alloc: Global, bytes: &[u8]) -> Result<MonthRows, MonthError>
-    ensures ok { IfOk result (λ month. month_rows bytes.now ≡ Ok month.rows.items) }
+pub(crate) fn read_lines(
+    alloc: Global,
+    rows: Vec<Interval>,
+    bytes: &[u8],
+) -> Result<MonthRows, MonthError>
+    ensures ok { IfOk result (λ month. with_rows rows.items (month_rows bytes.now) ≡ Ok month.rows.items) }
     ensures err { IfErr result (λ e. MonthRefused e (month_rows bytes.now)) }
-    ensures are { IfOk result (λ month. AllByRecursion IsRow month.rows.items) }
-    ensures text { IfOk result (λ month. month.is_text ≡ true → IsText bytes.now month.rows.items) }
+    ensures are { AllByRecursion IsRow rows.items → IfOk result (λ month. AllByRecursion IsRow month.rows.items) }
+    ensures text { IfOk result (λ month. month.is_text ≡ true → IsTextAfter rows.items bytes.now month.rows.items) }
 {
     let mut month = MonthRows {
-        rows: room(alloc, bytes.len())?,
+        rows,
         is_text: true,
     };
     let mut day = Day::first();
@@ -125,7 +129,8 @@ pub fn read_month(alloc: Global, bytes: &[u8]) -> Result<Vec<Interval>, MonthErr
     ensures err { IfErr result (λ e. MonthRefused e (month_rows bytes.now)) }
     ensures are { IfOk result (λ rows. AllByRecursion IsRow rows.items) }
 {
-    match read_lines(alloc, bytes) {
+    let before = room(alloc, bytes.len())?;
+    match read_lines(alloc, before, bytes) {
         Ok(MonthRows { rows, is_text: _ }) => Ok(rows),
         Err(error) => Err(error),
     }

@@ -1,5 +1,8 @@
 // The intervals that month files hold.
-ghost use Rattle.std.specs.Prelude.{◌≡◌, [], fold, map, option_map, IfOk, IfErr, IfSome, Ok, None, Some, ◌<◌, ◌++◌, OnOk};
+ghost use Rattle.std.specs.Prelude.{◌≡◌, [], ◌∷◌, fold, map, option_map, IfOk, IfErr, IfSome, Ok, None, Some, ◌<◌, ◌++◌, OnOk};
+ghost use Rattle.std.specs.List.{AllByRecursion};
+ghost use Rattle.timew_interval.specs.Interval.{IsRow};
+ghost use Rattle.timew_month.specs.Month.{month_rows, with_rows};
 ghost use Rattle.timew_month.specs.Gathered.{RowsRefused, files_of, lines_in, spot_of, seats_of, AreSorted, AreSeats, lesser, is_at, first_spot, bad_spot};
 ghost use Rattle.timew_month.specs.Known.{AreKnown, StayKnown};
 ghost use Rattle.timew_month.specs.Rows.{judged, late_from, rows_in};
@@ -48,31 +51,42 @@ fn size_of(files: &Vec<MonthFile>) -> usize {
     bytes
 }
 
-// Puts the intervals of a month file after others, and notes it if the file is their text.
-pub(crate) fn add_month(
-    rows: &mut Vec<Interval>,
+// Notes that a file is the text of the intervals from one on.
+fn note_text(
     known: &mut Vec<KnownText>,
     file: usize,
-    month: MonthRows,
-) -> Result<(), Memory>
-    ensures rows { OnOk result (rows.new.items ≡ rows.old.items ++ month.rows.items) }
-    ensures known { OnOk result (StayKnown file month rows.old.items rows.new.items known.old.items known.new.items) }
+    first: usize,
+    count: usize,
+) -> Result<(), MonthError>
+    ensures { OnOk result (known.new.items ≡ known.old.items ++ record { file = file; first = first; count = count } ∷ []) }
 {
-    let MonthRows {
-        rows: more,
-        is_text,
-    } = month;
-    let mut more = more;
-    let text = KnownText {
-        file,
-        first: rows.len(),
-        count: more.len(),
-    };
-    rows.append(&mut more)?;
-    if is_text {
-        known.push(text)?;
+    match known.push(KnownText { file, first, count }) {
+        Ok(()) => Ok(()),
+        Err(_) => Err(MonthError::Memory),
     }
-    Ok(())
+}
+
+// Reads the intervals of a month file after others, and notes it if the file is their text.
+fn add_month(
+    alloc: Global,
+    rows: Vec<Interval>,
+    known: &mut Vec<KnownText>,
+    file: usize,
+    bytes: &[u8],
+) -> Result<Vec<Interval>, MonthError>
+    ensures rows { IfOk result (λ all. with_rows rows.items (month_rows bytes.now) ≡ Ok all.items) }
+    ensures are { AllByRecursion IsRow rows.items → IfOk result (λ all. AllByRecursion IsRow all.items) }
+    ensures known { IfOk result (λ all. StayKnown file bytes.now rows.items all.items known.old.items known.new.items) }
+{
+    let first = rows.len();
+    let MonthRows { rows, is_text } = match read_lines(alloc, rows, bytes) {
+        Ok(month) => month,
+        Err(error) => return Err(error),
+    };
+    if is_text {
+        note_text(known, file, first, rows.len().saturating_sub(first))?;
+    }
+    Ok(rows)
 }
 
 // The intervals, if each line is one and they are in order. It is so in files that no hand has changed.
@@ -83,11 +97,11 @@ fn rows_as_they_stand(alloc: Global, files: &Vec<MonthFile>) -> Result<Option<Re
     let mut all = room(alloc, size_of(files))?;
     let mut known = Vec::with_capacity(alloc, files.len())?;
     for (at, file) in files.iter().enumerate() {
-        match read_lines(alloc, &file.bytes) {
-            Ok(month) => add_month(&mut all, &mut known, at, month)?,
+        all = match add_month(alloc, all, &mut known, at, &file.bytes) {
+            Ok(more) => more,
             Err(MonthError::Memory) => return Err(Memory),
             Err(MonthError::Line { line: _ }) => return Ok(None),
-        }
+        };
     }
     match Intervals::in_order(all) {
         Some(rows) => Ok(Some(ReadRows { rows, known })),

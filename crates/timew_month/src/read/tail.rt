@@ -19,7 +19,7 @@ pub(crate) struct Tail {
 }
 
 /// What follows a text, if the bytes begin with it.
-pub fn after<'a>(front: &[u8], bytes: &'a [u8]) -> Option<&'a [u8]>
+pub(crate) fn after<'a>(front: &[u8], bytes: &'a [u8]) -> Option<&'a [u8]>
     ensures { option_map (λ b. b.now) result ≡ after front.now bytes.now }
 {
     if bytes.len() >= front.len() && &bytes[..front.len()] == front {

@@ -16,10 +16,9 @@ ghost use Rattle.timew_month.specs.Records.{changes_of};
 
 use crate::error::StoreError;
 use crate::write::change::write_change;
-use crate::write::changes::changes_to;
 use std::alloc::Global;
 use timew_interval::{Edit, Interval, Intervals, splice};
-use timew_month::{KnownText, MonthFile, Months, NewFile, change_body, files_with};
+use timew_month::{KnownText, MonthFile, Months, NewFile, change_body, changes_to, files_with};
 use tw_journal::Journal;
 use tw_world::{Disk, Folder, Memory};
 

@@ -4,9 +4,9 @@ use Rattle.tw_world.specs.Folder.{Files}
 use Rattle.timew_interval.specs.MonthName.{is_month_name}
 use Rattle.timew_month.specs.Gathered.{NamedBytes, files_of}
 use Rattle.timew_month.specs.Files.{bytes_of}
-use Rattle.timew_store.proofs.ChangesByName.{AreMonthNames, months_good}
+use Rattle.timew_month.proofs.ChangesByName.{AreMonthNames, months_good}
 use Rattle.timew_month.specs.NamedFiles.{are_named}
-use Rattle.timew_store.proofs.MonthsAfter.{named_more}
+use Rattle.timew_month.proofs.MonthsAfter.{named_more}
 use Rattle.timew_store.proofs.FilesRead.{all_here, one_file_read}
 use Rattle.timew_store.proofs.ReadingCalls.{reads_joined}
 use Rattle.timew_store.proofs.folder.read_files.Goals as goal

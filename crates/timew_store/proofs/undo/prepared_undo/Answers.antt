@@ -7,7 +7,7 @@ use Rattle.timew_month.specs.NamedFiles.{first_edited_in}
 use Rattle.timew_month.specs.Records.{changes_of}
 use Rattle.timew_store.proofs.FilesRead.{judged_files}
 use Rattle.timew_store.proofs.LoadRefusals.{passed_on}
-use Rattle.timew_store.proofs.MonthsAfter.{months_after, named_after}
+use Rattle.timew_month.proofs.MonthsAfter.{months_after, named_after}
 use Rattle.timew_store.proofs.Undoes.{edited_kept, exchanged_months, back_refused}
 use Rattle.timew_store.proofs.undo.prepared_undo.Goals as goal
 

@@ -2,7 +2,7 @@ use Rattle.std.proofs.Common.{◌∙◌, sym, subst}
 use Rattle.timew_interval.specs.Interval.{AreRows}
 use Rattle.timew_month.specs.Known.{AreKnown}
 use Rattle.timew_month.specs.Records.{changes_of}
-use Rattle.timew_store.proofs.MonthsPut.{still_months}
+use Rattle.timew_month.proofs.MonthsPut.{still_months}
 use Rattle.timew_store.proofs.PreparedEdits.{hold_next, next_rows, next_are, inside, still_named}
 use Rattle.timew_store.proofs.write.prepared.PreparedEdit.into_after.Goals as goal
 

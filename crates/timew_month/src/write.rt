@@ -1,0 +1,3 @@
+pub(crate) mod changes;
+mod known;
+mod month_texts;
