@@ -1,5 +1,5 @@
 -- A world that is asked for has at most 10,000 tasks.
-use Rattle.std.proofs.Common.{◌≡◌, ◌≤◌, ℕ, ◌+◌, ◌&&◌, Bool, true, false, cond, List, [], Option, Some, None, Result, Ok, Err, map, string_bytes, String, refl, subst, arith, nat_le}
+use Rattle.std.proofs.Common.{◌≡◌, ◌≤◌, ℕ, ◌+◌, ◌&&◌, Bool, true, false, List, Option, Some, None, Result, Ok, Err, map, string_bytes, String, refl, subst, arith, nat_le}
 use Rattle.std.proofs.lemmas.Bool.Decides.{nat_tests}
 use Rattle.std.specs.Prelude.{option_and_then}
 use Rattle.std.specs.Global.{Vec, Global}
@@ -19,7 +19,6 @@ use Rattle.tw_words.specs.Faults.{filter_fault, lack_fault, rest_word, or_zero, 
 use Rattle.tw_words.specs.declared.command.AnyCommand.{AnyCommand}
 use Rattle.tw_words.specs.declared.command.AnyCommand.TheVariants as command
 use Rattle.tw_settings.specs.declared.word_error.WordError.{WordError}
-use Rattle.tw_settings.specs.declared.word_error.WordError.TheVariants.{Bad}
 use Rattle.tw_cli.specs.Asked.{syncing, job_by, job_judged, job_set, asked_by, HasFew}
 use Rattle.tw_settings.specs.declared.server.ServerSettings.{ServerSettings}
 use Rattle.tw_settings.specs.Servers.{server_set}

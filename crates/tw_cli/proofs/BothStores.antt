@@ -12,7 +12,6 @@ use Rattle.tw_world.specs.declared.Moment.{Moment}
 use Rattle.tw_world.specs.declared.ids.IdWords.{IdWords}
 use Rattle.tw_world.proofs.Moments.{CountsNow, OnlyNow, started, weaker}
 use Rattle.tw_world.proofs.TurnRules.{turns_weaker}
-use Rattle.tw_journal.specs.Form.{has_areas}
 use Rattle.tw_spawn.specs.Spawner.{SpawnerModel}
 use Rattle.tw_state.specs.State.{State}
 use Rattle.tw_replica.specs.Opening.{IsOpenedReplica, IsOpening, opened_bodies}
@@ -68,7 +67,7 @@ module _ {D P F J : Type 0} (m : DiskModel D) (only_now : OnlyNow m) (counts_now
     opened = is.opened tells
 
     abbrev left : List (List ℕ)
-    left = opened_bodies (has_areas (m.seen d0)) (held_state is.replica) opened.bodies
+    left = opened_bodies (m.seen d0) (held_state is.replica) opened.bodies
 
     -- the tasks are those of before, or those of a step
     by_step : (z : List ℕ) → OpensToEither (held_state is.replica) (next (held_state is.replica)) z → Either z
@@ -145,7 +144,7 @@ module _ {D P F J : Type 0} (m : DiskModel D) (only_now : OnlyNow m) (counts_now
             let on = r.0.disk tells in
             subst (λ (s : State). OpensTo z s) (sym r.3)
             (subst (λ (file : List ℕ). OpensTo file r.0.carried.new) (sym (on.1 z there))
-            (record { bodies = opened_bodies (has_areas (m.seen d0)) r.0.old on.0.bodies ++ step_bodies r.0.carried.step; records = on.0.has; stands = on.0.stands }))
+            (record { bodies = opened_bodies (m.seen d0) r.0.old on.0.bodies ++ step_bodies r.0.carried.step; records = on.0.has; stands = on.0.stands }))
 
         in_order : (x : Files) (y : List ℕ) → OpensToChanged held (make_rows (intervals_of ready.store)) x y → (z : List ℕ) → m.leaves d1 z → Order z x y
         in_order x y (inl before) z there = inl (by_step z (subst (λ (n : Option State). OpensToEither (held_state is.replica) n z) (sym leads_new) (inr (new_tasks z there))), inr before)

@@ -1,12 +1,11 @@
 -- What is known of a command behind an opening, before and after its step is written.
-use Rattle.std.proofs.Common.{◌≡◌, ◌⊎◌, inl, inr, ◌∙◌, ap, sym, subst, refl, List, ℕ, ◌++◌, ◌<◌, ◌≤◌, ◌^◌, true, false, None, Result, Ok, Err, IfOk, IfErr, arith}
+use Rattle.std.proofs.Common.{◌≡◌, inl, inr, ◌∙◌, ap, sym, subst, refl, List, ℕ, ◌++◌, ◌<◌, ◌≤◌, ◌^◌, true, false, None, Result, Ok, Err, IfOk, IfErr, arith}
 use Rattle.tw_world.specs.Disk.{DiskModel, Tells, IsStable, Rose, FaultsRise, LeavesOnly}
 use Rattle.tw_world.specs.Source.{SourceModel}
 use Rattle.tw_world.specs.declared.ids.IdWords.{IdWords}
 use Rattle.tw_journal.specs.Journal.{IsOpenOn, is_closed}
 use Rattle.tw_replica.specs.declared.error.WriteError.TheVariants as writes
 use Rattle.tw_state.specs.State.{Stands, applied}
-use Rattle.tw_journal.specs.Form.{has_areas}
 use Rattle.tw_replica.specs.Opening.{IsOpenedReplica, opened_bodies}
 use Rattle.tw_replica.specs.Replica.{magic, OpensToEither, IsReplicaOn, held_state, is_replica_closed, OpeningRefused}
 use Rattle.tw_replica.specs.Prepared.{step_bodies, prepared_bodies, prepared_state, HasSize, IsWithinLimit, RecordsOrAll, PreparedRefused}
@@ -41,7 +40,7 @@ use Rattle.tw_hooks.specs.declared.error.HookError.TheVariants as hook
 use Rattle.tw_model.specs.Ops.{TaskValue}
 use Rattle.tw_cli.proofs.Answering.{refused_wants}
 use Rattle.tw_cli.proofs.Taking.{took_same, taking_wants}
-use Rattle.tw_cli.proofs.Openings.{records_of, opens_to, held_is, stays_open, open_wants, rose_later, no_longer, leaves_step}
+use Rattle.tw_cli.proofs.Openings.{records_of, ends_with, opens_to, held_is, stays_open, open_wants, rose_later, no_longer, leaves_step}
 
 pub above_limit : (bytes : ℕ) → 2 ^ 30 < bytes → bytes ≤ 2 ^ 30 → ⊥
 above_limit bytes above fits = omega (arith, above, fits)
@@ -65,7 +64,8 @@ module _ {D S : Type 0} (m : DiskModel D) (sources : SourceModel S) (request : R
   done_drew old new (inr (none, inr (inl want))) = absurd (cc)
   done_drew old new (inr (none, inr (inr (inl failed)))) = absurd (cc)
   done_drew old new (inr (none, inr (inr (inr (inl long))))) = absurd (cc)
-  done_drew old new (inr (none, inr (inr (inr (inr damage))))) = absurd (let e : causes.Done ≡ causes.Damaged damage.0 = damage.1 in cc)
+  done_drew old new (inr (none, inr (inr (inr (inr (inl damage)))))) = absurd (let e : causes.Done ≡ causes.Damaged damage.0 = damage.1 in cc)
+  done_drew old new (inr (none, inr (inr (inr (inr (inr long)))))) = absurd (let e : causes.Done ≡ causes.RecordTooLong long.0 = long.1 in cc)
 
   -- a crash leaves the same of a command whose text is not printed
   pub leaves_unprinted : {P : Type 0} (hooks : SpawnerModel P) (ids : IdWords) (d1 : D) (p0 p1 : P) → LeavesCommand m sources hooks request ids d0 d1 i0 i1 p0 p1 causes.Done → LeavesCommand m sources hooks request ids d0 d1 i0 i1 p0 p1 causes.OutFault
@@ -73,10 +73,11 @@ module _ {D S : Type 0} (m : DiskModel D) (sources : SourceModel S) (request : R
   leaves_unprinted hooks ids d1 p0 p1 (inr with) = inr (with.0, with.1, record { answers = with.2.answers; answered = with.2.answered; leaves = with.2.leaves })
 
   -- an opening that is refused draws nothing
-  pub opening_draws : (ids : IdWords) (e : OpenError) → Draws m sources request d0 i0 i1 ids ids (open_cause e)
-  opening_draws ids opening.Disk = inr (refl, inl refl)
-  opening_draws ids (opening.Damaged offset) = inr (refl, inr (inr (inr (inr (offset, refl)))))
-  opening_draws ids opening.Memory = inr (refl, inr (inl refl))
+  pub opening_draws : (d1 : D) (ids : IdWords) (e : OpenError) → OpeningRefused m d0 d1 e → Draws m sources request d0 i0 i1 ids ids (open_cause e)
+  opening_draws d1 ids opening.Disk why = inr (refl, inl refl)
+  opening_draws d1 ids (opening.Damaged offset) why = inr (refl, inr (inr (inr (inr (inl (offset, refl))))))
+  opening_draws d1 ids opening.Memory why = inr (refl, inr (inl refl))
+  opening_draws d1 ids (opening.TooLong bytes) why = inr (refl, inr (inr (inr (inr (inr (bytes, refl, λ tells. (why tells).0))))))
 
   -- nor does an input that is not taken
   pub taking_draws : (ids : IdWords) (e : InputError) → Draws m sources request d0 i0 i1 ids ids (input_cause e)
@@ -147,7 +148,7 @@ module _ {D S : Type 0} (m : DiskModel D) (sources : SourceModel S) (request : R
 module _ {D P : Type 0} (m : DiskModel D) (hooks : SpawnerModel P) (request : Request) (ids : IdWords) where
   -- an opening that is refused where the command can be carried out wants memory
   pub opening_wants : (d0 d1 : D) (p0 p1 : P) (e : OpenError) → OpeningRefused m d0 d1 e → CanBeCarriedOut m hooks request ids d0 d1 p0 p1 → open_cause e ≡ causes.Memory
-  opening_wants d0 d1 p0 p1 e refused can = open_wants m d0 d1 can.state e can.tells can.opens can.disk_well refused
+  opening_wants d0 d1 p0 p1 e refused can = open_wants m d0 d1 can.state e can.tells can.opens can.renews can.disk_well refused
 
   module _ (d0 mid : D) (p0 p1 : P) (old : Replica) (opened : Tells m d0 → IsOpenedReplica m d0 mid old) where
     pub drew : (new : IdWords) → new ≡ ids_after request ids (held_state old) → Drew m request d0 ids new
@@ -205,9 +206,9 @@ module _ {D P : Type 0} (m : DiskModel D) (hooks : SpawnerModel P) (request : Re
         where
           by : IsOpenedReplica m d0 mid old → HasMore (m.seen d0) (m.seen d1) (step_bodies made.step) (held_state old) (prepared_state ready.prepared) × IsStable m d1
           by o =
-              let left : List (List ℕ) = opened_bodies (has_areas (m.seen d0)) (held_state old) o.bodies in
+              let left : List (List ℕ) = opened_bodies (m.seen d0) (held_state old) o.bodies in
               let n : IsReplicaOn m new d1 (left ++ step_bodies made.step) = prepared_on m old made.step ready.prepared made.prepared left mid d1 o.now new state opens in
-              (record { bodies = o.bodies; had = o.records; stood = o.stands; has = records_of m d1 new (left ++ step_bodies made.step) n; stands = subst (Stands (left ++ step_bodies made.step)) state n.stands }, n.open_on.rest.settled)
+              (record { bodies = o.bodies; had = o.records; stood = o.stands; has = records_of m d1 new (left ++ step_bodies made.step) n; end = ends_with m d1 new (left ++ step_bodies made.step) n; stands = subst (Stands (left ++ step_bodies made.step)) state n.stands }, n.open_on.rest.settled)
 
       -- it was decided on, and nothing is written
       pub held_back : d1 ≡ mid → HeldBack m hooks request ids d0 d1 p0 p1

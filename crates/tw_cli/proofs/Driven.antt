@@ -32,7 +32,7 @@ use Rattle.timew_store.proofs.Stays.{MayStay, DiskMayStay}
 use Rattle.timew_bridge.specs.Known.{AreDrivers}
 use Rattle.tw_cli.specs.Cause.{end_of, may_write, open_cause, input_cause, refusal_cause, hook_cause, carry_cause, ended}
 use Rattle.tw_cli.specs.Crash.{LeavesRecords, LeavesCommand}
-use Rattle.tw_cli.specs.Driving.{driven, driven_size, is_driving, has_moved, AreUnopened, AreDriven, AreDrivenIf, AreKept, AreLeft}
+use Rattle.tw_cli.specs.Driving.{driven, driven_size, is_driving, has_moved, MayBeLoaded, AreUnopened, AreDriven, AreDrivenIf, AreKept, AreLeft}
 use Rattle.tw_cli.specs.Hooks.{Answered}
 use Rattle.tw_cli.specs.Hours.{HoursWell, HoursCanIf, HoursCan, HoursBy}
 use Rattle.tw_cli.specs.Input.{WithInput, with_input}
@@ -48,7 +48,7 @@ use Rattle.tw_cli.specs.declared.input.InputError.TheVariants as input
 use Rattle.tw_cli.specs.declared.cause.Cause.{Cause}
 use Rattle.tw_cli.specs.declared.cause.Cause.TheVariants as causes
 use Rattle.tw_cli.proofs.Carrying.{above_limit, runs_so, held_back, can_leads, here, answered_there, passes_limit, fits_always, has_answers, leaves_written}
-use Rattle.tw_cli.proofs.LoadedHours.{unopened_kept, loaded_alike, left_unloaded, unloaded_wants, loaded_stays, have_become}
+use Rattle.tw_cli.proofs.LoadedHours.{unopened_kept, loaded_alike, left_unloaded, unloaded_wants, may_be_loaded, loaded_stays, have_become}
 use Rattle.tw_cli.proofs.Endings.{carry_fails}
 use Rattle.tw_cli.proofs.Openings.{rose_later, opens_to, stays_open}
 use Rattle.tw_cli.proofs.Taking.{took_same}
@@ -73,6 +73,7 @@ module _ {F J : Type 0} (folders : FolderModel F) (tracks : DiskModel J) where
     left_opening opening.Disk u = unopened_kept folders tracks f0 f1 j0 j1 u
     left_opening (opening.Damaged offset) u = u
     left_opening opening.Memory u = unopened_kept folders tracks f0 f1 j0 j1 u
+    left_opening (opening.TooLong bytes) u = unopened_kept folders tracks f0 f1 j0 j1 u
 
     left_taking : (e : InputError) → AreUnopened folders tracks f0 f1 j0 j1 → AreLeft folders tracks f0 f1 j0 j1 (input_cause e)
     left_taking input.Fault u = u
@@ -127,6 +128,11 @@ module _ {F J : Type 0} (folders : FolderModel F) (tracks : DiskModel J) where
     ready_stays folder_stays disk_stays (Some b) now new None ready = (unopened_kept folders tracks f0 f1 j0 j1 ready.1).stays
     ready_stays folder_stays disk_stays (Some b) now new (Some change) ready = loaded_stays folders tracks ready.1.store f0 f1 j0 j1 ready.1.loads folder_stays disk_stays
 
+    -- a change that is ready is one of hours that were loaded
+    ready_loaded : (before : Option Before) (now : ℕ) (new : State) (change : PreparedChange) → AreReady folders tracks now before new f0 f1 j0 j1 (Some change) → MayBeLoaded folders tracks f0 j0
+    ready_loaded None now new change ready = absurd ready
+    ready_loaded (Some b) now new change ready = may_be_loaded folders tracks ready.1.store f0 f1 j0 j1 ready.1.loads
+
   pub both_unopened : (f0 f1 f2 : F) (j0 j1 j2 : J) → AreUnopened folders tracks f0 f1 j0 j1 → AreUnopened folders tracks f1 f2 j1 j2 → AreUnopened folders tracks f0 f2 j0 j2
   both_unopened f0 f1 f2 j0 j1 j2 one two = (two.0 ∙ one.0, two.1 ∙ one.1)
 
@@ -142,6 +148,11 @@ module _ {F J : Type 0} (folders : FolderModel F) (tracks : DiskModel J) where
     failed_since : (hours : Option PreparedChange) → HoursEnd folders tracks f1 f2 j1 j2 hours false → Rose (folders.faults f0) (folders.faults f2) ⊎ Rose (tracks.faults j0) (tracks.faults j2)
     failed_since None ends = absurd (let e : false ≡ true = ends.0 in cc)
     failed_since (Some change) ends = rose_since ends
+
+    -- and they were loaded before
+    failed_loaded : (before : Option Before) (now : ℕ) (new : State) (hours : Option PreparedChange) → AreReady folders tracks now before new f0 f1 j0 j1 hours → HoursEnd folders tracks f1 f2 j1 j2 hours false → MayBeLoaded folders tracks f0 j0
+    failed_loaded before now new None ready ends = absurd (let e : false ≡ true = ends.0 in cc)
+    failed_loaded before now new (Some change) ready ends = ready_loaded f0 f1 j0 j1 before now new change ready
 
   -- the hours after a command that was carried out
   module _ (f0 f1 f2 : F) (j0 j1 j2 : J) (request : Request) (old new : State) where
@@ -210,7 +221,10 @@ module _ {D P F J : Type 0} (m : DiskModel D) (hooks : SpawnerModel P) (folders 
   }
 
   hours_left : MayStay folders → DiskMayStay tracks → (e : CarryError) → EndsReady m folders tracks made mid d1 f0 f1 j0 j1 (Some e) → AreLeft folders tracks f0 f1 j0 j1 (carry_cause e)
-  hours_left folder_stays disk_stays carry.Track r = failed_since folders tracks f0 r.mid f1 j0 r.track j1 r.folder_kept r.track_kept r.hours r.ends.1
+  hours_left folder_stays disk_stays carry.Track r = (
+    failed_since folders tracks f0 r.mid f1 j0 r.track j1 r.folder_kept r.track_kept r.hours r.ends.1,
+    inr (failed_loaded folders tracks f0 r.mid f1 j0 r.track j1 r.folder_kept r.track_kept made.before made.at.seconds (prepared_state made.ready.prepared) r.hours r.ready r.ends.1),
+  )
   hours_left folder_stays disk_stays carry.Disk r = then_alone folders tracks f0 r.mid f1 j0 r.track j1 (ready_kept folder_stays disk_stays (Some carry.Disk) r) r.ends.1
   hours_left folder_stays disk_stays (carry.TooLong bytes) r = then_alone folders tracks f0 r.mid f1 j0 r.track j1 (ready_kept folder_stays disk_stays (Some (carry.TooLong bytes)) r) r.ends.1
   hours_left folder_stays disk_stays (carry.Open e) r = absurd r.ends

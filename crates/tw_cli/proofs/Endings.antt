@@ -1,5 +1,5 @@
 -- How a run ends once its text is known, or once it has failed.
-use Rattle.std.proofs.Common.{◌≡◌, inl, inr, sym, subst, refl, List, ℕ}
+use Rattle.std.proofs.Common.{◌≡◌, inl, inr, sym, subst, refl, List, ℕ, Ok, Err}
 use Rattle.tw_world.specs.Disk.{DiskModel, Rose}
 use Rattle.tw_world.specs.Sink.{SinkModel, Got, GotPart}
 use Rattle.tw_world.specs.Source.{SourceModel}
@@ -22,7 +22,12 @@ use Rattle.tw_changes.specs.declared.refusal.Refusal.TheVariants as refusal
 use Rattle.tw_ending.specs.Ending.{EndsPrinting}
 use Rattle.tw_ending.specs.Ending.End.{Failed}
 use Rattle.tw_cli.specs.Cause.{end_of, open_cause, input_cause, refusal_cause, hook_cause, track_cause, load_cause, carry_cause, journal_cause, sync_cause, failure_cause}
-use Rattle.tw_cli.specs.Run.{NotCarried, GivesBy, Gives, IsDoneOrWant}
+use Rattle.tw_cli.specs.Run.{NotCarried, GivesBy, Gives, IsDoneOrWant, IsDoneOrTaken, IsWantOrTaken}
+use Rattle.tw_sync.specs.Start.{Start}
+use Rattle.tw_sync.specs.declared.report.SyncReport.{SyncReport}
+use Rattle.tw_cli.specs.Text.{synced_text}
+use Rattle.tw_cli.specs.Crash.{LeavesSync}
+use Rattle.tw_cli.specs.SyncRuns.{SyncRuns, SyncEndsRun}
 use Rattle.tw_cli.specs.Syncing.{NotSynced, SyncGivesBy, SyncGives}
 use Rattle.tw_settings.specs.declared.server.ServerSettings.{ServerSettings}
 use Rattle.tw_replica.specs.declared.error.OpenError.{OpenError}
@@ -42,6 +47,7 @@ open_fails : (e : OpenError) → end_of (open_cause e) ≡ Failed
 open_fails opening.Disk = refl
 open_fails (opening.Damaged offset) = refl
 open_fails opening.Memory = refl
+open_fails (opening.TooLong bytes) = refl
 
 refusal_fails : (r : Refusal) → end_of (refusal_cause r) ≡ Failed
 refusal_fails refusal.NoMatch = refl
@@ -113,9 +119,9 @@ pub failed_gives : {D S P O : Type 0} (m : DiskModel D) (sources : SourceModel S
 failed_gives m sources hooks request ids d0 d1 i0 i1 p0 p1 s o e cause is why =
     subst (Gives m sources hooks request ids d0 d1 i0 i1 p0 p1 s o o) (sym is) (subst (GivesBy m sources hooks request ids d0 d1 i0 i1 p0 p1 s o o (carry_cause e)) (sym (carry_fails e)) (e, refl, why, refl))
 
-pub failed_sync_gives : {D O L : Type 0} (m : DiskModel D) (s : SinkModel O) (links : LinkModel L) (server : ServerSettings) (d0 d1 : D) (o : O) (l0 l1 : L) (e : SyncFailure) (cause : Cause) → cause ≡ failure_cause e → NotSynced m links server d0 d1 l0 l1 e → SyncGives m s links server d0 d1 o o l0 l1 cause
-failed_sync_gives m s links server d0 d1 o l0 l1 e cause is why =
-    subst (SyncGives m s links server d0 d1 o o l0 l1) (sym is) (subst (SyncGivesBy m s links server d0 d1 o o l0 l1 (failure_cause e)) (sym (failure_fails e)) (e, refl, why, refl))
+failed_sync_gives : {D O L : Type 0} (m : DiskModel D) (s : SinkModel O) (links : LinkModel L) (server : ServerSettings) (start : Start) (d0 d1 : D) (o : O) (l0 l1 : L) (e : SyncFailure) (cause : Cause) → cause ≡ failure_cause e → NotSynced m links server start d0 d1 l0 l1 e → SyncGives m s links server start d0 d1 o o l0 l1 cause
+failed_sync_gives m s links server start d0 d1 o l0 l1 e cause is why =
+    subst (SyncGives m s links server start d0 d1 o o l0 l1) (sym is) (subst (SyncGivesBy m s links server start d0 d1 o o l0 l1 (failure_cause e)) (sym (failure_fails e)) (e, refl, why, refl))
 
 -- ---- a text is printed
 
@@ -128,3 +134,39 @@ module _ {O : Type 0} (s : SinkModel O) (o0 o1 : O) (text : List ℕ) (cause : C
   pub ends_well : EndsPrinting s o0 o1 text Done OutFault cause → (Rose (s.faults o0) (s.faults o1) → ⊥) → IsDoneOrWant cause
   ends_well (inl done) well = inl done.0
   ends_well (inr failed) well = absurd (well failed.2)
+
+-- ---- a sync
+
+module _ {D O L : Type 0} (m : DiskModel D) (s : SinkModel O) (links : LinkModel L) (server : ServerSettings) (d0 d1 : D) where
+  -- it was done, and its text is printed
+  pub synced_ends : (o0 o1 : O) (l0 l1 : L) (report : SyncReport) (text : List ℕ) (cause : Cause) → text ≡ synced_text report → EndsPrinting s o0 o1 text Done OutFault cause → SyncRuns m links server d0 d1 l0 l1 (Ok report) → SyncEndsRun m s links server d0 d1 o0 o1 l0 l1 cause
+  synced_ends o0 o1 l0 l1 report text cause is print run =
+      let start = run.0.start in
+      let begun = run.0.begun in
+      let left : LeavesSync m links server start d0 d1 begun l1 Done = run.1.any_moment in (
+        run.0,
+        record {
+          gives = at_end s o0 o1 text cause (SyncGives m s links server start d0 d1 o0 o1 begun l1) print (λ got. (report, run.1.synced, subst (Got s o0 o1) is got)) (λ part rose. ((report, run.1.synced, subst (GotPart s o0 o1) is part), rose));
+          complete = λ can well. inl (ends_well s o0 o1 text cause print well);
+          any_moment = at_end s o0 o1 text cause (LeavesSync m links server start d0 d1 begun l1) print (λ got. left) (λ part rose tells. let r = left tells in record { next = r.next; made = r.made; end = r.end; leaves = r.leaves });
+          grows = run.1.grows;
+          link_kept = run.1.link_kept;
+        },
+      )
+
+  -- it was not done
+  pub failed_ends : (o : O) (l0 l1 : L) (e : SyncFailure) (cause : Cause) → cause ≡ failure_cause e → SyncRuns m links server d0 d1 l0 l1 (Err e) → SyncEndsRun m s links server d0 d1 o o l0 l1 cause
+  failed_ends o l0 l1 e cause is run = (
+    run.0,
+    record {
+      gives = failed_sync_gives m s links server run.0.start d0 d1 o run.0.begun l1 e cause is run.1.refused;
+      complete = λ can well. subst IsDoneOrTaken (sym is) (wants_or (failure_cause e) (run.1.complete can));
+      any_moment = subst (LeavesSync m links server run.0.start d0 d1 run.0.begun l1) (sym is) run.1.any_moment;
+      grows = run.1.grows;
+      link_kept = run.1.link_kept;
+    },
+  )
+    where
+      wants_or : (c : Cause) → IsWantOrTaken c → IsDoneOrTaken c
+      wants_or c (inl want) = inl (inr want)
+      wants_or c (inr taken) = inr taken

@@ -8,7 +8,6 @@ use Rattle.tw_spawn.specs.Spawner.{SpawnerModel}
 use Rattle.tw_model.specs.Ops.{TaskValue}
 use Rattle.tw_world.specs.declared.ids.IdWords.{IdWords}
 use Rattle.tw_world.proofs.Moments.{CountsNow, OnlyNow, started, weaker}
-use Rattle.tw_journal.specs.Form.{has_areas}
 use Rattle.tw_journal.specs.Open.{Records, IsImageThen}
 use Rattle.tw_journal.proofs.Unique.{one_records}
 use Rattle.tw_model.specs.declared.changes.Change.{Change}
@@ -20,10 +19,16 @@ use Rattle.tw_replica.specs.Prepared.{step_bodies}
 use Rattle.tw_replica.specs.Replica.{magic, OpensTo, OpensToEither}
 use Rattle.tw_replica.specs.Opening.{IsOpening, opened_bodies}
 use Rattle.tw_state.proofs.CommittedChanges.{changes_are_group}
+use Rattle.tw_outcome.specs.End.{Answer}
 use Rattle.tw_outcome.specs.End.Answer.{Done as DoneSync}
-use Rattle.tw_sync.specs.End.{counts_of}
-use Rattle.tw_sync.specs.Answers.{IsLinkKept}
-use Rattle.tw_sync.specs.Sync.{server_chain, IsEndIn}
+use Rattle.tw_sync.specs.End.{EndFrom, counts_of}
+use Rattle.tw_outcome.specs.Start.{starts_at}
+use Rattle.tw_sync.specs.Start.{Start, from_state, MayStart, IsSoundStart}
+use Rattle.tw_sync.proofs.ReplicaMoved.{starts_soundly}
+use Rattle.tw_sync.proofs.Beginnings.{ends_before}
+use Rattle.tw_sync.proofs.Served.{grows_on}
+use Rattle.tw_cli.proofs.Starting.{if_sound}
+use Rattle.tw_sync.specs.Sync.{server_chain, IsEndIn, IsSyncOf}
 use Rattle.tw_sync.specs.World.{IsAmong, IsCommit, Makes, with_next, Runs}
 use Rattle.tw_sync.specs.declared.report.SyncReport.{SyncReport}
 use Rattle.tw_settings.specs.declared.server.ServerSettings.{ServerSettings}
@@ -44,8 +49,8 @@ use Rattle.tw_ending.specs.Ending.End.{Well, Output, Failed}
 use Rattle.tw_cli.specs.Cause.{end_of}
 use Rattle.tw_cli.specs.Crash.{LeavesRecords, IsStepOf, LeavesEither, LeavesCommand, LeavesOneEnd, LeavesSync, new_of, next_of}
 use Rattle.tw_cli.specs.Syncing.{Synced, SyncGivesBy}
-use Rattle.tw_cli.specs.Whole.{Models, Outside, IsHonestFor, IsRun}
-use Rattle.tw_cli.specs.Events.{OpensAmong, StandsFor, IsChainFor, OpensReplica, RunsOn}
+use Rattle.tw_cli.specs.Whole.{Models, Outside, from_link, IsHonestFor, IsRunFrom, IsRun}
+use Rattle.tw_cli.specs.Events.{OpensAmong, StandsFor, IsChainFor, OpensReplica, RunsOn, IsEvent}
 use Rattle.tw_cli.specs.declared.asked.Job.{Job}
 use Rattle.tw_cli.specs.declared.asked.Job.TheVariants.{Here, Sync, Generate}
 use Rattle.tw_cli.specs.declared.asked.LineError.{LineError}
@@ -185,7 +190,7 @@ module _ {D S O L P : Type 0} (m : DiskModel D) (sources : SourceModel S) (s : S
   here = stands (m.seen d0) (seen_may_stay d0 tells)
 
   opens_more : (more : List (List ℕ)) (old new : State) → HasMore (m.seen d0) (m.seen d1) more old new → OpensTo (m.seen d1) new
-  opens_more more old new h = record { bodies = opened_bodies (has_areas (m.seen d0)) old h.bodies ++ more; records = h.has; stands = h.stands }
+  opens_more more old new h = record { bodies = opened_bodies (m.seen d0) old h.bodies ++ more; records = h.has; stands = h.stands }
 
   opened_is : (more : List (List ℕ)) (old new : State) → HasMore (m.seen d0) (m.seen d1) more old new → old ≡ here.0
   opened_is more old new h = opens_one (m.seen d0) old here.0 (record { bodies = h.bodies; records = h.had; stands = h.stood }) here.2
@@ -210,29 +215,40 @@ module _ {D S O L P : Type 0} (m : DiskModel D) (sources : SourceModel S) (s : S
       ends_at m d0 d1 states stands tells seen_may_stay counts_now (OpensReplica (Ok (Here request))) cause chain chain (no_growth chain) (λ served. served) (end_of cause) refl (command_known chain (no_growth chain) (λ served. served) request ids (end_of cause) gives)
       (next_of r ids with.2.answers here.0) (command_makes r ids with.2.answers chain chain here.0) (steps_among m d0 d1 states stands tells seen_may_stay (next_of r ids with.2.answers) (leaves_either m (next_of r ids with.2.answers) d0 d1 cause with.2.leaves))
 
-  -- a sync
-  end_makes : (state : State) (next : Option State) → IsEndIn state (server_chain links l0) (server_chain links l1) next → Makes (links.chain l0) (links.chain l1) state next
-  end_makes state None end = tt
-  end_makes state (Some next) end = inr (inr (record { own = links.own l0; own_now = links.own l1; answer = end.0; ended = end.1 }))
+  -- a sync, over a chain that grew while it asked for a snapshot
+  module _ (chain : List Version) (g : Grows chain (links.chain l0)) (start : Start) (sound : IsSoundStart start (links.chain l1)) where
+    makes_sync : (state next : State) → MayStart start state → (answer : Answer) → EndFrom answer start state next (server_chain links l0) (server_chain links l1) → Makes chain (links.chain l1) state (Some next)
+    makes_sync state next may answer ended = inr (inr (record {
+      own = links.own l0;
+      own_now = links.own l1;
+      answer = answer;
+      from = starts_at (from_state start state);
+      sound = starts_soundly start state (links.chain l1) may sound;
+      ended = ends_before answer state (starts_at (from_state start state)) next (record { chain = chain; own = links.own l0 }) (server_chain links l0) (server_chain links l1) g refl ended;
+    }))
 
-  synced_known : (server : ServerSettings) (report : SyncReport) → IsHonest links l0 server.client → Synced m links server d0 d1 l0 l1 report → (one : State) × Makes (links.chain l0) (links.chain l1) here.0 (Some one) × IsStable m d1 × OpensTo (m.seen d1) one
-  synced_known server report honest run =
-      let has = run.disk tells in
-      let is : run.old ≡ here.0 = opened_is has.bodies run.old run.new has.more in
-      (run.new, subst (λ state. Makes (links.chain l0) (links.chain l1) state (Some run.new)) is (inr (inr (record { own = links.own l0; own_now = links.own l1; answer = DoneSync (counts_of report); ended = run.ended honest }))), has.settled, opens_more has.bodies run.old run.new has.more)
+    end_makes : (state : State) (next : Option State) → IsSyncOf start state next → IsEndIn start state (server_chain links l0) (server_chain links l1) next → Makes chain (links.chain l1) state next
+    end_makes state None made end = tt
+    end_makes state (Some next) made end = makes_sync state next made.1.may end.0 end.1
 
-  sync_known : (grows : Grows (links.chain l0) (links.chain l1)) (served : IsServedChain (links.chain l0) → IsServedChain (links.chain l1)) (server : ServerSettings) → IsHonest links l0 server.client → (end : End) → SyncGivesBy m s links server d0 d1 o0 o1 l0 l1 cause end
-      → IsKnownAt m d0 d1 states stands tells seen_may_stay counts_now (OpensReplica (Ok (Sync server))) cause (links.chain l0) (links.chain l1) grows served end
-  sync_known grows served server honest Well g = synced_known server g.0 honest g.1
-  sync_known grows served server honest Output g = synced_known server g.0.0 honest g.0.1
-  sync_known grows served server honest Failed g = tt
+    synced_known : (server : ServerSettings) (report : SyncReport) → IsHonest links l0 server.client → Synced m links server start d0 d1 l0 l1 report → (one : State) × Makes chain (links.chain l1) here.0 (Some one) × IsStable m d1 × OpensTo (m.seen d1) one
+    synced_known server report honest run =
+        let has = run.disk tells in
+        let is : run.old ≡ here.0 = opened_is has.bodies run.old run.new has.more in
+        (run.new, subst (λ state. Makes chain (links.chain l1) state (Some run.new)) is (makes_sync run.old run.new run.may (DoneSync (counts_of report)) (run.ended honest)), has.settled, opens_more has.bodies run.old run.new has.more)
 
-  sync_runs : Grows (links.chain l0) (links.chain l1) → (IsServedChain (links.chain l0) → IsServedChain (links.chain l1)) → (server : ServerSettings) → IsHonest links l0 server.client → SyncGivesBy m s links server d0 d1 o0 o1 l0 l1 cause (end_of cause) → LeavesSync m links server d0 d1 l0 l1 cause
-      → RunsOn m d0 d1 (OpensReplica (Ok (Sync server))) cause (links.chain l0) (links.chain l1) states
-  sync_runs grows served server honest gives run =
-      let r : LeavesOneEnd m links server d0 d1 l0 l1 cause = run tells in
-      ends_at m d0 d1 states stands tells seen_may_stay counts_now (OpensReplica (Ok (Sync server))) cause (links.chain l0) (links.chain l1) grows served (end_of cause) refl (sync_known grows served server honest (end_of cause) gives)
-      r.next (end_makes here.0 r.next (r.end honest here.0 here.2)) (steps_among m d0 d1 states stands tells seen_may_stay (λ state. r.next) (leaves_either m (λ state. r.next) d0 d1 cause r.leaves))
+    sync_known : (grows : Grows chain (links.chain l1)) (served : IsServedChain chain → IsServedChain (links.chain l1)) (server : ServerSettings) → IsHonest links l0 server.client → (end : End) → SyncGivesBy m s links server start d0 d1 o0 o1 l0 l1 cause end
+        → IsKnownAt m d0 d1 states stands tells seen_may_stay counts_now (OpensReplica (Ok (Sync server))) cause chain (links.chain l1) grows served end
+    sync_known grows served server honest Well g = synced_known server g.0 honest g.1
+    sync_known grows served server honest Output g = synced_known server g.0.0 honest g.0.1
+    sync_known grows served server honest Failed g = tt
+
+    sync_runs : Grows chain (links.chain l1) → (IsServedChain chain → IsServedChain (links.chain l1)) → (server : ServerSettings) → IsHonest links l0 server.client → SyncGivesBy m s links server start d0 d1 o0 o1 l0 l1 cause (end_of cause) → LeavesSync m links server start d0 d1 l0 l1 cause
+        → RunsOn m d0 d1 (OpensReplica (Ok (Sync server))) cause chain (links.chain l1) states
+    sync_runs grows served server honest gives run =
+        let r : LeavesOneEnd m links server start d0 d1 l0 l1 cause = run tells in
+        ends_at m d0 d1 states stands tells seen_may_stay counts_now (OpensReplica (Ok (Sync server))) cause chain (links.chain l1) grows served (end_of cause) refl (sync_known grows served server honest (end_of cause) gives)
+        r.next (end_makes here.0 r.next (r.made here.0 here.2) (r.end honest here.0 here.2)) (steps_among m d0 d1 states stands tells seen_may_stay (λ state. r.next) (leaves_either m (λ state. r.next) d0 d1 cause r.leaves))
 
   -- nothing is opened
   nothing_runs : OnlyNow m → (asked : Result Job LineError) → (OpensReplica asked → ⊥) → (chain : List Version) → d1 ≡ d0 → RunsOn m d0 d1 (OpensReplica asked) cause chain chain states
@@ -248,17 +264,27 @@ module _ {D S O L P F J : Type 0} (m : Models D S O L P F J) (w : Outside D S O 
   nothing_happens : OnlyNow m.disk → (asked : Result Job LineError) → (OpensReplica asked → ⊥) → (chain : List Version) → w.d1 ≡ w.d0 → Happens (OpensReplica asked) chain chain
   nothing_happens = nothing_runs m.disk m.source m.sink m.link m.spawner w.d0 w.d1 w.i0 w.i1 w.o0 w.o1 w.l0 w.l1 w.p0 w.p1 states stands tells seen_may_stay counts_now cause
 
-  -- a run of a command line, whatever it asks for, is an event
-  pub runs_on : OnlyNow m.disk → ((link : L) → IsChainOf m.link link) → (asked : Result Job LineError) (old new : IdWords) → IsRun m asked old new w cause → IsHonestFor m.link asked w.l0 → (chain now : List Version) → IsChainFor m.link asked w.l0 w.l1 chain now
-      → Happens (OpensReplica asked) chain now
-  runs_on only_now tells_chain (Ok (Here request)) old new run honest chain now same =
+  -- a run of a command line, whatever it asks for, is an event, also over a chain that grew before it
+  pub runs_on : OnlyNow m.disk → ((link : L) → IsChainOf m.link link) → (start : Start) → IsSoundStart start (m.link.chain w.l1) → (asked : Result Job LineError) (old : IdWords) → IsRunFrom m start asked old w cause → IsHonestFor m.link asked w.l0
+      → (l0 : L) → Grows (m.link.chain l0) (m.link.chain w.l0) → (chain now : List Version) → IsChainFor m.link asked l0 w.l1 chain now → Happens (OpensReplica asked) chain now
+  runs_on only_now tells_chain start sound (Ok (Here request)) old run honest l0 g chain now same =
       subst (Happens (OpensReplica (Ok (Here request))) chain) (sym same) (command_runs m.disk m.source m.sink m.link m.spawner w.d0 w.d1 w.i0 w.i1 w.o0 w.o1 w.l0 w.l1 w.p0 w.p1 states stands tells seen_may_stay counts_now cause chain request old run.gives.0 run.any_moment)
-  runs_on only_now tells_chain (Ok (Sync server)) old new run honest chain now same =
+  runs_on only_now tells_chain start sound (Ok (Sync server)) old run honest l0 g chain now same =
       let whole : IsServedChain (m.link.chain w.l1) = tells_chain w.l1 (record { honest = subst IsTrue (sym run.link_kept.honest) honest.honest; tells = subst IsTrue (sym run.link_kept.tells_chain) honest.tells }) in
-      let at : Happens (OpensReplica (Ok (Sync server))) (m.link.chain w.l0) (m.link.chain w.l1) =
-      sync_runs m.disk m.source m.sink m.link m.spawner w.d0 w.d1 w.i0 w.i1 w.o0 w.o1 w.l0 w.l1 w.p0 w.p1 states stands tells seen_may_stay counts_now cause (run.grows honest) (λ served. whole) server honest run.gives run.any_moment in
-      subst (λ c. Happens (OpensReplica (Ok (Sync server))) c now) (sym same.0) (subst (Happens (OpensReplica (Ok (Sync server))) (m.link.chain w.l0)) (sym same.1) at)
-  runs_on only_now tells_chain (Ok (Generate line settings)) old new run honest chain now same =
+      let at : Happens (OpensReplica (Ok (Sync server))) (m.link.chain l0) (m.link.chain w.l1) =
+      sync_runs m.disk m.source m.sink m.link m.spawner w.d0 w.d1 w.i0 w.i1 w.o0 w.o1 w.l0 w.l1 w.p0 w.p1 states stands tells seen_may_stay counts_now cause (m.link.chain l0) g start sound
+      (grows_on (m.link.chain l0) (m.link.chain w.l0) (m.link.chain w.l1) g (run.grows honest)) (λ served. whole) server honest run.gives run.any_moment in
+      subst (λ c. Happens (OpensReplica (Ok (Sync server))) c now) (sym same.0) (subst (Happens (OpensReplica (Ok (Sync server))) (m.link.chain l0)) (sym same.1) at)
+  runs_on only_now tells_chain start sound (Ok (Generate line settings)) old run honest l0 g chain now same =
       subst (Happens (OpensReplica (Ok (Generate line settings))) chain) (sym same) (nothing_happens only_now (Ok (Generate line settings)) (λ none. none) chain run.gives.1)
-  runs_on only_now tells_chain (Err error) old new run honest chain now same =
+  runs_on only_now tells_chain start sound (Err error) old run honest l0 g chain now same =
       subst (Happens (OpensReplica (Err error)) chain) (sym same) (nothing_happens only_now (Err error) (λ none. none) chain run.gives.1)
+
+module _ {D S O L P F J : Type 0} (m : Models D S O L P F J) (w : Outside D S O L P F J) where
+  pub is_event : ((disk : D) → Tells m.disk disk → m.disk.leaves disk (m.disk.seen disk)) → CountsNow m.disk → OnlyNow m.disk → ((link : L) → IsChainOf m.link link)
+      → (asked : Result Job LineError) (old new : IdWords) (cause : Cause) → IsRun m asked old new w cause → IsEvent m.disk m.link asked w cause
+  is_event seen_may_stay counts_now only_now tells_chain asked old new cause run chain now states tells honest sound stands same =
+      if_sound m.disk m.link w.d0 w.l0 w.l1 asked (λ start begun. IsRunFrom m start asked old (from_link w begun) cause) (RunsOn m.disk w.d0 w.d1 (OpensReplica asked) cause chain now states) tells honest sound
+      (λ start begun at known.
+      runs_on m (from_link w begun) states stands tells seen_may_stay counts_now cause only_now tells_chain start at.sound asked old known at.honest w.l0 at.grows chain now same)
+      run.run

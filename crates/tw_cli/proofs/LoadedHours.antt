@@ -1,5 +1,5 @@
 -- Hours that were loaded, seen from before the loading.
-use Rattle.std.proofs.Common.{◌≡◌, ◌⊎◌, inl, inr, ℕ, List, ◌++◌, true, false, Result, Option, Some, None, Ok, Err, refl, sym, ap, subst, ◌∙◌, length, arith}
+use Rattle.std.proofs.Common.{◌≡◌, ◌⊎◌, inl, inr, ℕ, List, ◌++◌, true, false, Result, Option, Some, None, Ok, Err, refl, sym, ap, subst, ◌∙◌, length}
 use Rattle.tw_world.specs.Disk.{DiskModel, Rose}
 use Rattle.tw_world.specs.Folder.{Files, FolderModel}
 use Rattle.tw_world.specs.Crash.{IsStable}
@@ -35,7 +35,7 @@ use Rattle.timew_store.proofs.Stays.{MayStay, DiskMayStay}
 use Rattle.timew_bridge.specs.declared.drivers.Drivers.{Drivers}
 use Rattle.timew_bridge.specs.Known.{AreDrivers}
 use Rattle.tw_cli.specs.Cause.{load_cause}
-use Rattle.tw_cli.specs.Driving.{driven, Opens, AreUnopened, HaveBecome, AreKept, AreLeft}
+use Rattle.tw_cli.specs.Driving.{driven, Opens, MayBeLoaded, AreUnopened, HaveBecome, AreKept, AreLeft}
 use Rattle.tw_cli.specs.Ready.{CanBeWritten, AreReady, ChangeEnds, PassesHours, LeavesLoaded}
 use Rattle.tw_cli.specs.declared.hours.Before.{Before}
 use Rattle.tw_cli.specs.declared.cause.Cause.TheVariants as causes
@@ -76,8 +76,8 @@ module _ {F J : Type 0} (m : FolderModel F) (n : DiskModel J) where
 
   module _ (f0 f1 : F) (j0 j1 : J) where
     pub left_unloaded : (e : LoadError) → LoadRefused m n f0 f1 j0 j1 e → (LoadSparesDisk e → Stays m n f0 f1 j0 j1) → LeavesAlike m n f0 f1 j0 j1 → AreLeft m n f0 f1 j0 j1 (load_cause e)
-    left_unloaded load.Folder r stays alike = inl r
-    left_unloaded (load.Journal fault.Disk) r stays alike = inr r.1
+    left_unloaded load.Folder r stays alike = (inl r, inl (record { stays = inr (stays tt); any_moment = alike }))
+    left_unloaded (load.Journal fault.Disk) r stays alike = (inr r.1, inl (record { stays = inl r.0; any_moment = alike }))
     left_unloaded (load.Journal fault.Memory) r stays alike = record { stays = stays tt; any_moment = alike }
     left_unloaded (load.Journal (fault.Damaged offset)) r stays alike = (r.0, r.1, record { stays = stays tt; any_moment = alike })
     left_unloaded (load.Journal (fault.TooLong bytes)) r stays alike = absurd r.1
@@ -155,6 +155,19 @@ module _ {F J : Type 0} (m : FolderModel F) (n : DiskModel J) where
       size_is : (bytes : ℕ) (after : List Interval) → OnFolders store.months (λ files. bytes ≡ length (row_of_records (change_bodies (changes_to files after))))
           → bytes ≡ length (row_of_records (change_bodies (changes_to held.files after)))
       size_is bytes after size = subst (λ (files : Files). bytes ≡ length (row_of_records (change_bodies (changes_to files after)))) files_same (size (m.seen f1) (is_loaded.months opens.told))
+
+    -- what was loaded can be
+    pub may_be_loaded : MayBeLoaded m n f0 j0
+    may_be_loaded told tells =
+        let is = loads tells in
+        record {
+          bodies = is.bodies;
+          records = is.records;
+          last = is.last;
+          last_is = is.last_is;
+          rows = intervals_of store;
+          read = ap rows_of (sym (is.finished_now told)) ∙ (is.months told).rows_are;
+        }
 
     -- what was loaded, and not changed, opens to what it did
     pub loaded_stays : MayStay m → DiskMayStay n → Stays m n f0 f1 j0 j1

@@ -1,5 +1,5 @@
 -- What is read of a source, piece by piece.
-use Rattle.std.proofs.Common.{◌≡◌, ◌∙◌, ◌+◌, ◌<◌, ◌≤◌, ◌++◌, refl, ap, sym, arith, length, length-append, take, drop, append_assoc, List, [], ℕ}
+use Rattle.std.proofs.Common.{◌≡◌, ◌∙◌, ◌+◌, ◌<◌, ◌≤◌, ◌++◌, ap, sym, arith, length, length-append, take, drop, append_assoc, List, [], ℕ}
 use Rattle.std.proofs.lemmas.List.{append-nil, take-append-drop, length-take-le}
 use Rattle.std.proofs.Math.Seq.{drop-append_seam}
 use Rattle.tw_world.specs.Source.{SourceModel, Gave, IsFront, TellsRest}

@@ -1,11 +1,10 @@
 -- All that is known of a run, by what it asks for.
-use Rattle.std.proofs.Common.{◌≡◌, ◌∙◌, ap, ◌⊎◌, inl, inr, refl, sym, subst, List, None, Result, Ok, Err, arith}
+use Rattle.std.proofs.Common.{◌≡◌, ◌∙◌, ap, inl, inr, refl, sym, subst, List, None, Result, Ok, Err, arith}
 use Rattle.tw_world.specs.Disk.{FaultsRise, Rose}
 use Rattle.tw_world.specs.declared.ids.IdWords.{IdWords}
 use Rattle.tw_world.proofs.Moments.{OnlyNow}
 use Rattle.tw_protocol.specs.Chain.{Grows}
 use Rattle.tw_sync.proofs.Served.{grows_same}
-use Rattle.tw_sync.specs.declared.error.ReplyKind.TheVariants.{Status}
 use Rattle.tw_sync.specs.Answers.{IsLinkKept}
 use Rattle.tw_http.specs.Link.{IsHonest}
 use Rattle.tw_words.specs.Lines.{Parts}
@@ -17,13 +16,18 @@ use Rattle.tw_cli.specs.Hooks.{HooksKept}
 use Rattle.tw_cli.specs.Hours.{HoursCan, DrivesHours}
 use Rattle.tw_cli.specs.Input.{IsInputKept}
 use Rattle.tw_cli.specs.Run.{Gives, CanEnd, Draws, IsDoneOrWant}
-use Rattle.tw_cli.specs.Syncing.{SyncGives, CanBeSynced}
+use Rattle.tw_sync.specs.Start.{Start}
+use Rattle.tw_sync.specs.Start.Start.{Base}
+use Rattle.tw_state.specs.State as states
+use Rattle.tw_cli.specs.Syncing.{SyncStart}
+use Rattle.tw_cli.specs.SyncRuns.{SyncEndsRun}
 use Rattle.tw_cli.specs.Generating.{GenerateGives}
-use Rattle.tw_cli.specs.Crash.{LeavesCommand, LeavesSync}
+use Rattle.tw_cli.specs.Crash.{LeavesCommand}
+use Rattle.tw_cli.specs.Growth.{GrowsByRecord, CommandGrows}
 use Rattle.tw_settings.specs.declared.server.ServerSettings.{ServerSettings}
 use Rattle.tw_cli.specs.Asked.{IsAsked}
 use Rattle.tw_cli.specs.Cause.{line_cause}
-use Rattle.tw_cli.specs.Whole.{Models, Outside, went, RunGives, EndsWell, RunLeaves, RunDrives, RunDraws, RunSpares, RunKeepsInput, IsRun}
+use Rattle.tw_cli.specs.Whole.{Models, Outside, went, from_link, FromStart, GivesFrom, EndsWellFrom, LeavesFrom, IsRunFrom, RunGives, EndsWell, RunLeaves, RunGrows, RunDrives, RunDraws, RunSpares, RunKeepsInput, IsRun}
 use Rattle.tw_cli.specs.declared.carry.CarryError.TheVariants as carry
 use Rattle.tw_replica.specs.declared.error.OpenError.TheVariants as opening
 use Rattle.tw_replica.proofs.Replaying.{opens_as_before}
@@ -33,10 +37,12 @@ use Rattle.tw_cli.specs.declared.asked.Job.TheVariants.{Here, Sync, Generate}
 use Rattle.tw_cli.specs.declared.asked.LineError.{LineError}
 use Rattle.tw_cli.specs.declared.asked.LineError.TheVariants.{Words}
 use Rattle.tw_cli.specs.declared.cause.Cause.{Cause}
-use Rattle.tw_cli.specs.declared.cause.Cause.TheVariants.{Memory, BadReply}
+use Rattle.tw_cli.specs.declared.cause.Cause.TheVariants.{Memory}
+use Rattle.tw_cli.proofs.Growth.{nothing_grown}
 use Rattle.tw_cli.proofs.LoadedHours.{unopened_kept}
 use Rattle.tw_cli.proofs.Openings.{leaves_as_it_was}
 use Rattle.tw_cli.proofs.Taking.{input_same}
+use Rattle.tw_cli.proofs.Starting.{from_start}
 
 same_error : (found : Result Job LineError) (a b : LineError) → found ≡ Err a → found ≡ Err b → a ≡ b
 same_error found a b is also = cc
@@ -55,12 +61,23 @@ module _ {D S O L P F J : Type 0} (m : Models D S O L P F J) where
   abbrev still : D → S → (o0 o1 : O) → L → P → F → J → Outside D S O L P F J
   still d i o0 o1 l p f j = went d d i i o0 o1 l l p p f f j j
 
-  unchanged_is_run : (asked : Result Job LineError) (ids : IdWords) (d : D) (i : S) (o0 o1 : O) (l : L) (p : P) (f : F) (j : J) (cause : Cause) → RunGives m asked ids (still d i o0 o1 l p f j) cause → EndsWell m asked ids (still d i o0 o1 l p f j) cause
-      → RunLeaves m asked ids (still d i o0 o1 l p f j) cause → RunDraws m.disk m.source asked d i i ids ids cause → RunDrives m asked ids (still d i o0 o1 l p f j) cause → RunSpares asked (still d i o0 o1 l p f j) → RunKeepsInput m.source asked i i → IsRun m asked ids ids (still d i o0 o1 l p f j) cause
-  unchanged_is_run asked ids d i o0 o1 l p f j cause gives complete leaves draws hours spares input_kept = record {
-    gives = gives;
-    complete = complete;
-    any_moment = leaves;
+  -- a sync that asks for nothing
+  abbrev unasked : (server : ServerSettings) (d : D) (l : L) → SyncStart m.disk m.link server d l l
+  unasked server d l = record { start = Base; begun = l; state = states.start; begins = inl refl; of = λ tells other opens. inl refl; sound = λ tells given. tt }
+
+  -- it starts at once
+  at_once : (asked : Result Job LineError) (d : D) (l : L) (P : Start → L → Type 0) → P Base l → FromStart m.disk m.link asked d l l P
+  at_once (Ok (Here request)) d l P p = p
+  at_once (Ok (Sync server)) d l P p = (unasked server d l, p)
+  at_once (Ok (Generate line settings)) d l P p = p
+  at_once (Err error) d l P p = p
+
+  unchanged_is_run : (asked : Result Job LineError) (ids : IdWords) (d : D) (i : S) (o0 o1 : O) (l : L) (p : P) (f : F) (j : J) (cause : Cause) → GivesFrom m Base asked ids (still d i o0 o1 l p f j) cause → EndsWellFrom m Base asked ids (still d i o0 o1 l p f j) cause
+      → LeavesFrom m Base asked ids (still d i o0 o1 l p f j) cause → RunGrows m asked ids (still d i o0 o1 l p f j) cause → RunDraws m.disk m.source asked d i i ids ids cause → RunDrives m asked ids (still d i o0 o1 l p f j) cause → RunSpares asked (still d i o0 o1 l p f j) → RunKeepsInput m.source asked i i → IsRun m asked ids ids (still d i o0 o1 l p f j) cause
+  unchanged_is_run asked ids d i o0 o1 l p f j cause gives complete leaves grown draws hours spares input_kept = record {
+    run = at_once asked d l (λ start begun. IsRunFrom m start asked ids (from_link (still d i o0 o1 l p f j) begun) cause)
+        (record { gives = gives; complete = complete; any_moment = leaves; grows = λ honest. grows_same (m.link.chain l); link_kept = link_same l });
+    growth = grown;
     grows = λ honest. grows_same (m.link.chain l);
     ids = draws;
     hours = hours;
@@ -85,18 +102,18 @@ module _ {D S O L P F J : Type 0} (m : Models D S O L P F J) where
   pub want_is_run : OnlyNow m.disk → (asked : Result Job LineError) (ids : IdWords) (d : D) (i : S) (o : O) (l : L) (p : P) (f : F) (j : J) → IsRun m asked ids ids (still d i o o l p f j) Memory
   want_is_run only_now (Ok (Here request)) ids d i o l p f j =
       unchanged_is_run (Ok (Here request)) ids d i o o l p f j Memory ((carry.Open opening.Memory, refl, ((λ tells. opens_as_before (m.disk.seen d) (m.disk.seen d) (inl refl)), refl, refl), refl), refl) (λ can well. inr refl)
-      (inl (leaves_as_it_was m.disk only_now d)) (inr (refl, inr (inl refl))) (hours_same request ids d i p f j) ((λ none. refl), λ off. (refl, refl)) (input_same m.source request.command i)
+      (inl (leaves_as_it_was m.disk only_now d)) (inl (nothing_grown m.disk only_now d)) (inr (refl, inr (inl refl))) (hours_same request ids d i p f j) ((λ none. refl), λ off. (refl, refl)) (input_same m.source request.command i)
   want_is_run only_now (Ok (Sync server)) ids d i o l p f j =
       unchanged_is_run (Ok (Sync server)) ids d i o o l p f j Memory (failure.Open opening.Memory, refl, ((λ tells. opens_as_before (m.disk.seen d) (m.disk.seen d) (inl refl)), refl), refl) (λ can well. inl (inr refl))
-      (λ tells. record { next = None; made = λ state opens. tt; end = λ honest state opens. tt; leaves = leaves_as_it_was m.disk only_now d }) refl (refl, refl) (refl, refl, refl) refl
-  want_is_run only_now (Ok (Generate line settings)) ids d i o l p f j = unchanged_is_run (Ok (Generate line settings)) ids d i o o l p f j Memory ((refl, refl), refl, refl, refl) (λ well. inr refl) (leaves_as_it_was m.disk only_now d) refl (refl, refl) (refl, refl, refl) refl
-  want_is_run only_now (Err error) ids d i o l p f j = unchanged_is_run (Err error) ids d i o o l p f j Memory (inr refl, refl, refl, refl, refl) tt (leaves_as_it_was m.disk only_now d) refl (refl, refl) (refl, refl, refl) refl
+      (λ tells. record { next = None; made = λ state opens. tt; end = λ honest state opens. tt; leaves = leaves_as_it_was m.disk only_now d }) (nothing_grown m.disk only_now d) refl (refl, refl) (refl, refl, refl) refl
+  want_is_run only_now (Ok (Generate line settings)) ids d i o l p f j = unchanged_is_run (Ok (Generate line settings)) ids d i o o l p f j Memory ((refl, refl), refl, refl, refl) (λ well. inr refl) (leaves_as_it_was m.disk only_now d) (nothing_grown m.disk only_now d) refl (refl, refl) (refl, refl, refl) refl
+  want_is_run only_now (Err error) ids d i o l p f j = unchanged_is_run (Err error) ids d i o o l p f j Memory (inr refl, refl, refl, refl, refl) tt (leaves_as_it_was m.disk only_now d) (nothing_grown m.disk only_now d) refl (refl, refl) (refl, refl, refl) refl
 
   -- nothing is done
   pub error_is_run : OnlyNow m.disk → (asked : Result Job LineError) (error : LineError) (ids : IdWords) (d : D) (i : S) (o : O) (l : L) (p : P) (f : F) (j : J) (cause : Cause) → cause ≡ line_cause error → IsAsked asked (Err error)
       → IsRun m asked ids ids (still d i o o l p f j) cause
   error_is_run only_now asked error ids d i o l p f j cause is (inl refused) = subst (λ (a : Result Job LineError). IsRun m a ids ids (still d i o o l p f j) cause) refused
-      (unchanged_is_run (Err error) ids d i o o l p f j cause (inl is, refl, refl, refl, refl) tt (leaves_as_it_was m.disk only_now d) refl (refl, refl) (refl, refl, refl) refl)
+      (unchanged_is_run (Err error) ids d i o o l p f j cause (inl is, refl, refl, refl, refl) tt (leaves_as_it_was m.disk only_now d) (nothing_grown m.disk only_now d) refl (refl, refl) (refl, refl, refl) refl)
   error_is_run only_now asked error ids d i o l p f j cause is (inr want) =
       let same : error ≡ Words wrong.Memory = same_error (Err error) error (Words wrong.Memory) refl want in
       subst (IsRun m asked ids ids (still d i o o l p f j)) (sym (is ∙ ap line_cause same)) (want_is_run only_now asked ids d i o l p f j)
@@ -105,13 +122,13 @@ module _ {D S O L P F J : Type 0} (m : Models D S O L P F J) where
   pub command_is_run : (asked : Result Job LineError) (request : Request) (old new : IdWords) (d0 d1 : D) (i0 i1 : S) (o0 o1 : O) (l : L) (p0 p1 : P) (f0 f1 : F) (j0 j1 : J) (cause : Cause) → asked ≡ Ok (Here request)
       → Gives m.disk m.source m.spawner request old d0 d1 i0 i1 p0 p1 m.sink o0 o1 cause
       → ((can : CanEnd m.disk m.source m.spawner request old d0 d1 i0 i1 p0 p1 m.sink o0 o1) → HoursCan m.folder m.track can.can f0 f1 j0 j1 → IsDoneOrWant cause) → LeavesCommand m.disk m.source m.spawner request old d0 d1 i0 i1 p0 p1 cause
+      → CommandGrows m.disk m.source m.spawner request old d0 d1 i0 i1 p0 p1 cause
       → DrivesHours m.disk m.source m.spawner m.folder m.track request old d0 d1 i0 i1 p0 p1 f0 f1 j0 j1 cause
       → Draws m.disk m.source request d0 i0 i1 old new cause → FaultsRise m.disk d0 d1 → IsInputKept m.source request.command i0 i1 → HooksKept m.spawner request p0 p1
       → IsRun m asked old new (went d0 d1 i0 i1 o0 o1 l l p0 p1 f0 f1 j0 j1) cause
-  command_is_run asked request old new d0 d1 i0 i1 o0 o1 l p0 p1 f0 f1 j0 j1 cause here gives complete leaves hours draws kept input_kept hooks_kept = subst (λ (a : Result Job LineError). IsRun m a old new (went d0 d1 i0 i1 o0 o1 l l p0 p1 f0 f1 j0 j1) cause) (sym here) (record {
-    gives = (gives, refl);
-    complete = complete;
-    any_moment = leaves;
+  command_is_run asked request old new d0 d1 i0 i1 o0 o1 l p0 p1 f0 f1 j0 j1 cause here gives complete leaves grown hours draws kept input_kept hooks_kept = subst (λ (a : Result Job LineError). IsRun m a old new (went d0 d1 i0 i1 o0 o1 l l p0 p1 f0 f1 j0 j1) cause) (sym here) (record {
+    run = record { gives = (gives, refl); complete = complete; any_moment = leaves; grows = λ honest. grows_same (m.link.chain l); link_kept = link_same l };
+    growth = grown;
     grows = λ honest. grows_same (m.link.chain l);
     ids = draws;
     hours = hours;
@@ -124,13 +141,11 @@ module _ {D S O L P F J : Type 0} (m : Models D S O L P F J) where
 
   -- a sync is asked for
   pub sync_is_run : (asked : Result Job LineError) (server : ServerSettings) (ids : IdWords) (d0 d1 : D) (i : S) (o0 o1 : O) (l0 l1 : L) (p : P) (f : F) (j : J) (cause : Cause) → asked ≡ Ok (Sync server)
-      → SyncGives m.disk m.sink m.link server d0 d1 o0 o1 l0 l1 cause → (CanBeSynced m.disk m.link server d0 d1 l0 l1 → (Rose (m.sink.faults o0) (m.sink.faults o1) → ⊥) → IsDoneOrWant cause ⊎ (cause ≡ BadReply (Status 500)))
-      → LeavesSync m.disk m.link server d0 d1 l0 l1 cause → (IsHonest m.link l0 server.client → Grows (m.link.chain l0) (m.link.chain l1)) → FaultsRise m.disk d0 d1 → IsLinkKept m.link l0 l1
+      → SyncEndsRun m.disk m.sink m.link server d0 d1 o0 o1 l0 l1 cause → GrowsByRecord m.disk d0 d1 → (IsHonest m.link l0 server.client → Grows (m.link.chain l0) (m.link.chain l1)) → FaultsRise m.disk d0 d1 → IsLinkKept m.link l0 l1
       → IsRun m asked ids ids (went d0 d1 i i o0 o1 l0 l1 p p f f j j) cause
-  sync_is_run asked server ids d0 d1 i o0 o1 l0 l1 p f j cause there gives complete leaves grows kept link_kept = subst (λ (a : Result Job LineError). IsRun m a ids ids (went d0 d1 i i o0 o1 l0 l1 p p f f j j) cause) (sym there) (record {
-    gives = gives;
-    complete = complete;
-    any_moment = leaves;
+  sync_is_run asked server ids d0 d1 i o0 o1 l0 l1 p f j cause there run grown grows kept link_kept = subst (λ (a : Result Job LineError). IsRun m a ids ids (went d0 d1 i i o0 o1 l0 l1 p p f f j j) cause) (sym there) (record {
+    run = (run.0, record { gives = run.1.gives; complete = run.1.complete; any_moment = run.1.any_moment; grows = run.1.grows; link_kept = run.1.link_kept });
+    growth = grown;
     grows = grows;
     ids = refl;
     hours = (refl, refl);
@@ -146,4 +161,19 @@ module _ {D S O L P F J : Type 0} (m : Models D S O L P F J) where
       → GenerateGives m.sink line settings o0 o1 cause → ((Rose (m.sink.faults o0) (m.sink.faults o1) → ⊥) → IsDoneOrWant cause)
       → IsRun m asked ids ids (still d i o0 o1 l p f j) cause
   generate_is_run only_now asked line settings ids d i o0 o1 l p f j cause there gives complete = subst (λ (a : Result Job LineError). IsRun m a ids ids (still d i o0 o1 l p f j) cause) (sym there)
-      (unchanged_is_run (Ok (Generate line settings)) ids d i o0 o1 l p f j cause (gives, refl, refl, refl) complete (leaves_as_it_was m.disk only_now d) refl (refl, refl) (refl, refl, refl) refl)
+      (unchanged_is_run (Ok (Generate line settings)) ids d i o0 o1 l p f j cause (gives, refl, refl, refl) complete (leaves_as_it_was m.disk only_now d) (nothing_grown m.disk only_now d) refl (refl, refl) (refl, refl, refl) refl)
+
+-- ---- what is known of a run from its start, as clauses
+
+module _ {D S O L P F J : Type 0} (m : Models D S O L P F J) (w : Outside D S O L P F J) (asked : Result Job LineError) (old new : IdWords) (cause : Cause) (run : IsRun m asked old new w cause) where
+  abbrev Known : Start → L → Type 0
+  Known start begun = IsRunFrom m start asked old (from_link w begun) cause
+
+  pub run_gives : RunGives m asked old w cause
+  run_gives = from_start m.disk m.link w.d0 w.l0 w.l1 asked Known (λ start begun. GivesFrom m start asked old (from_link w begun) cause) (λ start begun known. known.gives) run.run
+
+  pub run_complete : EndsWell m asked old w cause
+  run_complete = from_start m.disk m.link w.d0 w.l0 w.l1 asked Known (λ start begun. EndsWellFrom m start asked old (from_link w begun) cause) (λ start begun known. known.complete) run.run
+
+  pub run_leaves : RunLeaves m asked old w cause
+  run_leaves = from_start m.disk m.link w.d0 w.l0 w.l1 asked Known (λ start begun. LeavesFrom m start asked old (from_link w begun) cause) (λ start begun known. known.any_moment) run.run

@@ -1,6 +1,5 @@
 -- What is known of the input that a command takes.
 use Rattle.std.proofs.Common.{◌≡◌, ◌∙◌, ◌<◌, ◌≤◌, refl, ap, sym, arith, length, List, ℕ}
-use Rattle.tw_world.specs.Disk.{Rose}
 use Rattle.tw_world.specs.Source.{SourceModel}
 use Rattle.tw_words.specs.declared.command.Command.{Command}
 use Rattle.tw_words.specs.declared.command.Command.TheVariants.{Import}

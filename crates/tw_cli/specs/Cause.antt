@@ -37,12 +37,20 @@ end_of Done = Well
 end_of OutFault = Output
 end_of cause = Failed
 
--- whether the record may be there after it
+-- whether the record may be there after it: a sync that is stopped may write one, of what it read and sent
 abbrev pub may_write : Cause → Bool
 may_write Done = true
 may_write OutFault = true
 may_write DiskFault = true
 may_write TrackFault = true
+may_write LinkFault = true
+may_write (BadReply kind) = true
+may_write (Gone base) = true
+may_write (Busy parent) = true
+may_write (OutOfSync base parent) = true
+may_write (BadSegment version) = true
+may_write (SegmentTooLong bytes) = true
+may_write (PullTooLong bytes) = true
 may_write cause = false
 
 -- the cause that an error becomes: of words that ask for nothing
@@ -57,6 +65,7 @@ abbrev pub open_cause : OpenError → Cause
 open_cause opening.Disk = DiskFault
 open_cause (opening.Damaged offset) = Damaged offset
 open_cause opening.Memory = Memory
+open_cause (opening.TooLong bytes) = RecordTooLong bytes
 
 -- of an input that is not read
 abbrev pub input_cause : InputError → Cause

@@ -1,5 +1,5 @@
 -- The hours that a command drives: which intervals there are afterwards, and what is left of them where they are not changed.
-use Rattle.std.specs.Prelude.{◌≡◌, ◌⊎◌, ◌++◌, ◌&&◌, ℕ, Bool, true, false, not, ◌==◌, List, length, Ok, codes}
+use Rattle.std.specs.Prelude.{◌≡◌, ◌⊎◌, ◌++◌, ◌&&◌, ℕ, Bool, true, false, not, ◌==◌, List, length, Some, Ok, codes}
 use Rattle.tw_world.specs.Disk.{DiskModel, Rose}
 use Rattle.tw_world.specs.Disk as disk
 use Rattle.tw_world.specs.Crash.{Tells, IsStable}
@@ -13,8 +13,9 @@ use Rattle.tw_words.specs.Commands.{drives}
 use Rattle.tw_settings.specs.Switches.{is_turned_on}
 use Rattle.tw_changes.specs.declared.request.Request.{Request}
 use Rattle.timew_store.specs.History.{History}
-use Rattle.timew_store.specs.Held.{magic, Held, OpensTo, OnStable, IsAtRest, held_by}
-use Rattle.timew_store.specs.Loading.{Stays, LeavesAlike, HoldsNoStep}
+use Rattle.timew_store.specs.Held.{magic, Held, OpensTo, OnStable, IsAtRest, held_by, finished}
+use Rattle.timew_store.specs.Loading.{Stays, LeavesAlike, HoldsNoStep, last_of}
+use Rattle.timew_month.specs.Body.{FileChange}
 use Rattle.timew_month.specs.Changes.{changes_to}
 use Rattle.timew_month.specs.Rows.{rows_of}
 use Rattle.timew_store.specs.Store.{changed, change_bodies, FindsBadLine, IsBadLine}
@@ -45,6 +46,20 @@ pub record Opens {F J : Type 0} (m : FolderModel F) (n : DiskModel J) (f : F) (j
   pub settled : IsStable m f
   pub tells : disk.Tells n j
   pub opens : OpensTo (m.seen f) (n.seen j) held
+
+-- month files and a journal that can be loaded, whatever its records lead to: the last of them holds a step, and once that is finished the files
+-- hold intervals
+pub record CanBeLoaded (files : Files) (journal : List ℕ) : Type 0 where
+  pub bodies : List (List ℕ)
+  pub records : Records magic journal bodies
+  pub last : List FileChange
+  pub last_is : last_of bodies ≡ Some last
+  pub rows : List Interval
+  pub read : rows_of (finished files last) ≡ Ok rows
+
+-- folder and journal hold such hours, if they tell what they hold
+abbrev pub MayBeLoaded : {F J : Type 0} → FolderModel F → DiskModel J → F → J → Type 0
+MayBeLoaded m n f j = Tells m f → disk.Tells n j → CanBeLoaded (m.seen f) (n.seen j)
 
 module _ {F J : Type 0} (m : FolderModel F) (n : DiskModel J) (f0 f1 : F) (j0 j1 : J) where
   -- folder and journal are as they were
@@ -81,9 +96,16 @@ module _ {F J : Type 0} (m : FolderModel F) (n : DiskModel J) (f0 f1 : F) (j0 j1
     pub stays : Stays m n f0 f1 j0 j1
     pub any_moment : LeavesAlike m n f0 f1 j0 j1
 
-  -- the hours of a command that was not carried out, or of which they were not changed: they open to what they did, and most causes leave them unopened
+  -- A fault before the hours are loaded leaves what folder and journal hold, also where they open to nothing: one of the journal leaves the folder as
+  -- it was. A crash leaves the same.
+  pub record AreSpared : Type 0 where
+    pub stays : (f1 ≡ f0) ⊎ Stays m n f0 f1 j0 j1
+    pub any_moment : LeavesAlike m n f0 f1 j0 j1
+
+  -- The hours of a command that was not carried out, or of which they were not changed: they open to what they did, and most causes leave them unopened.
+  -- A fault spares those that can't be loaded.
   abbrev pub AreLeft : Cause → Type 0
-  AreLeft TrackFault = Rose (m.faults f0) (m.faults f1) ⊎ Rose (n.faults j0) (n.faults j1)
+  AreLeft TrackFault = (Rose (m.faults f0) (m.faults f1) ⊎ Rose (n.faults j0) (n.faults j1)) × (AreSpared ⊎ MayBeLoaded m n f0 j0)
   AreLeft (TrackBad file line) = FindsBadLine m n f0 j0 (file, line) × OnStable m n f0 j0 (IsBadLine m n f0 f1 j0 j1 (file, line)) × AreKept
   AreLeft (TrackDamaged offset) = (f1 ≡ f0) × (disk.Tells n j0 → IsDamagedAt magic (n.seen j0) offset ⊎ HoldsNoStep (n.seen j0) offset) × AreKept
   AreLeft DiskFault = AreKept

@@ -6,7 +6,7 @@ use Rattle.tw_http.specs.Link.{LinkModel}
 use Rattle.tw_state.specs.State.{State}
 use Rattle.tw_replica.specs.Replica.{OpensTo}
 use Rattle.tw_sync.specs.World.{IsAmong, Runs}
-use Rattle.tw_cli.specs.Whole.{Outside, IsHonestFor}
+use Rattle.tw_cli.specs.Whole.{Outside, IsHonestFor, IsSoundFor}
 use Rattle.tw_cli.specs.declared.asked.Job.{Job}
 use Rattle.tw_cli.specs.declared.asked.Job.TheVariants.{Here, Sync, Generate}
 use Rattle.tw_cli.specs.declared.asked.LineError.{LineError}
@@ -49,5 +49,6 @@ pub record RunsOn {D : Type 0} (m : DiskModel D) (d0 d1 : D) (opens : Type 0) (c
 
 -- in each world in which the disk stands for some states, the run is an event
 abbrev pub IsEvent : {D S O L P F J : Type 0} → DiskModel D → LinkModel L → Result Job LineError → Outside D S O L P F J → Cause → Type 0
-IsEvent m links asked w cause = (chain now : List Version) (states : List State) → Tells m w.d0 → IsHonestFor links asked w.l0 → StandsFor m w.d0 states
-    → IsChainFor links asked w.l0 w.l1 chain now → RunsOn m w.d0 w.d1 (OpensReplica asked) cause chain now states
+IsEvent m links asked w cause = (chain now : List Version) (states : List State) → Tells m w.d0 → IsHonestFor links asked w.l0
+    → IsSoundFor m links asked w.d0 w.l0 w.l1 → StandsFor m w.d0 states → IsChainFor links asked w.l0 w.l1 chain now
+    → RunsOn m w.d0 w.d1 (OpensReplica asked) cause chain now states

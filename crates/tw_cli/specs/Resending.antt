@@ -21,7 +21,7 @@ pub record HasAppended (old new : State) (later : List SyncOp) : Type 0 where
 -- nothing of it again
 abbrev pub AddedIsNotSentAgain : Type 0
 AddedIsNotSentAgain = (old new : State) (before after : ServerChain) (chain : List Version) (legs more : List Leg) (v : Version) (ops appended : List SyncOp)
-    → IsSound old → IsSound new → Went old before after (legs ++ Push v ops ∷ more) → Grows after.chain chain → HasAppended old new appended
+    → IsSound old → IsSound new → Went (starts_at old) before after (legs ++ Push v ops ∷ more) → Grows after.chain chain → HasAppended old new appended
     → (mine : List SyncOp) × (later : List SyncOp) × WasSent (starts_at new) chain mine (later ++ appended) v.id
 
 -- a commit appends its operations

@@ -4,6 +4,7 @@ ghost use Rattle.tw_world.specs.Disk.{Tells, FaultsRise};
 ghost use Rattle.tw_replica.specs.Replica.{IsLengthKept, OpeningRefused, is_replica_closed};
 ghost use Rattle.tw_replica.specs.Opening.{IsOpenedReplica};
 ghost use Rattle.tw_cli.specs.Crash.{LeavesRecords};
+ghost use Rattle.tw_cli.specs.Growth.{OpeningGrows};
 
 use std::alloc::Global;
 use std::mem::forget;
@@ -17,6 +18,7 @@ pub(crate) fn open<D: Disk>(alloc: Global, disk: &mut D) -> Result<Replica, Open
     ensures live { IfOk result (λ replica. is_replica_closed replica ≡ false) }
     ensures refused { IfErr result (OpeningRefused D.model disk.old disk.new) }
     ensures any_moment { LeavesRecords D.model disk.old disk.new }
+    ensures growth { OpeningGrows D.model disk.old disk.new }
     ensures kept { FaultsRise D.model disk.old disk.new }
 {
     Replica::open(alloc, disk)

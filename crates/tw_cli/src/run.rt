@@ -6,10 +6,11 @@ ghost use Rattle.tw_sync.specs.Answers.{IsLinkKept};
 ghost use Rattle.tw_cli.specs.Opening.{KeepsState};
 ghost use Rattle.tw_cli.specs.Fault.{GotFault, status_of};
 ghost use Rattle.tw_cli.specs.Asked.{asked_by};
-ghost use Rattle.tw_cli.specs.Whole.{models, went, RunGives, EndsWell, RunLeaves, RunDrives, RunSpares, IsHonestFor, ChainGrows};
-ghost use Rattle.tw_cli.specs.Whole.{RunDraws, RunKeepsInput, IsRun};
+ghost use Rattle.tw_cli.specs.Whole.{models, went, RunGives, EndsWell, RunLeaves, RunGrows, RunDrives, RunSpares, ChainGrows};
+ghost use Rattle.tw_cli.specs.Whole.{IsHonestFor, IsSoundFor, RunDraws, RunKeepsInput, IsRun};
 ghost use Rattle.tw_cli.specs.Agreement.{AgreementStays};
 ghost use Rattle.tw_cli.specs.Events.{IsEvent};
+ghost use Rattle.tw_cli.specs.Headline.{Headline};
 
 use crate::asked::{Job, asked};
 use crate::carry::run_command;
@@ -87,6 +88,9 @@ pub fn task_run<D: Disk, L: Link, S: Source, O: Sink, E: Sink, P: Spawner, F: Fo
     ensures any_moment { RunLeaves (models D.model S.model O.model L.model P.model F.model J.model) (asked_by words.now settings.now now zone.entry) ids.old
         (went disk.old disk.new input.old input.new out.old out.new link.old link.new
         spawner.old spawner.new folder.old folder.new track.old track.new) result.cause }
+    ensures growth { RunGrows (models D.model S.model O.model L.model P.model F.model J.model) (asked_by words.now settings.now now zone.entry) ids.old
+        (went disk.old disk.new input.old input.new out.old out.new link.old link.new
+        spawner.old spawner.new folder.old folder.new track.old track.new) result.cause }
 
     // A command that drives intervals changes the hours once its record is written, and no other uses them.
     ensures hours { RunDrives (models D.model S.model O.model L.model P.model F.model J.model) (asked_by words.now settings.now now zone.entry) ids.old
@@ -94,8 +98,9 @@ pub fn task_run<D: Disk, L: Link, S: Source, O: Sink, E: Sink, P: Spawner, F: Fo
         spawner.old spawner.new folder.old folder.new track.old track.new) result.cause }
     ensures stays { KeepsState D.model disk.old disk.new result.cause }
 
-    // A replica that agrees with the server's chain agrees with it after each run.
+    // A replica that agrees with the server's chain agrees with it after each run, if the server returns what was written, also a snapshot.
     ensures agrees { Tells D.model disk.old → IsHonestFor L.model (asked_by words.now settings.now now zone.entry) link.old
+        → IsSoundFor D.model L.model (asked_by words.now settings.now now zone.entry) disk.old link.old link.new
         → AgreementStays D.model L.model
         (went disk.old disk.new input.old input.new out.old out.new link.old link.new
         spawner.old spawner.new folder.old folder.new track.old track.new) result.cause }
@@ -103,6 +108,11 @@ pub fn task_run<D: Disk, L: Link, S: Source, O: Sink, E: Sink, P: Spawner, F: Fo
     ensures world { IsEvent D.model L.model (asked_by words.now settings.now now zone.entry)
         (went disk.old disk.new input.old input.new out.old out.new link.old link.new
         spawner.old spawner.new folder.old folder.new track.old track.new) result.cause }
+    // The headline: its sentences, of a disk that tells what it holds and a link that is honest.
+    ensures headline { Tells D.model disk.old → IsHonestFor L.model (asked_by words.now settings.now now zone.entry) link.old
+        → Headline (models D.model S.model O.model L.model P.model F.model J.model) ids.old
+        (went disk.old disk.new input.old input.new out.old out.new link.old link.new
+        spawner.old spawner.new folder.old folder.new track.old track.new) (asked_by words.now settings.now now zone.entry) result.cause }
     ensures grows { ChainGrows (models D.model S.model O.model L.model P.model F.model J.model) (asked_by words.now settings.now now zone.entry)
         (went disk.old disk.new input.old input.new out.old out.new link.old link.new
         spawner.old spawner.new folder.old folder.new track.old track.new) }

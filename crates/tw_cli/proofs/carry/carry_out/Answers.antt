@@ -8,6 +8,7 @@ use Rattle.tw_cli.proofs.BothStores.{made_moments}
 use Rattle.tw_cli.proofs.Carrying.{done_drew}
 use Rattle.tw_cli.proofs.Driven.{made_shows, made_refused, made_wants, made_leaves, made_hours, made_spares, made_ready, made_live, made_knows, left_unopened}
 use Rattle.tw_cli.proofs.Endings.{carry_fails}
+use Rattle.tw_cli.proofs.Growth.{opening_grows, made_grows}
 use Rattle.tw_cli.proofs.carry.carry_out.Goals as goal
 
 pub write_made-requires : goal.write_made-requires
@@ -28,6 +29,9 @@ returns-in-Ok-clause-complete g c = made_wants g.D.Disk.model g.S.Source.model g
 
 pub returns-in-Ok-clause-any_moment : goal.returns-in-Ok-clause-any_moment
 returns-in-Ok-clause-any_moment g c = made_leaves g.D.Disk.model g.S.Source.model g.P.Spawner.model g.F.Folder.model g.J.Disk.model c.args.request c.args.ids.now c.args.disk.now c.make.new.disk c.write_made.new.disk c.args.input.now c.make.new.input c.args.spawner.now c.make.new.spawner c.args.folder.now c.write_made.new.folder c.args.track.now c.write_made.new.track c.in-Ok.made c.in-Ok.ensures.made c.make.ensures.kept c.write_made.result c.write_made.ensures.ends
+
+pub returns-in-Ok-clause-growth : goal.returns-in-Ok-clause-growth
+returns-in-Ok-clause-growth g c = made_grows g.D.Disk.model g.met.D.Disk.seen_may_stay g.met.D.Disk.counts_now g.S.Source.model g.P.Spawner.model g.F.Folder.model g.J.Disk.model c.args.request c.args.ids.now c.args.disk.now c.make.new.disk c.write_made.new.disk c.args.input.now c.make.new.input c.args.spawner.now c.make.new.spawner c.args.folder.now c.write_made.new.folder c.args.track.now c.write_made.new.track c.in-Ok.made c.in-Ok.ensures.made c.make.ensures.kept c.make.ensures.growth c.write_made.ensures.growth c.write_made.result c.write_made.ensures.ends
 
 pub returns-in-Ok-clause-hours : goal.returns-in-Ok-clause-hours
 returns-in-Ok-clause-hours g c = record {
@@ -52,6 +56,9 @@ returns-in-Err-clause-complete g c = λ can well. c.in-Err.ensures.complete can
 
 pub returns-in-Err-clause-any_moment : goal.returns-in-Err-clause-any_moment
 returns-in-Err-clause-any_moment g c = inl c.make.ensures.any_moment
+
+pub returns-in-Err-clause-growth : goal.returns-in-Err-clause-growth
+returns-in-Err-clause-growth g c = inl (opening_grows g.D.Disk.model g.met.D.Disk.seen_may_stay c.args.disk.now c.make.new.disk c.make.ensures.growth)
 
 pub returns-in-Err-clause-hours : goal.returns-in-Err-clause-hours
 returns-in-Err-clause-hours g c = record {

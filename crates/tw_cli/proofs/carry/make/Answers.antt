@@ -15,7 +15,7 @@ returns-in-Err-clause-complete g c =
 
 pub returns-in-Err-clause-ids : goal.returns-in-Err-clause-ids
 returns-in-Err-clause-ids g c =
-    opening_draws g.D.Disk.model g.S.Source.model c.args.request c.args.disk.now c.args.input.now c.args.input.now c.args.ids.now c.in-Err.error
+    opening_draws g.D.Disk.model g.S.Source.model c.args.request c.args.disk.now c.args.input.now c.args.input.now c.open.new.disk c.args.ids.now c.in-Err.error c.in-Err.ensures.refused
 
 -- the input was not taken
 pub returns-in-Err-take_input-clause-refused : goal.returns-in-Err-take_input-clause-refused

@@ -1,6 +1,9 @@
-use Rattle.std.proofs.Common.{◌∙◌, inl, inr, refl, subst, arith, None, Some}
-use Rattle.tw_replica.specs.Prepared.{prepared_state}
+use Rattle.std.proofs.Common.{◌∙◌, inl, inr, refl, subst, arith}
+use Rattle.std.specs.Prelude.{length}
+use Rattle.tw_journal.specs.Record.{rows}
+use Rattle.tw_replica.specs.Prepared.{prepared_state, prepared_bodies}
 use Rattle.tw_cli.specs.Ready.{WriteEnds}
+use Rattle.tw_cli.proofs.Growth.{nothing_longer}
 use Rattle.tw_cli.proofs.LoadedHours.{ready_written}
 use Rattle.tw_cli.proofs.carry.write_made.Goals as goal
 
@@ -58,3 +61,7 @@ returns-clause-folder g c = record { faults = omega (arith, c.ready_hours.ensure
 
 pub returns-clause-track : goal.returns-clause-track
 returns-clause-track g c = record { faults = omega (arith, c.ready_hours.ensures.track.faults, c.write_both.ensures.track.faults); tells = c.write_both.ensures.track.tells ∙ c.ready_hours.ensures.track.tells }
+
+-- nothing is written
+pub returns-in-Err-clause-growth : goal.returns-in-Err-clause-growth
+returns-in-Err-clause-growth g c = λ bodies on. nothing_longer g.D.Disk.model g.met.D.Disk.only_now c.args.disk.now (length (rows (prepared_bodies c.args.made.ready.prepared)))

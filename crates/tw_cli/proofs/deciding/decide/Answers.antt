@@ -1,4 +1,4 @@
-use Rattle.std.proofs.Common.{◌∙◌, ap, inl, refl, sym, subst}
+use Rattle.std.proofs.Common.{◌∙◌, ap, inl, refl, sym}
 use Rattle.tw_replica.specs.Replica.{held_state}
 use Rattle.tw_commands.specs.Plan.{planned}
 use Rattle.tw_cli.proofs.Carrying.{ok_is, err_is}

@@ -1,7 +1,6 @@
 use Rattle.std.proofs.Common.{◌++◌, sym, subst, codes, List, ℕ}
 use Rattle.tw_ending.specs.Lines.{numbered, GotLine}
 use Rattle.tw_cli.specs.Fault.{GotFault}
-use Rattle.tw_cli.proofs.Unnamed.{is_short}
 use Rattle.tw_cli.proofs.fault.put_fault.Goals as goal
 
 pub returns-in-BadInput : goal.returns-in-BadInput

@@ -1,4 +1,4 @@
-use Rattle.std.proofs.Common.{◌≡◌, ℕ, List, subst}
+use Rattle.std.proofs.Common.{ℕ, List, subst}
 use Rattle.tw_world.specs.Sink.{Got, GotPart}
 use Rattle.tw_words.specs.Faults.{number_behind}
 use Rattle.tw_generate.specs.Generated.{IsGenerated}

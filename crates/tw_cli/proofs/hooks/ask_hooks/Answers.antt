@@ -1,6 +1,6 @@
-use Rattle.std.proofs.Common.{◌∙◌, inl, refl, sym, subst}
+use Rattle.std.proofs.Common.{◌∙◌, inl, refl, sym}
 use Rattle.tw_replica.specs.Replica.{held_state}
-use Rattle.tw_cli.proofs.Answering.{event_there, plan_unasked, plan_asked, plan_wants, plan_refused}
+use Rattle.tw_cli.proofs.Answering.{event_there, plan_unasked, plan_asked, plan_refused}
 use Rattle.tw_cli.proofs.hooks.ask_hooks.Goals as goal
 
 pub returns-in_default-clause-answered : goal.returns-in_default-clause-answered

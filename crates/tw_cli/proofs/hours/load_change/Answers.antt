@@ -5,7 +5,6 @@ use Rattle.tw_model.specs.Ops.{TasksValue}
 use Rattle.timew_interval.specs.Edit.{edited, IsEditOf}
 use Rattle.timew_store.specs.Prepared.{PrepareRefused}
 use Rattle.timew_store.specs.Store.{rows_after, is_store_closed}
-use Rattle.timew_interval.specs.declared.edit.Edit.{Edit}
 use Rattle.timew_interval.specs.declared.interval.Interval.{Interval}
 use Rattle.timew_bridge.specs.Known.{AreDrivers}
 use Rattle.tw_cli.specs.Driving.{driven}

@@ -1,4 +1,4 @@
-use Rattle.std.proofs.Common.{◌≤◌, ◌<◌, length, arith}
+use Rattle.std.proofs.Common.{◌<◌, length, arith}
 use Rattle.tw_cli.proofs.Reading.{too_long}
 use Rattle.tw_cli.proofs.input.read_all.Goals as goal
 

@@ -1,5 +1,5 @@
 -- what was read and what is still to be read are all
-use Rattle.std.proofs.Common.{◌≡◌, ◌++◌, ◌+◌, ◌-◌, ◌≤◌, length}
+use Rattle.std.proofs.Common.{◌≡◌, ◌++◌, ◌-◌, ◌≤◌, length}
 use Rattle.tw_world.specs.Source.{SourceKept, TellsRest}
 use Rattle.tw_cli.proofs.input.read_all.Given as goal
 
