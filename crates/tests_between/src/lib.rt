@@ -9,6 +9,8 @@ mod link;
 #[cfg(test)]
 mod server;
 #[cfg(test)]
+mod server_files;
+#[cfg(test)]
 mod sync;
 #[cfg(test)]
 mod texts;

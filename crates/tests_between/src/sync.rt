@@ -1,4 +1,8 @@
 // What no clause says: that a sync comes to its end, and that each kind of reply is met.
+mod script;
+mod snapshots;
+mod stops;
+
 use std::alloc::Global;
 use std::test::Fail;
 use tw_http::{Link, LinkError};

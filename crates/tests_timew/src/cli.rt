@@ -5,6 +5,7 @@ use tw_time::Zone;
 use tw_world::{Folder, MemoryDisk, MemoryFolder, MemorySink, Moment};
 
 mod many;
+mod stops;
 
 const ONE: &str = "inc 20260105T090000Z - 20260105T090005Z # code\n";
 
@@ -274,49 +275,6 @@ fn a_file_was_changed_by_hand(rt: HostRuntime) -> Result<(), Fail> {
     Ok(())
 }
 
-// What a split says if these calls of the folder, of the journal's disk and of the output fail.
-const FAILING: [(&[u64], &[u64], &[u64], &str); 9] = [
-    (&[], &[], &[], "0 Stored 2 intervals.\n"),
-    (&[0], &[], &[], FOLDER_FAILED),
-    (&[1], &[], &[], FOLDER_FAILED),
-    (&[2], &[], &[], FOLDER_FAILED),
-    (&[3], &[], &[], FOLDER_FAILED),
-    (&[], &[0], &[], DISK_FAILED),
-    (&[], &[5], &[], DISK_FAILED),
-    (&[], &[9], &[], DISK_FAILED),
-    (&[], &[], &[0], "6 timew: output failed\n"),
-];
-
-const FOLDER_FAILED: &str = "8 timew: the folder failed\n";
-
-const DISK_FAILED: &str = "3 timew: the journal failed\n";
-
-fn is_told(
-    alloc: Global,
-    folder_fails: &[u64],
-    disk_fails: &[u64],
-    out_fails: &[u64],
-    want: &str,
-) -> Result<bool, Fail> {
-    let mut machine = holding(alloc, ONE, folder_fails, disk_fails)?;
-    Ok(machine.told_over("split @1", out_fails)?.as_str() == want)
-}
-
-fn failing_so_far(alloc: Global) -> Result<usize, Fail> {
-    for (number, (folder, disk, out, want)) in FAILING.iter().enumerate() {
-        if !is_told(alloc, folder, disk, out, want)? {
-            return Ok(number);
-        }
-    }
-    Ok(FAILING.len())
-}
-
-#[test]
-fn what_fails_is_told(rt: HostRuntime) -> Result<(), Fail> {
-    assert_eq!(rt; failing_so_far(rt.alloc())?, FAILING.len());
-    Ok(())
-}
-
 // Whether a line that is no command has its line on the standard error, and the journal's disk is not used.
 fn leaves_the_disk(alloc: Global) -> Result<bool, Fail> {
     let mut machine = empty(alloc)?;
@@ -327,77 +285,5 @@ fn leaves_the_disk(alloc: Global) -> Result<bool, Fail> {
 #[test]
 fn bad_words_leave_the_disk(rt: HostRuntime) -> Result<(), Fail> {
     assert!(rt; leaves_the_disk(rt.alloc())?);
-    Ok(())
-}
-
-const NONE_ACTIVE: &str = "1 timew: no active tracking\n";
-
-// Whether the next command finds the interval split, or whole if the split was not carried out, after these calls fail.
-fn is_split_or_whole(
-    alloc: Global,
-    folder_fails: &[u64],
-    disk_fails: &[u64],
-) -> Result<bool, Fail> {
-    let mut machine = holding(alloc, ONE, folder_fails, disk_fails)?;
-    let split = machine.told("split @1")?;
-    machine.disk = disk_of(alloc, machine.disk.bytes(), &[])?;
-    if !machine.tells("", NONE_ACTIVE)? {
-        return Ok(false);
-    }
-    Ok(machine.holds(TWO)? || machine.holds(ONE)? && !split.as_str().starts_with("0"))
-}
-
-// Each of the four calls of the folder and each of the disk fails in turn while an interval is split.
-fn each_is_split_or_whole(alloc: Global) -> Result<bool, Fail> {
-    for call in 0..4 {
-        if !is_split_or_whole(alloc, &[call], &[])? {
-            return Ok(false);
-        }
-    }
-    for call in 0..12 {
-        if !is_split_or_whole(alloc, &[], &[call])? {
-            return Ok(false);
-        }
-    }
-    Ok(true)
-}
-
-#[test]
-fn a_split_is_whole_or_not_there(rt: HostRuntime) -> Result<(), Fail> {
-    assert!(rt; each_is_split_or_whole(rt.alloc())?);
-    Ok(())
-}
-
-// Whether a machine with what a crash leaves of the journal, before the file is replaced, holds the interval split or whole.
-fn is_loaded(alloc: Global, disk: &MemoryDisk, call: u64, pick: u8) -> Result<bool, Fail> {
-    if call > disk.calls() || pick > 3 {
-        return Ok(false);
-    }
-    let image = disk.image(call, pick)?;
-    let mut machine = Machine {
-        alloc,
-        folder: folder_with(alloc, ONE, &[])?,
-        disk: disk_of(alloc, &image, &[])?,
-    };
-    Ok(machine.tells("", NONE_ACTIVE)? && (machine.holds(ONE)? || machine.holds(TWO)?))
-}
-
-// Each image that a crash may leave of the journal while an interval is split.
-fn each_is_loaded(alloc: Global, disk: &MemoryDisk) -> Result<bool, Fail> {
-    for call in 0..disk.calls() {
-        for pick in 0..4 {
-            if !is_loaded(alloc, disk, call, pick)? {
-                return Ok(false);
-            }
-        }
-    }
-    Ok(true)
-}
-
-#[test]
-fn every_image_is_loaded(rt: HostRuntime) -> Result<(), Fail> {
-    let mut machine = holding(rt.alloc(), ONE, &[], &[])?;
-    let _ = machine.told("split @1")?;
-    assert!(rt; each_is_loaded(rt.alloc(), &machine.disk)?);
     Ok(())
 }

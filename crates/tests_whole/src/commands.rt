@@ -1,8 +1,8 @@
 // Command lines one after another over one store.
 
-use crate::machine::{Given, has_property, machine, run_alone};
 use std::alloc::Global;
 use std::test::Fail;
+use tests_machine::{Given, has_property, machine, run_alone};
 use tw_time::Zone;
 use tw_world::MemoryDisk;
 

@@ -1,8 +1,8 @@
 // Runs with hooks.
 
-use crate::machine::{Ended, Given, machine, run_alone};
 use std::alloc::Global;
 use std::test::Fail;
+use tests_machine::{Ended, Given, machine, run_alone};
 use tw_cli::Cause;
 use tw_world::{MemoryDisk, Text};
 

@@ -1,8 +1,8 @@
 // Runs that drive hours.
 
-use crate::machine::{Given, disk_of, link_over, machine, run_over};
 use std::alloc::Global;
 use std::test::Fail;
+use tests_machine::{Given, disk_of, image_of, link_over, machine, run_over};
 use tw_world::{Folder, MemoryDisk, MemoryFolder};
 
 const OPEN: &str =
@@ -150,14 +150,6 @@ fn is_mended(
     let mut stores = Stores::of(alloc, tasks, OPEN, track)?;
     let well = stores.does(alloc, &LATER)?;
     Ok(well && (stores.holds(alloc, month)? || stores.holds(alloc, other)?))
-}
-
-// An image that a crash leaves of a disk.
-fn image_of(disk: &MemoryDisk, call: u64, pick: u8) -> Result<Vec<u8>, Fail> {
-    if call > disk.calls() || pick > 3 {
-        return Err(Fail::new("no image"));
-    }
-    Ok(disk.image(call, pick)?)
 }
 
 // Whether each image of the hours' journal after a call is mended, since the task is done.

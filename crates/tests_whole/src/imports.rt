@@ -1,8 +1,8 @@
 // Imports over a store and an input in memory.
 
-use crate::machine::{Given, machine, run_alone};
 use std::alloc::Global;
 use std::test::Fail;
+use tests_machine::{Given, machine, run_alone};
 use tw_world::MemoryDisk;
 
 const SECOND: u64 = 1_700_000_000;

@@ -1,8 +1,8 @@
 // Instances of a recurring task, made on two machines.
 
-use crate::world::{On, Row, Then, World};
 use std::alloc::Global;
 use std::test::Fail;
+use tests_machine::{On, Row, Then, World};
 
 // 2026-05-01T00:00:00Z.
 const MAY: u64 = 1_777_593_600;

@@ -16,12 +16,8 @@ mod imports;
 #[cfg(test)]
 mod instances;
 #[cfg(test)]
-mod machine;
-#[cfg(test)]
 mod merges;
 #[cfg(test)]
 mod runs;
 #[cfg(test)]
 mod syncs;
-#[cfg(test)]
-mod world;

@@ -1,9 +1,8 @@
 // Changes of one task on two machines.
 
-use crate::machine::is_held;
-use crate::world::{On, Row, Then, World};
 use std::alloc::Global;
 use std::test::Fail;
+use tests_machine::{On, Row, Then, World, is_held};
 use tw_server::Fate;
 
 const CREATE: &str =
@@ -53,21 +52,52 @@ fn both_modify(lap_second: u64, lap_syncs: Then, desk_syncs: Then) -> [Row; 5] {
     ]
 }
 
-// Whether both machines hold the first task with this project after these lines.
-fn agree_on(alloc: Global, rows: &[Row], project: &str) -> Result<bool, Fail> {
-    let mut world = World::new(alloc, &[])?;
-    world.follow_all(&[&PAIR, rows])?;
-    Ok(world.agrees(1_000)? && world.has_at_lap("project", project)?)
+// How many bytes the body of the record of a sync has, the number of the version that it stands at, and how many operations it
+// carried.
+type Carried = [u8; 3];
+
+// Whether the last record on a disk is that of such a sync.
+fn is_carried(bytes: &[u8], carried: Carried) -> bool {
+    let [size, base, count] = carried;
+    let record = [
+        1, 0, 0, 0, size, 4, 0, 0, 0, 0, 0, 0, 0x40, 0, 0x80, 0, 0, 0, 0, 0, 0, base, 0, 0, 0,
+        count,
+    ];
+    let start = bytes.len().saturating_sub(usize::from(size) + 5);
+    bytes.get(start..start.saturating_add(26)) == Some(record.as_slice())
 }
 
-// Each line is the lap's second, what its sync prints and then that of the desk, and the project that both hold.
+// Whether both machines hold the first task with this project after these lines, and the lap has such a record.
+fn agree_on(alloc: Global, rows: &[Row], project: &str, carried: Carried) -> Result<bool, Fail> {
+    let mut world = World::new(alloc, &[])?;
+    world.follow_all(&[&PAIR, rows])?;
+    let is_written = is_carried(world.lap.bytes(), carried);
+    Ok(is_written && world.agrees(1_000)? && world.has_at_lap("project", project)?)
+}
+
+// Each line is the lap's second, what its sync prints and then that of the desk, the project that both hold, and what the lap wrote:
+// an update of 49 bytes is carried for each property that is the desk's.
 #[test]
 fn the_later_change_of_a_property_stays(rt: HostRuntime) -> Result<(), Fail> {
     let alloc = rt.alloc();
     let pushed = Then::Prints("Synced: 1 pulled, 0 dropped, 2 pushed.\n");
-    assert!(rt; agree_on(alloc, &both_modify(200, pushed, PULLED), "Work")?);
-    assert!(rt; agree_on(alloc, &both_modify(50, TWO_DROPPED, NOTHING), "Home")?);
-    assert!(rt; agree_on(alloc, &both_modify(100, TWO_DROPPED, NOTHING), "Home")?);
+    assert!(rt; agree_on(alloc, &both_modify(200, pushed, PULLED), "Work", [21, 3, 0])?);
+    assert!(rt;
+        agree_on(
+            alloc,
+            &both_modify(50, TWO_DROPPED, NOTHING),
+            "Home",
+            [119, 2, 2]
+        )?
+    );
+    assert!(rt;
+        agree_on(
+            alloc,
+            &both_modify(100, TWO_DROPPED, NOTHING),
+            "Home",
+            [70, 2, 1]
+        )?
+    );
     Ok(())
 }
 

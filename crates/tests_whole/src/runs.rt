@@ -1,15 +1,15 @@
 // Runs over a disk and streams in memory.
 
-use crate::machine::{Ended, Given, disk_of, link_over, machine, run_alone, run_given};
 use std::alloc::Global;
 use std::test::Fail;
+use tests_machine::{Ended, Given, disk_of, link_over, machine, run_alone, run_given};
 use tw_cli::{Cause, WordKind};
 use tw_world::MemoryDisk;
 
 // The journal after a task was added to an empty store: its magic, two slots of which the first says 29, and one commit of six
 // operations.
 const ADDED: [u8; 279] = [
-    2, 0, 0, 0, 8, 84, 87, 82, 69, 80, 76, 48, 49, 0, 0, 0, 0, 0, 0, 0, 29, 0, 0, 0, 0, 0, 0, 0, 0,
+    2, 0, 0, 0, 8, 84, 87, 82, 69, 80, 76, 48, 50, 0, 0, 0, 0, 0, 0, 0, 29, 0, 0, 0, 0, 0, 0, 0, 0,
     1, 0, 0, 0, 245, 1, 0, 0, 0, 0, 6, 4, 1, 0, 0, 0, 0, 0, 0, 64, 0, 128, 0, 0, 0, 0, 0, 0, 1, 3,
     0, 0, 0, 0, 0, 0, 64, 0, 128, 0, 0, 0, 0, 0, 0, 1, 0, 0, 0, 11, 100, 101, 115, 99, 114, 105,
     112, 116, 105, 111, 110, 0, 1, 0, 0, 0, 8, 66, 117, 121, 32, 109, 105, 108, 107, 0, 0, 0, 0,
@@ -154,34 +154,6 @@ fn undone_so_far(alloc: Global) -> Result<u64, Fail> {
 #[test]
 fn each_undo_takes_one_add_back(rt: HostRuntime) -> Result<(), Fail> {
     assert_eq!(rt; undone_so_far(rt.alloc())?, 4);
-    Ok(())
-}
-
-// Whether an add is refused over a disk whose call with this number fails, and so many tasks are counted then.
-fn fails_at(alloc: Global, failing: u64, counted: &str) -> Result<bool, Fail> {
-    let mut disk = disk_of(alloc, &[], &[failing])?;
-    let ended = run(alloc, "add|Buy|milk", &mut disk)?;
-    let is_told = ended.is(3, &Cause::DiskFault)
-        && ended.said() == Some(b"task: the journal failed\n".as_slice());
-    let mut again = disk_of(alloc, disk.bytes(), &[])?;
-    Ok(is_told && prints(alloc, &mut again, "count", counted)?)
-}
-
-// How many of so many calls may fail, up to the first that is not told. Only if the last sync fails is the record there.
-fn failing_so_far(alloc: Global, calls: u64) -> Result<u64, Fail> {
-    for failing in 0..calls {
-        let counted = if failing + 1 == calls { "1\n" } else { "0\n" };
-        if !fails_at(alloc, failing, counted)? {
-            return Ok(failing);
-        }
-    }
-    Ok(calls)
-}
-
-#[test]
-fn a_disk_that_fails_is_told_and_keeps_its_records(rt: HostRuntime) -> Result<(), Fail> {
-    let calls = with_adds(rt.alloc(), 1)?.calls();
-    assert_eq!(rt; failing_so_far(rt.alloc(), calls)?, calls);
     Ok(())
 }
 

@@ -1,9 +1,8 @@
 // Command lines on machines that share a history.
 
-use crate::machine::Exchange;
-use crate::world::{On, Row, Then, World};
 use std::alloc::Global;
 use std::test::Fail;
+use tests_machine::{Exchange, On, Row, Then, World};
 use tw_cli::Cause;
 use tw_server::Fate;
 
@@ -137,6 +136,39 @@ fn a_version_that_is_no_segment_is_named_and_leaves_all(rt: HostRuntime) -> Resu
     Ok(())
 }
 
+// A version that another machine made of `add Buy milk`, and what `export` prints of it.
+const MILK: &str =
+    "{\"operations\":[{\"Create\":{\"uuid\":\"00000000-0000-4000-8000-000000000009\"}},\
+     {\"Update\":{\"property\":\"description\",\"timestamp\":\"2023-11-14T22:13:20.000000000Z\",\
+     \"uuid\":\"00000000-0000-4000-8000-000000000009\",\"value\":\"Buy milk\"}},\
+     {\"Update\":{\"property\":\"status\",\"timestamp\":\"2023-11-14T22:13:20.000000000Z\",\
+     \"uuid\":\"00000000-0000-4000-8000-000000000009\",\"value\":\"pending\"}}]}";
+
+const EXPORT: Row = (
+    On::Desk,
+    SECOND,
+    "export",
+    Then::Prints(
+        "[\n{\"description\":\"Buy milk\",\"status\":\"pending\",\"urgency\":0.000,\
+         \"uuid\":\"00000000-0000-4000-8000-000000000009\"}\n]\n",
+    ),
+);
+
+// Whether a sync that is stopped at the second version keeps the first.
+fn keeps_the_first(alloc: Global) -> Result<bool, Fail> {
+    let mut world = World::new(alloc, &[(&[MILK, BAD], Fate::Deliver)])?;
+    let ended = world.run(On::Desk, SECOND, "sync")?;
+    let version = world.link.latest();
+    world.follow(&[EXPORT])?;
+    Ok(ended.is(5, &Cause::BadSegment { version }))
+}
+
+#[test]
+fn what_was_read_before_a_bad_version_is_kept(rt: HostRuntime) -> Result<(), Fail> {
+    assert!(rt; keeps_the_first(rt.alloc())?);
+    Ok(())
+}
+
 // Before each add-version another machine adds a version. A sync asks, sends and is refused, asks for the version, and asks
 // again: a round of three exchanges, the second of which sends.
 fn conflicting(alloc: Global, conflicts: u8) -> Result<World, Fail> {
@@ -157,12 +189,15 @@ fn are_fifteen_pulled(alloc: Global) -> Result<bool, Fail> {
     Ok(world.link.exchanges() == 47)
 }
 
+// It stands at the fifteenth, so that the next one pulls the last.
 fn is_busy_at_the_sixteenth(alloc: Global) -> Result<bool, Fail> {
     let mut world = conflicting(alloc, 16)?;
     world.follow(&[ADD])?;
     let ended = world.run(On::Desk, SECOND, "sync")?;
     let parent = world.link.latest();
-    Ok(ended.is(5, &Cause::Busy { parent }) && world.link.versions() == 16)
+    let is_told = ended.is(5, &Cause::Busy { parent }) && world.link.versions() == 16;
+    world.follow(&[sync(Then::Prints("Synced: 1 pulled, 0 dropped, 5 pushed.\n"))])?;
+    Ok(is_told)
 }
 
 #[test]

@@ -1,4 +1,5 @@
 mod filters;
+mod looks;
 mod modifiers;
 
 use std::alloc::Global;
@@ -153,7 +154,7 @@ fn are_names(words: &Vec<String>, plain: u64) -> bool {
     !words.is_empty() && words.len() as u64 <= plain
 }
 
-// The tasks that are selected, where so many were looked at as are meant: words that only name tasks look at no others.
+// The tasks that are selected, if only these were looked at where words name tasks alone, and else no task twice.
 fn selected(
     alloc: Global,
     filter: &Filter,
@@ -162,12 +163,12 @@ fn selected(
 ) -> Result<Option<Vec<Uuid>>, Memory> {
     let mut looks = Looks::new();
     let uuids = select(alloc, filter, view, &mut looks)?;
-    let looked = if names_alone {
+    let most = if names_alone {
         uuids.len() as u128
     } else {
         u128::from(view.tasks.len())
     };
-    if looks.taken() == looked {
+    if uuids.len() as u128 <= looks.taken() && looks.taken() <= most {
         Ok(Some(uuids))
     } else {
         Ok(None)

@@ -9,18 +9,21 @@ use uuid::Uuid;
 // The record of a commit of nothing.
 const NOTHING: [u8; 11] = [1, 0, 0, 0, 6, 1, 0, 0, 0, 0, 0];
 
+// The front of a row of the second version.
+const ROW: [u8; 13] = [1, 0, 0, 0, 8, 84, 87, 82, 69, 80, 76, 48, 50];
+
 // A file of this form with so many commits of nothing, and the one that adds a task.
-fn file_of(alloc: Global, form: &[u8], nothing: u32) -> Result<Vec<u8>, Memory> {
+pub(super) fn file_of(alloc: Global, form: &[u8], nothing: u32) -> Result<Vec<u8>, Memory> {
     let mut bytes = form.to_vec(alloc)?;
     for _ in 0..nothing {
         bytes.extend_from_slice(&NOTHING)?;
     }
-    bytes.extend_from_slice(&ADDED[13..])?;
+    bytes.extend_from_slice(&ADDED[29..])?;
     Ok(bytes)
 }
 
 // The gate behind the records, and the record of the state up to what is pending, which are the operations of the commit.
-const STATE: [u8; 52] = [
+pub(super) const STATE: [u8; 52] = [
     0, 1, 0, 0, 0, 116, 5, 0, 0, 0, 0, 0, 0, 0, 0, 0, 0, 0, 0, 0, 0, 0, 0, 0, 0, 0, 1, 1, 7, 7, 7,
     7, 7, 7, 7, 7, 7, 7, 7, 7, 7, 7, 7, 7, 0, 0, 0, 0, 0, 0, 0, 3,
 ];
@@ -35,7 +38,7 @@ fn is_replaced(bytes: &[u8], file: &[u8], place: [u8; 2]) -> bool {
         && bytes.get(27..29) == Some(place.as_slice())
         && bytes.get(29..file.len()) == file.get(29..)
         && state.get(..52) == Some(STATE.as_slice())
-        && state.get(52..) == ADDED.get(24..)
+        && state.get(52..) == ADDED.get(40..)
 }
 
 // Whether a file that is opened holds the added task, and its bytes are as they were, or the state stands in place of its records.
@@ -54,11 +57,11 @@ fn is_opened(
     Ok(stands && held == (1, 3, Some(1)))
 }
 
-// Whether the records of files are replaced by the state where they are a thousand, and in no file that is a row.
+// Whether the records of files are replaced by the state where they are a thousand, and in no row of the second version.
 fn are_replaced(alloc: Global) -> Result<bool, ReplicaError> {
     let kept = is_opened(alloc, &MADE, 998, None)?;
     let replaced = is_opened(alloc, &MADE, 999, Some([0x2b, 0x5c]))?;
-    let row = is_opened(alloc, &ADDED[..13], 999, None)?;
+    let row = is_opened(alloc, &ROW, 999, None)?;
     Ok(kept && replaced && row)
 }
 

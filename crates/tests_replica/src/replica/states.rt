@@ -1,5 +1,5 @@
 // Records that tell a whole state.
-use super::{ADDED, counts, disk_of, version};
+use super::{ADDED, MADE, counts, disk_of, version};
 use std::alloc::Global;
 use std::test::Fail;
 use tw_replica::{OpenError, Replica, ReplicaError};
@@ -53,7 +53,7 @@ fn put_state(out: &mut Vec<u8>, places: &[Option<u8>], tasks: &[u8]) -> Result<(
 }
 
 // The body of a state at version 9, with so many pending operations in these bytes.
-fn state(
+pub(super) fn state(
     alloc: Global,
     places: &[Option<u8>],
     tasks: &[u8],
@@ -91,10 +91,10 @@ fn is_taken(alloc: Global, records: &[u8], body: &Vec<u8>) -> Result<bool, Repli
     Ok(is_held && undone == 2 && counts(&replica) == (1, 0, None))
 }
 
-// Whether the state is taken behind the first record, and behind that of a commit.
+// Whether the state is taken in a new file, and behind the record of a commit.
 fn is_taken_anywhere(alloc: Global) -> Result<bool, ReplicaError> {
-    let body = state(alloc, &PLACES, &[8], 3, &ADDED[24..])?;
-    Ok(is_taken(alloc, &ADDED[..13], &body)? && is_taken(alloc, &ADDED, &body)?)
+    let body = state(alloc, &PLACES, &[8], 3, &ADDED[40..])?;
+    Ok(is_taken(alloc, &MADE, &body)? && is_taken(alloc, &ADDED, &body)?)
 }
 
 #[test]
@@ -103,7 +103,7 @@ fn a_state_takes_the_place_of_what_was_there(rt: HostRuntime) -> Result<(), Fail
     Ok(())
 }
 
-// Whether a file is damaged that has such a state behind its first record.
+// Whether a file is damaged whose one record has such a state.
 fn is_damaged(
     alloc: Global,
     places: &[Option<u8>],
@@ -112,16 +112,16 @@ fn is_damaged(
     ops: &[u8],
 ) -> Result<bool, Memory> {
     let body = state(alloc, places, tasks, count, ops)?;
-    let mut disk = with_record(alloc, &ADDED[..13], &body)?;
-    Ok(Replica::open(alloc, &mut disk).err() == Some(OpenError::Damaged { offset: 13 }))
+    let mut disk = with_record(alloc, &MADE, &body)?;
+    Ok(Replica::open(alloc, &mut disk).err() == Some(OpenError::Damaged { offset: 29 }))
 }
 
 // Pending operations that do not begin with an undo point, that do not fit, that are longer than their number, and shorter.
 fn are_operations_damaged(alloc: Global) -> Result<bool, Memory> {
-    let add = &ADDED[24..];
+    let add = &ADDED[40..];
     Ok(
-        is_damaged(alloc, &PLACES, &[8], 2, &ADDED[25..])?
-            && is_damaged(alloc, &[Some(7)], &[7], 2, &ADDED[24..42])?
+        is_damaged(alloc, &PLACES, &[8], 2, &ADDED[41..])?
+            && is_damaged(alloc, &[Some(7)], &[7], 2, &ADDED[40..58])?
             && is_damaged(alloc, &PLACES, &[8], 2, add)?
             && is_damaged(alloc, &PLACES, &[8], 4, add)?,
     )
@@ -142,5 +142,25 @@ fn are_places_damaged(alloc: Global) -> Result<bool, Memory> {
 fn a_state_that_is_not_sound_is_damaged(rt: HostRuntime) -> Result<(), Fail> {
     assert!(rt; are_operations_damaged(rt.alloc())?);
     assert!(rt; are_places_damaged(rt.alloc())?);
+    Ok(())
+}
+
+// Whether the tasks of a state are taken over by an empty replica, with the version, by one record of that state.
+fn is_taken_over(alloc: Global) -> Result<bool, Fail> {
+    let body = state(alloc, &[Some(7)], &[7], 0, &[])?;
+    let mut other = with_record(alloc, &MADE, &body)?;
+    let tasks = Replica::open(alloc, &mut other)?.tasks().copy(alloc)?;
+    let mut disk = disk_of(alloc, &MADE)?;
+    let mut replica = Replica::open(alloc, &mut disk)?;
+    if replica.pending().len() != 0 {
+        return Ok(false);
+    }
+    let taken = replica.finish_from(alloc, &mut disk, version(), tasks);
+    Ok(taken.is_ok() && counts(&replica) == (1, 0, Some(1)) && disk.bytes() == other.bytes())
+}
+
+#[test]
+fn a_snapshot_is_taken_over_by_one_record(rt: HostRuntime) -> Result<(), Fail> {
+    assert!(rt; is_taken_over(rt.alloc())?);
     Ok(())
 }

@@ -1,7 +1,7 @@
 // Steps that are made in memory, and then written.
 ghost use Rattle.std.specs.Prelude.{◌≡◌, IfOk};
 
-use super::{ADDED, disk_of, milk};
+use super::{ADDED, MADE, disk_of, milk};
 use std::alloc::Global;
 use std::test::Fail;
 use tw_model::{Change, TaskMap};
@@ -34,13 +34,13 @@ fn with_status(
 
 // Whether a step that adds the task changes no byte before it is written, and then those of the record.
 fn is_written_later(alloc: Global) -> Result<bool, ReplicaError> {
-    let mut disk = disk_of(alloc, &ADDED[..13])?;
+    let mut disk = disk_of(alloc, &MADE)?;
     let replica = Replica::open(alloc, &mut disk)?;
     let prepared = with_status(alloc, replica, "pending", false)?;
     let is_made = prepared.tasks().len() == 1
         && prepared.pending().len() == 3
         && prepared.numbers().as_slice() == [Some(milk())].as_slice()
-        && disk.bytes().len() == 13;
+        && disk.bytes().len() == 29;
     prepared.write(&mut disk)?;
     Ok(is_made && disk.bytes() == ADDED.as_slice())
 }
@@ -65,7 +65,7 @@ fn written(alloc: Global, status: &str, renumber: bool) -> Result<(usize, usize)
 fn are_written(alloc: Global, rows: &[(&str, bool, usize, usize)]) -> Result<bool, ReplicaError> {
     for (status, renumber, places, bytes) in rows {
         let (found, len) = written(alloc, status, *renumber)?;
-        if found != *places || len.checked_sub(94) != Some(*bytes) {
+        if found != *places || len.checked_sub(110) != Some(*bytes) {
             return Ok(false);
         }
     }
@@ -98,12 +98,12 @@ fn is_taken_back(alloc: Global) -> Result<bool, ReplicaError> {
         && prepared.numbers().as_slice() == [None].as_slice()
         && disk.bytes() == ADDED.as_slice();
     prepared.write(&mut disk)?;
-    Ok(is_made && disk.bytes().get(94..) == Some([1, 0, 0, 0, 1, 2].as_slice()))
+    Ok(is_made && disk.bytes().get(110..) == Some([1, 0, 0, 0, 1, 2].as_slice()))
 }
 
 // Why nothing is taken back in an empty replica.
 fn refusal(alloc: Global) -> Result<Option<TakeBackError>, ReplicaError> {
-    let mut disk = disk_of(alloc, &ADDED[..13])?;
+    let mut disk = disk_of(alloc, &MADE)?;
     Ok(Replica::open(alloc, &mut disk)?.take_back(alloc).err())
 }
 

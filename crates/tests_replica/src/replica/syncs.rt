@@ -12,7 +12,7 @@ use tw_world::Memory;
 use uuid::Uuid;
 
 // The record of a sync to version 9 that carried nothing: its body has 21 bytes.
-const NOTHING: [u8; 26] = [
+pub(super) const NOTHING: [u8; 26] = [
     1, 0, 0, 0, 21, 4, 9, 9, 9, 9, 9, 9, 9, 9, 9, 9, 9, 9, 9, 9, 9, 9, 0, 0, 0, 0,
 ];
 
@@ -50,7 +50,7 @@ fn is_carried(
     Ok(
         counts(&replica) == left
             && replica.base() == version()
-            && disk.bytes().get(94..) == Some(record)
+            && disk.bytes().get(110..) == Some(record)
             && held == left
             && base == version(),
     )
@@ -66,7 +66,7 @@ fn a_sync_in_place_writes_what_it_carried(rt: HostRuntime) -> Result<(), Fail> {
 
 // Whether these records are damaged over an empty replica.
 fn is_damaged(alloc: Global, records: &[u8]) -> Result<bool, Memory> {
-    Ok(refusal(alloc, records)? == Some(OpenError::Damaged { offset: 13 }))
+    Ok(refusal(alloc, records)? == Some(OpenError::Damaged { offset: 29 }))
 }
 
 // The same of the record that carried nothing, if it counts one operation.
@@ -85,7 +85,7 @@ fn a_record_of_a_sync_that_does_not_fit_is_damaged(rt: HostRuntime) -> Result<()
 }
 
 // What is carried over the added task: another one, and a status.
-const OTHER: [u8; 21] = [
+pub(super) const OTHER: [u8; 21] = [
     0, 0, 0, 1, 1, 8, 8, 8, 8, 8, 8, 8, 8, 8, 8, 8, 8, 8, 8, 8, 8,
 ];
 
@@ -96,7 +96,12 @@ const STATUS: [u8; 55] = [
 ];
 
 // The record of a sync that was cut short at version 9, whose body has so many bytes, with what it carried and what is pending then.
-fn partial(alloc: Global, size: u8, ops: &[u8], pending: &[u8]) -> Result<Vec<u8>, Memory> {
+pub(super) fn partial(
+    alloc: Global,
+    size: u8,
+    ops: &[u8],
+    pending: &[u8],
+) -> Result<Vec<u8>, Memory> {
     let mut record = Vec::new(alloc);
     record.extend_from_slice(&[1, 0, 0, 0, size, 6])?;
     record.extend_from_slice(&[9; 16])?;
@@ -114,7 +119,7 @@ fn cut_short(alloc: Global, size: u8, ops: &[u8], pending: &[u8]) -> Result<Vec<
 
 // Whether the added task is still pending behind another one, and is taken back.
 fn is_still_pending(alloc: Global) -> Result<bool, ReplicaError> {
-    let bytes = cut_short(alloc, 112, &OTHER, &ADDED[20..])?;
+    let bytes = cut_short(alloc, 112, &OTHER, &ADDED[36..])?;
     let (held, base, _) = opened(alloc, bytes.as_slice())?;
     let nothing = Some(UndoError::NothingToUndo);
     Ok(
@@ -161,7 +166,7 @@ fn a_sync_that_is_cut_short_keeps_what_is_pending(rt: HostRuntime) -> Result<(),
 fn is_refused(alloc: Global, size: u8, ops: &[u8], pending: &[u8]) -> Result<bool, Memory> {
     let bytes = cut_short(alloc, size, ops, pending)?;
     let mut disk = disk_of(alloc, bytes.as_slice())?;
-    Ok(Replica::open(alloc, &mut disk).err() == Some(OpenError::Damaged { offset: 94 }))
+    Ok(Replica::open(alloc, &mut disk).err() == Some(OpenError::Damaged { offset: 110 }))
 }
 
 // One operation, which creates a task that is not there, and the same after an undo point.
@@ -180,7 +185,7 @@ const AGAIN: [u8; 21] = [
 
 // Old values of before what was carried, a task carried that is there, a byte that is left over.
 fn are_carried_refused(alloc: Global) -> Result<bool, Memory> {
-    let pending = &ADDED[20..];
+    let pending = &ADDED[36..];
     Ok(
         is_refused(alloc, 146, &STATUS, pending)?
             && is_refused(alloc, 112, &AGAIN, pending)?

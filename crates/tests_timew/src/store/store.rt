@@ -216,6 +216,24 @@ const OLD: &str = "inc 20260105T070000Z - 20260105T080000Z\n";
 
 const NEW: &str = "inc 20260105T090000Z - 20260105T090005Z\n";
 
+const FEBRUARY: &str = "inc 20260201T000000Z - 20260201T000001Z\n";
+
+const MARCH: &str = "inc 20260301T000000Z\n";
+
+const MONTHS_TO_MARCH: &str = "inc 20260105T090000Z - 20260105T090005Z
+inc 20260201T000000Z - 20260201T000001Z
+inc 20260301T000000Z
+";
+
+#[test]
+fn a_change_in_march_leaves_february(rt: HostRuntime) -> Result<(), Fail> {
+    let files = [("2026-01.data", NEW), ("2026-02.data", FEBRUARY)];
+    let mut kept = keeping(rt.alloc(), &files, &[])?;
+    assert!(rt; kept.change(MONTHS_TO_MARCH)?);
+    assert!(rt; kept.holds("2026-02.data", FEBRUARY) && kept.holds("2026-03.data", MARCH));
+    Ok(())
+}
+
 // January and February as a hand has written them since a change, and what an undo says.
 const EDITED: [(&str, &str, &str); 3] = [
     (

@@ -1,19 +1,16 @@
 // A machine of a user: its disk, and the command lines that are run on it.
 
+use crate::given::{Ended, Given};
+use crate::link::link_over;
 use std::alloc::Global;
 use std::test::Fail;
-use tw_cli::{Cause, Outcome, task_run};
+use tw_cli::{Outcome, task_run};
 use tw_files::FailingFolder;
+use tw_http::Link;
 use tw_replica::Replica;
-use tw_server::{Fate, LinkStep, MemoryLink};
 use tw_spawn::MemorySpawner;
-use tw_time::Zone;
 use tw_world::{Disk, FailingDisk, Folder, IdWords, MemoryDisk, MemorySink, MemorySource, Moment};
 use uuid::Uuid;
-
-const CLIENT: [u8; 16] = [
-    0x1a, 0x2b, 0x3c, 0x4d, 0x00, 0x01, 0x40, 0x02, 0x80, 0x03, 0x00, 0x00, 0x00, 0x00, 0x00, 0x0f,
-];
 
 /// A disk with these bytes, whose calls with these numbers fail.
 pub fn disk_of(alloc: Global, bytes: &[u8], fails: &[u64]) -> Result<MemoryDisk, Fail> {
@@ -28,38 +25,12 @@ pub fn machine(alloc: Global) -> Result<MemoryDisk, Fail> {
     disk_of(alloc, &[], &[])
 }
 
-// A link of the user's client, over which this happens.
-fn link(alloc: Global, script: Vec<LinkStep>) -> Result<MemoryLink, Fail> {
-    if !MemoryLink::takes(&script) {
-        return Err(Fail::new("a segment of others is too long"));
+/// An image that a crash right after so many calls may leave of a disk.
+pub fn image_of(disk: &MemoryDisk, calls: u64, pick: u8) -> Result<Vec<u8>, Fail> {
+    if calls > disk.calls() || pick > 3 {
+        return Err(Fail::new("no image"));
     }
-    let ids = IdWords { start: 1, step: 1 };
-    Ok(MemoryLink::new(alloc, Uuid::from_bytes(CLIENT), ids, script)?)
-}
-
-// An exchange before which others add these segments, and that ends so.
-fn step(alloc: Global, exchange: &Exchange) -> Result<LinkStep, Fail> {
-    let (others, fate) = *exchange;
-    let mut segments = Vec::new(alloc);
-    for segment in others {
-        segments.push(segment.as_bytes().to_vec(alloc)?)?;
-    }
-    Ok(LinkStep {
-        others: segments,
-        fate,
-    })
-}
-
-/// What others add before an exchange, and what becomes of it.
-pub type Exchange = (&'static [&'static str], Fate);
-
-/// A link over which these exchanges happen, and then others that arrive.
-pub fn link_over(alloc: Global, exchanges: &[Exchange]) -> Result<MemoryLink, Fail> {
-    let mut script = Vec::new(alloc);
-    for exchange in exchanges {
-        script.push(step(alloc, exchange)?)?;
-    }
-    link(alloc, script)
+    Ok(disk.image(calls, pick)?)
 }
 
 // A moment of so many seconds.
@@ -67,86 +38,6 @@ fn moment(seconds: u64) -> Result<Moment, Fail> {
     match Moment::new(seconds, 0) {
         Some(moment) => Ok(moment),
         None => Err(Fail::new("no moment")),
-    }
-}
-
-/// What a run is given beside its words, its disk and its link.
-#[derive(Clone, Copy)]
-pub struct Given<'a> {
-    /// The first identifier that it draws.
-    pub first: u128,
-    pub second: u64,
-    pub zone: Zone,
-    pub settings: &'a str,
-    pub input: &'a str,
-    /// The numbers of the reads of the input that fail.
-    pub input_fails: &'a [u64],
-    /// The name of its one hook, if that is not empty, and the status and output with which that answers first.
-    pub hook: &'a str,
-    pub status: u8,
-    pub answer: &'a str,
-}
-
-impl<'a> Given<'a> {
-    /// Identifiers from `first` on, this second, UTC, no settings, no input and no hooks.
-    pub fn new(first: u128, second: u64) -> Given<'a> {
-        Given::hooked(first, second, "", 0, "")
-    }
-
-    /// The same, over one hook that answers so.
-    pub fn hooked(
-        first: u128,
-        second: u64,
-        hook: &'a str,
-        status: u8,
-        answer: &'a str,
-    ) -> Given<'a> {
-        Given {
-            first,
-            second,
-            zone: Zone::utc(),
-            settings: "",
-            input: "",
-            input_fails: &[],
-            hook,
-            status,
-            answer,
-        }
-    }
-}
-
-/// How a run ended, with what it wrote on both streams.
-pub struct Ended {
-    pub outcome: Outcome,
-    pub out: MemorySink,
-    pub err: MemorySink,
-}
-
-// It is written out, so that a caller does not prove again how each part is dropped.
-impl Drop for Ended {
-    fn drop(self) {
-        let Ended {
-            outcome: _,
-            out: _,
-            err: _,
-        } = self;
-    }
-}
-
-impl Ended {
-    /// Whether it ended with this status, by this cause.
-    pub fn is(&self, status: u8, cause: &Cause) -> bool {
-        self.outcome.status == status && self.outcome.cause == *cause
-    }
-
-    /// What it printed, or its line on the standard error if it did not end well, if the other stream got nothing.
-    pub fn said(&self) -> Option<&[u8]> {
-        let (said, other) = if self.outcome.status == 0 {
-            (self.out.bytes(), self.err.bytes())
-        } else {
-            (self.err.bytes(), self.out.bytes())
-        };
-        if other.is_empty() { Some(said) } else { None }
     }
 }
 
@@ -221,12 +112,12 @@ impl Streams {
 }
 
 /// Runs a line of words that are parted by bars, over an output whose calls with these numbers fail, and a folder and a journal of hours.
-pub fn run_over<F: Folder, J: Disk>(
+pub fn run_over<L: Link, F: Folder, J: Disk>(
     alloc: Global,
     given: &Given<'_>,
     line: &str,
     disk: &mut MemoryDisk,
-    link: &mut MemoryLink,
+    link: &mut L,
     out_fails: &[u64],
     months: &mut F,
     track: &mut J,
@@ -260,12 +151,12 @@ pub fn run_over<F: Folder, J: Disk>(
 }
 
 /// The same over hours whose every call fails.
-pub fn run_given(
+pub fn run_given<L: Link>(
     alloc: Global,
     given: &Given<'_>,
     line: &str,
     disk: &mut MemoryDisk,
-    link: &mut MemoryLink,
+    link: &mut L,
     out_fails: &[u64],
 ) -> Result<Ended, Fail> {
     let mut months = FailingFolder::new();

@@ -1,13 +1,16 @@
 // Two machines of a user that share a server, and command lines that are run on them one after another.
 
-use crate::machine::{Ended, Exchange, Given, has_property, link_over, machine, run_given};
+use crate::given::{Ended, Given};
+use crate::link::{Exchange, link_over};
+use crate::runs::{has_property, machine, run_given};
 use std::alloc::Global;
 use std::test::Fail;
 use tw_cli::Cause;
 use tw_server::MemoryLink;
 use tw_world::MemoryDisk;
 
-const SETTINGS: &str = "sync.server.url=http://localhost:8080\n\
+/// The settings by which a machine syncs.
+pub const SETTINGS: &str = "sync.server.url=http://localhost:8080\n\
     sync.server.client_id=1a2b3c4d-0001-4002-8003-00000000000f\n";
 
 /// The machine on which a line is run.
