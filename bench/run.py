@@ -14,7 +14,9 @@ another project, `annotate` adds another note, `done` ends another task, `modify
 and `import` reads as many tasks from a file into an empty store. Some commands are of `tw` alone, each over a new store: in `depends` a task
 for which another one waits gets dependencies on one of 250 tasks of a chain, in `depends-ten` on one of 25; in `depends-each` one of 250 tasks
 of the chain gets two dependencies, in `depends-each-ten` one of 25; in `done-instances` one of 100 tasks is an instance of one template and
-ends, in `done-instances-ten` one of 10; in `duplicate` one of 10 tasks is copied, in `duplicate-ten` each.
+ends, in `done-instances-ten` one of 10; in `duplicate` one of 10 tasks is copied, in `duplicate-ten` each; in `count-tag`, `count-status` and
+`count-project` one of 50 tasks has the tag, the status or the project, and `count-all` counts all tasks of that store; in `next-chain` each
+task of a chain waits for the one before it.
 Each line gives the median of the wall time in milliseconds, the peak of resident memory of one more run in
 megabytes, and how many times less `tw` takes of each.
 Memory is measured by GNU time (Debian's package time), and left out if that is not there.
@@ -123,7 +125,7 @@ def write_journal(folder, number, per_record, body, operations, with_slots, prop
     os.makedirs(folder)
     group = []
     with open(os.path.join(folder, "replica.journal"), "wb") as file:
-        magic = record(b"TWREPL01")
+        magic = record(b"TWREPL02")
         file.write(b"\x02" + magic[1:] + struct.pack(">QQ", 29, 0) if with_slots else magic)
         for place, (uuid, second, description) in enumerate(tasks(number), 1):
             group += operations(uuid, second, properties(second, description))
@@ -215,6 +217,26 @@ def copied(number, count):
     return made_operations, [f"1-{count}", "duplicate"]
 
 
+def listed(words):
+    """What makes the operations of tasks of which so many are completed and have a tag and a project, and the words that are given."""
+
+    def make(number, count):
+        made_operations = []
+        for place, (uuid, second, description) in enumerate(tasks(number)):
+            values = properties(second, description)
+            if place % (number // count) == 0:
+                values = values[:-1] + [("status", "completed"), ("project", "home.garden"), ("tag_shop", "")]
+            made_operations += operations(uuid, second, values)
+        return made_operations, words
+
+    return make
+
+
+def chained_next(number, count):
+    """The same chain, and the words that show its tasks by their urgency."""
+    return chained(number, count)[0], ["next"]
+
+
 # Commands over a store of their own, which each run finds as it was made: what makes it, and of how many tasks one takes part.
 OWN = {
     "depends": (chained, 250),
@@ -225,6 +247,11 @@ OWN = {
     "done-instances-ten": (recurring, 10),
     "duplicate": (copied, 10),
     "duplicate-ten": (copied, 1),
+    "count-all": (listed(["count"]), 50),
+    "count-tag": (listed(["+shop", "count"]), 50),
+    "count-status": (listed(["status:completed", "count"]), 50),
+    "count-project": (listed(["project:home", "count"]), 50),
+    "next-chain": (chained_next, 1),
 }
 
 
@@ -234,7 +261,7 @@ def write_own(folder, command, number):
     group, words = make(number, max(number // parts, 1))
     os.makedirs(folder)
     with open(os.path.join(folder, "replica.journal"), "wb") as file:
-        file.write(record(b"TWREPL01") + record(commit(group)))
+        file.write(record(b"TWREPL02") + record(commit(group)))
     return words
 
 

@@ -48,19 +48,21 @@ class Machine:
         self.tw = tw
         self.folder = os.path.join(folder, name)
         self.settings = os.path.join(folder, name + ".taskrc")
+        self.reported = ""
         with open(self.settings, "w", encoding="utf-8") as file:
             file.write(f"sync.server.url=http://localhost:{port}\nsync.server.client_id={CLIENT}\n")
 
-    def run(self, *words):
-        """The wall time of a line in milliseconds, and the peak memory in megabytes or none."""
+    def run(self, *words, status=0):
+        """The wall time of a line in milliseconds, and the peak memory in megabytes or none. What it reports is kept."""
         report = self.settings + ".peak"
         wrapper = [GNU_TIME, "-f", "%M", "-o", report] if os.access(GNU_TIME, os.X_OK) else []
         environment = {"PATH": os.environ.get("PATH", ""), "HOME": self.folder, "TASKDATA": self.folder, "TASKRC": self.settings, "TZ": ""}
         begin = time.perf_counter()
         ended = subprocess.run([*wrapper, self.tw, "task", *words], env=environment, stdout=subprocess.DEVNULL, stderr=subprocess.PIPE, check=False)
         wall = (time.perf_counter() - begin) * 1000
-        if ended.returncode != 0:
-            sys.exit(f"{' '.join(words)} ended with {ended.returncode}: {ended.stderr.decode(errors='replace')}")
+        self.reported = ended.stderr.decode(errors="replace")
+        if ended.returncode != status:
+            sys.exit(f"{' '.join(words)} ended with {ended.returncode}: {self.reported}")
         if not wrapper:
             return wall, None
         with open(report, encoding="utf-8") as file:

@@ -4,7 +4,7 @@ use Rattle.std.specs.FinMap.{get, entries}
 use Rattle.uuid.specs.Text.{hyphenated_text, lower}
 use Rattle.tw_model.specs.Maps.{same_bytes}
 use Rattle.tw_model.specs.Ops.{TaskValue, TasksValue}
-use Rattle.tw_urgency.specs.Stored.{moment_at}
+use Rattle.tw_urgency.specs.Stored.{moment_of, moment_at}
 use Rattle.tw_urgency.specs.Dependencies.{uuid_in}
 use Rattle.timew_interval.specs.declared.interval.Interval.{Interval}
 use Rattle.timew_bridge.specs.declared.active.Active.{Active}
@@ -14,9 +14,9 @@ use Rattle.timew_bridge.specs.Label.{label_of}
 use Rattle.timew_bridge.specs.Active.{latest}
 use Rattle.timew_bridge.specs.Track.{ended_if, let_go_at}
 
--- of a task with this start: whether it was started, and when it was changed
+-- of a task with this start: whether it was started, and the text of when it was changed
 abbrev pub known_with : (uuid : List ℕ) → TaskValue → (start : Option ℕ) → Known
-known_with u task start = record { uuid = u; is_started = is_some start; modified = moment_at (codes "modified") task }
+known_with u task start = record { uuid = u; is_started = is_some start; changed = get task (codes "modified") }
 
 abbrev pub known_of : List ℕ × TaskValue → Known
 known_of e = known_with e.0 e.1 (moment_at (codes "start") e.1)
@@ -44,7 +44,7 @@ find_known u (k ∷ ks) = cond (same_bytes u k.uuid) (Some k) (find_known u ks)
 
 abbrev pub known_lets_go : (start now : ℕ) → Option Known → Option ℕ
 known_lets_go start now None = Some now
-known_lets_go start now (Some k) = cond k.is_started None (Some (let_go_at start now k.modified))
+known_lets_go start now (Some k) = cond k.is_started None (Some (let_go_at start now (moment_of k.changed)))
 
 abbrev pub known_end : List Known → (now start : ℕ) → Option (List ℕ) → Option ℕ
 known_end known now start None = None

@@ -1,6 +1,7 @@
 // Intervals that end because of tasks.
 ghost use Rattle.std.specs.Prelude.{◌≡◌, ◌++◌, codes, IfOk, OnOk};
 ghost use Rattle.std.specs.List.{flat_map};
+ghost use Rattle.std.specs.Option.{option_copied};
 ghost use Rattle.tw_urgency.specs.Stored.{moment_at};
 ghost use Rattle.timew_bridge.specs.Track.{ended, ended_if, let_go_at, let_go_by, let_go, released, given_way};
 ghost use Rattle.timew_bridge.specs.Known.{known_lets_go, known_end, released_known};
@@ -49,12 +50,12 @@ fn let_go_at(start: u64, now: u64, modified: Option<u64>) -> u64
 }
 
 // When an interval ends whose task was not started or is not there.
-fn lets_go(start: u64, now: u64, known: Option<Known>) -> Option<u64>
-    ensures { result ≡ known_lets_go start now known }
+fn lets_go(start: u64, now: u64, known: Option<&Known>) -> Option<u64>
+    ensures { result ≡ known_lets_go start now (option_copied known.entry) }
 {
     match known {
         Some(task) if task.is_started => None,
-        Some(task) => Some(let_go_at(start, now, task.modified)),
+        Some(task) => Some(let_go_at(start, now, task.modified())),
         None => Some(now),
     }
 }

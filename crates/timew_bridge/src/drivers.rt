@@ -44,7 +44,7 @@ fn asked_of(alloc: Global, tasks: &Tasks, now: u64) -> Result<Asked, Memory>
     let mut active = None;
     for (uuid, task) in tasks.iter() {
         let start = start_of(task);
-        known.push(known_of(*uuid, task, start))?;
+        known.push(known_of(alloc, *uuid, task, start)?)?;
         active = later(active, started(now, *uuid, task, start));
     }
     Ok(Asked { known, active })
