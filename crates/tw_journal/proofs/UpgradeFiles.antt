@@ -14,7 +14,8 @@ use Rattle.tw_journal.specs.declared.journal.Journal.{Journal}
 use Rattle.tw_journal.specs.Checkpoint.{record_with, extended, slot_of, IsSameBeside, IsCopying, IsReplacing}
 use Rattle.tw_journal.specs.Writes.{IsOldOr}
 use Rattle.tw_journal.specs.Upgrade.{set_apart, marked, with_version, HasRow, HasAtMost, IsFirst}
-use Rattle.tw_journal.proofs.Forms.{tested, same_part, start_bounds, start_with, inside_is, form_grown, drop_grown, magic_same, version_text, both_hold, equal_holds, one_apart}
+use Rattle.tw_journal.proofs.Forms.{tested, same_part, start_bounds, start_with, inside_is, form_grown, drop_grown, magic_same, version_text, both_hold, equal_holds}
+use Rattle.tw_journal.proofs.FormFront.{one_apart}
 use Rattle.tw_journal.proofs.Added.{image_records}
 use Rattle.tw_journal.proofs.Between.{overwritten_beside, written_there}
 use Rattle.tw_journal.proofs.Ending.{further, marked_rest, marked_long, version_beside, version_there, first_there, magic_there}

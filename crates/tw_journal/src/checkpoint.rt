@@ -16,7 +16,8 @@ use tw_world::{Disk, DiskError};
 impl Journal {
     ghost use Rattle.std.specs.Prelude.{true, false};
     ghost use Rattle.tw_journal.specs.Record.{IsLongerBy};
-    ghost use Rattle.tw_journal.specs.Journal.{RecordsBecome, Leaves, RecordsOrOne, Accepted, AppendRefused, journal_end, journal_version, is_closed, can_checkpoint};
+    ghost use Rattle.tw_journal.specs.Journal.{RecordsBecome, Leaves, RecordsOrOne, Accepted, AppendRefused};
+    ghost use Rattle.tw_journal.specs.Journal.{journal_end, journal_version, is_closed, can_checkpoint};
 
     /// Replaces all records by one. A crash at any moment of the call leaves the records from before it, or this one alone;
     /// after `Ok` each crash leaves it. After `Disk` the journal is closed. Takes no memory.

@@ -1,10 +1,16 @@
 -- How many bytes the record of a step adds to a file.
 use Rattle.std.proofs.Common.{◌≡◌, ◌∙◌, ◌≤◌, ◌^◌, inl, ℕ, ◌+◌, Bool, false, List, [], ◌∷◌, cond, length, ap, sym, subst, arith}
+use Rattle.std.specs.Prelude.{min}
+use Rattle.std.proofs.Math.Nat.{min-eq_left}
 use Rattle.std.proofs.lemmas.List.{length-append}
 use Rattle.std.specs.Int.{to_be_bytes, w32}
 use Rattle.tw_world.specs.Disk.{DiskModel, LeavesOnly}
 use Rattle.tw_world.proofs.Moments.{OnlyNow, started}
 use Rattle.tw_journal.specs.Record.{rows, behind_gate, IsLongerBy}
+use Rattle.tw_journal.specs.Journal.{AppendRefused}
+use Rattle.tw_journal.specs.declared.journal.Journal.{Journal}
+use Rattle.tw_journal.specs.declared.error.AppendError.{AppendError}
+use Rattle.tw_journal.specs.declared.error.AppendError.TheVariants as appends
 use Rattle.tw_model.specs.declared.Op.{Op}
 use Rattle.tw_bodies.specs.Body.{body_of}
 use Rattle.tw_bodies.specs.Body.Step.{Commit}
@@ -32,3 +38,19 @@ module _ {D : Type 0} (m : DiskModel D) where
   -- where nothing was written, nothing has grown
   pub nothing_grown : OnlyNow m → (disk : D) (more : ℕ) → LeavesOnly m disk disk (IsLongerBy m disk more)
   nothing_grown only disk more = started m only disk (IsLongerBy m disk more) (λ f left. inl left)
+
+  -- at most a record at the limit
+  module _ (only : OnlyNow m) (before after : D) (bodies : List (List ℕ)) where
+    abbrev pub GrowsToLimit : Type 0
+    GrowsToLimit = LeavesOnly m before after (IsLongerBy m before (min (length (rows bodies)) (2 ^ 30)))
+
+    pub same_grown : after ≡ before → GrowsToLimit
+    same_grown same = subst (λ (d : D). LeavesOnly m before d (IsLongerBy m before (min (length (rows bodies)) (2 ^ 30)))) (sym same) (nothing_grown only before (min (length (rows bodies)) (2 ^ 30)))
+
+    pub row_grown : (body : List ℕ) → bodies ≡ body ∷ [] → length body + 5 ≤ 2 ^ 30 → LeavesOnly m before after (IsLongerBy m before (length body + 5)) → GrowsToLimit
+    row_grown body same within = grows_by before after (length body + 5) (min (length (rows bodies)) (2 ^ 30)) (ap (λ n. min n (2 ^ 30)) (bodies_size bodies body same) ∙ min-eq_left within)
+
+    pub refused_grown : (old new : Journal) (body : List ℕ) (e : AppendError) → bodies ≡ body ∷ [] → AppendRefused m old new before after (length body + 5) e → LeavesOnly m before after (IsLongerBy m before (length body + 5)) → GrowsToLimit
+    refused_grown old new body appends.Disk same r leaves = row_grown body same r.3 leaves
+    refused_grown old new body appends.Closed same r leaves = same_grown r.2
+    refused_grown old new body (appends.TooLong bytes) same r leaves = same_grown r.4

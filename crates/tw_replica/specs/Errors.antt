@@ -1,4 +1,5 @@
 -- What an error is in the words of another call.
+use Rattle.std.specs.Prelude.{Option, Some, None}
 use Rattle.tw_journal.specs.Errors.{append_in_all}
 use Rattle.tw_journal.specs.declared.error.OpenError.{OpenError as JournalOpenError}
 use Rattle.tw_journal.specs.declared.error.OpenError.TheVariants as opening
@@ -28,12 +29,12 @@ abbrev pub IsReadCause : ReadError → Type 0
 IsReadCause reads.Closed = ⊥
 IsReadCause e = Unit {0}
 
--- the cause that it was of a record that is not read. None of an open journal is closed or too long
-abbrev pub of_open : OpenError → ReadError
-of_open opens.Disk = reads.Disk
-of_open (opens.Damaged offset) = reads.Damaged offset
-of_open opens.Memory = reads.Memory
-of_open (opens.TooLong bytes) = reads.Closed
+-- the cause that it was of a record that is not read. No record that is read is too long
+abbrev pub of_open : OpenError → Option ReadError
+of_open opens.Disk = Some reads.Disk
+of_open (opens.Damaged offset) = Some (reads.Damaged offset)
+of_open opens.Memory = Some reads.Memory
+of_open (opens.TooLong bytes) = None
 
 -- the same cause of a journal that is not opened
 abbrev pub journal_in_open : JournalOpenError → OpenError

@@ -1,5 +1,5 @@
 // Why the calls of a replica are refused.
-ghost use Rattle.std.specs.Prelude.{◌≡◌};
+ghost use Rattle.std.specs.Prelude.{◌≡◌, Some};
 ghost use Rattle.tw_replica.specs.Errors.{IsReadCause, of_open};
 
 use std::alloc::AllocError;
@@ -87,7 +87,7 @@ pub enum ReplicaError {
 /// The same cause, of a record of an open journal that is not read.
 pub(crate) fn read_error(error: ReadError) -> OpenError
     requires { IsReadCause error }
-    ensures { of_open result ≡ error }
+    ensures { of_open result ≡ Some error }
 {
     match error {
         ReadError::Disk => OpenError::Disk,

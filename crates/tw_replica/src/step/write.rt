@@ -31,7 +31,7 @@ impl Drop for Prepared {
 }
 
 impl Prepared {
-    ghost use Rattle.std.specs.Prelude.{◌≡◌, length, true, false, Err as AnErr, IfOk, OnOk, IfErr};
+    ghost use Rattle.std.specs.Prelude.{◌≡◌, ◌^◌, min, length, true, false, Err as AnErr, IfOk, OnOk, IfErr};
     ghost use Rattle.tw_world.specs.Disk.{FaultsRise};
     ghost use Rattle.tw_journal.specs.Record.{rows};
     ghost use Rattle.tw_journal.specs.Journal.{is_closed};
@@ -65,7 +65,7 @@ impl Prepared {
         ensures state { IfOk result (λ replica. held_state replica ≡ prepared_state self) }
         ensures journal { IfOk result (λ replica. RecordsAfter D.model self.journal replica.journal disk.old disk.new (with_more (prepared_bodies self))) }
         ensures any_moment { LeavesRecords D.model self.journal disk.old disk.new (λ bodies. RecordsOrAll bodies (prepared_bodies self)) }
-        ensures growth { JournalGrowsBy D.model self.journal disk.old disk.new (length (rows (prepared_bodies self))) }
+        ensures growth { JournalGrowsBy D.model self.journal disk.old disk.new (min (length (rows (prepared_bodies self))) (2 ^ 30)) }
         ensures within { OnOk result (IsWithinLimit (prepared_bodies self)) }
         ensures closed { is_closed self.journal ≡ true → result ≡ AnErr WriteError.Closed }
         ensures live { IfOk result (λ replica. is_replica_closed replica ≡ false) }

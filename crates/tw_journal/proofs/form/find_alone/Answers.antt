@@ -2,7 +2,8 @@ use Rattle.std.specs.Prelude.{true, false}
 use Rattle.std.proofs.Common.{◌≡◌, ◌∙◌, List, ℕ, drop, sym, ap, arith}
 use Rattle.std.proofs.lemmas.Bool.{true≢false}
 use Rattle.tw_journal.specs.Form.{is_alone}
-use Rattle.tw_journal.proofs.Forms.{none_apart, one_apart, alone_long}
+use Rattle.tw_journal.proofs.Forms.{alone_long}
+use Rattle.tw_journal.proofs.FormFront.{none_apart, one_apart}
 use Rattle.tw_journal.proofs.form.find_alone.Goals as goal
 
 pub returns-then-at-lt-FRONT-clause-start : goal.returns-then-at-lt-FRONT-clause-start

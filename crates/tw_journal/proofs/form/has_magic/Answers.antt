@@ -1,4 +1,4 @@
-use Rattle.tw_journal.proofs.Forms.{short_magic}
+use Rattle.tw_journal.proofs.FormFront.{short_magic}
 use Rattle.tw_journal.proofs.form.has_magic.Goals as goal
 
 pub returns-then-front-lt-SLOT_A-clause-has : goal.returns-then-front-lt-SLOT_A-clause-has

@@ -1,4 +1,5 @@
-use Rattle.std.proofs.Common.{◌++◌, ◌∷◌, ◌∙◌, [], ap, sym, subst, List, ℕ, length, inl}
+use Rattle.std.proofs.Common.{◌++◌, ◌∷◌, ◌∙◌, ◌^◌, [], ap, sym, subst, List, ℕ, length, inl}
+use Rattle.std.specs.Prelude.{min}
 use Rattle.tw_journal.specs.Record.{rows}
 use Rattle.tw_journal.specs.Journal.{IsOpenOn}
 use Rattle.tw_world.specs.Disk.{LeavesOnly}
@@ -6,7 +7,7 @@ use Rattle.tw_world.proofs.Moments.{started}
 use Rattle.tw_journal.proofs.Offsets.{left_records}
 use Rattle.tw_replica.specs.Replica.{magic}
 use Rattle.tw_replica.specs.Prepared.{RecordsOrAll, bodies_in, prepared_bodies}
-use Rattle.tw_replica.proofs.RecordSizes.{one_size, grows_by}
+use Rattle.tw_replica.proofs.RecordSizes.{nothing_grown, row_grown, refused_grown}
 use Rattle.tw_replica.proofs.step.write.Prepared.write.Goals as goal
 
 pub returns-in_default-clause-any_moment : goal.returns-in_default-clause-any_moment
@@ -29,14 +30,18 @@ returns-in-Err-clause-any_moment g c = λ bodies on.
     subst (λ (more : List (List ℕ)). LeavesOnly g.D.Disk.model c.args.disk.now c.append.new.disk (RecordsOrAll bodies more))
     (ap (λ (b : List ℕ). b ∷ []) c.as_slice.ensures.value ∙ ap bodies_in (sym c.in-Some.is)) (c.append.ensures.any_moment magic bodies on)
 
+pub returns-in_default-clause-growth : goal.returns-in_default-clause-growth
+returns-in_default-clause-growth g c = λ bodies on.
+    nothing_grown g.D.Disk.model g.met.D.Disk.only_now c.args.disk.now (min (length (rows (prepared_bodies c.args.self))) (2 ^ 30))
+
 pub returns-in-Ok-clause-growth : goal.returns-in-Ok-clause-growth
 returns-in-Ok-clause-growth g c = λ bodies on.
-    grows_by g.D.Disk.model c.args.disk.now c.append.new.disk _ _
-    (ap (λ (more : List (List ℕ)). length (rows more)) (sym (ap (λ (b : List ℕ). b ∷ []) c.as_slice.ensures.value ∙ ap bodies_in (sym c.in-Some.is))) ∙ one_size c.as_slice.result.now)
+    row_grown g.D.Disk.model g.met.D.Disk.only_now c.args.disk.now c.append.new.disk (prepared_bodies c.args.self) c.as_slice.result.now
+    (sym (ap (λ (b : List ℕ). b ∷ []) c.as_slice.ensures.value ∙ ap bodies_in (sym c.in-Some.is))) c.in-Ok.ensures.accepted.2
     (c.append.ensures.growth magic bodies on)
 
 pub returns-in-Err-clause-growth : goal.returns-in-Err-clause-growth
 returns-in-Err-clause-growth g c = λ bodies on.
-    grows_by g.D.Disk.model c.args.disk.now c.append.new.disk _ _
-    (ap (λ (more : List (List ℕ)). length (rows more)) (sym (ap (λ (b : List ℕ). b ∷ []) c.as_slice.ensures.value ∙ ap bodies_in (sym c.in-Some.is))) ∙ one_size c.as_slice.result.now)
+    refused_grown g.D.Disk.model g.met.D.Disk.only_now c.args.disk.now c.append.new.disk (prepared_bodies c.args.self) c.args.self.journal c.append.new.self c.as_slice.result.now c.in-Err.error
+    (sym (ap (λ (b : List ℕ). b ∷ []) c.as_slice.ensures.value ∙ ap bodies_in (sym c.in-Some.is))) c.in-Err.ensures.refused
     (c.append.ensures.growth magic bodies on)
