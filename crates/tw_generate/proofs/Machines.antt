@@ -12,6 +12,7 @@ use Rattle.tw_replica.specs.declared.step.write.Prepared.{Prepared}
 use Rattle.tw_replica.specs.declared.replica.Replica.{Replica}
 use Rattle.tw_replica.proofs.PreparedWritten.{prepared_on}
 use Rattle.tw_sync.specs.Start.{Start}
+use Rattle.tw_sync.specs.Moved.{IsDoneStep}
 use Rattle.tw_sync.specs.Sync.{RecordsOfSync}
 use Rattle.tw_generate.specs.Links.{lone_link_model}
 use Rattle.tw_generate.specs.declared.link.LoneLink.{LoneLink}
@@ -29,7 +30,7 @@ module _ (old : Replica) (disk : MemoryDisk) (bodies : List (List ℕ)) (on : Is
 
 -- a sync leaves the replica open
 pub open_after_sync : (start : Start) (old new : Replica) (before after : MemoryDisk) (honest : Type 0) (link : LoneLink) (bodies : List (List ℕ)) → IsReplicaOn memory_model old before bodies
-    → RecordsOfSync memory_model start old new before after honest (lone_link_model.chain link) bodies → (bs : List (List ℕ)) × IsReplicaOn memory_model new after bs
+    → RecordsOfSync memory_model IsDoneStep start old new before after honest (lone_link_model.chain link) bodies → (bs : List (List ℕ)) × IsReplicaOn memory_model new after bs
 open_after_sync start old new before after honest link bodies on (inl nothing) = (
   bodies,
   record {

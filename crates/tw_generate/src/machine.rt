@@ -85,8 +85,9 @@ impl Machine {
     /// Syncs with the server at the other end of a link.
     pub(crate) fn sync(&mut self, alloc: Global, link: &mut LoneLink) -> Result<SyncReport, Memory>
         requires { IsOpen self.old }
-        ensures ended { IfOk result (λ report. IsHonest lone_link_model link.old CLIENT → IsSynced report (held_state self.old.replica) (held_state self.new.replica)
-            (server_chain lone_link_model link.old) (server_chain lone_link_model link.new)) }
+        ensures ended { IfOk result (λ report. IsHonest lone_link_model link.old CLIENT
+            → IsSynced report (held_state self.old.replica) (held_state self.new.replica) (server_chain lone_link_model link.old)
+            (server_chain lone_link_model link.new)) }
         ensures open { OnOk result (IsOpen self.new) }
         ensures kept { IsLinkKept lone_link_model link.old link.new }
     {

@@ -34,7 +34,8 @@ StoppedIsPartly = (state : State) (legs : List Leg) → IsSound state → IsPath
 
 -- what is carried fits the tasks at hand, over any link
 abbrev pub CarriedFits : Type 0
-CarriedFits = (state : State) (legs : List Leg) → IsSound state → IsPath (starts_at state) legs → misfit_synced 0 state.tasks (come (starts_at state) legs).carried ≡ None
+CarriedFits = (state : State) (legs : List Leg) → IsSound state → IsPath (starts_at state) legs
+    → misfit_synced 0 state.tasks (come (starts_at state) legs).carried ≡ None
 
 -- a replica that is stopped somewhere starts its next path there, with what was left
 abbrev pub StoppedStartsThere : Type 0

@@ -1,5 +1,6 @@
 //! Laws of the ends of a sync. Each function does nothing: its contract is the law.
-ghost use Rattle.tw_outcome.specs.Laws.{StartStandsBeside, DoneIsSynced, DoneIsCarried, StoppedIsPartly, CarriedFits, StoppedStartsThere, SnapshotLeadsOn, SnapshotEndsAlike, EndAgrees};
+ghost use Rattle.tw_outcome.specs.Laws.{StartStandsBeside, DoneIsSynced, DoneIsCarried, StoppedIsPartly, CarriedFits};
+ghost use Rattle.tw_outcome.specs.Laws.{StoppedStartsThere, SnapshotLeadsOn, SnapshotEndsAlike, EndAgrees};
 
 /// The path of a sound replica starts beside its tasks.
 pub fn start_stands_beside()

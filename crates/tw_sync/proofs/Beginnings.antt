@@ -1,9 +1,12 @@
 -- From the link that a sync is given to the one at which its path begins: a question for a snapshot lies between at most.
-use Rattle.std.proofs.Common.{◌≡◌, ℕ, inl, inr, List, [], ◌∷◌, ◌++◌, Result, Ok, Err, IsTrue, refl, sym, ap, subst, ◌∙◌, append_assoc}
+use Rattle.std.proofs.Common.{◌≡◌, ◌⊎◌, ℕ, inl, inr, false, List, [], ◌∷◌, ◌++◌, Result, Ok, Err, IsTrue, refl, sym, ap, subst, ◌∙◌, append_assoc}
+use Rattle.std.proofs.lemmas.Bool.{true≢false}
+use Rattle.std.proofs.lemmas.List.{append-nil}
 use Rattle.std.specs.List.{AllByRecursion}
 use Rattle.tw_world.specs.Disk.{DiskModel}
-use Rattle.tw_protocol.specs.Chain.{Version, Grows, HoldsAll}
+use Rattle.tw_protocol.specs.Chain.{Version, Grows}
 use Rattle.tw_model.specs.Ops.{TasksValue}
+use Rattle.tw_journal.specs.Journal.{is_closed}
 use Rattle.tw_http.specs.Link.{LinkModel, Exchange, IsHonest}
 use Rattle.tw_http.specs.Responses.{IsResponseAnswer}
 use Rattle.tw_http.specs.declared.message.Asked.TheVariants as asked
@@ -15,20 +18,21 @@ use Rattle.tw_outcome.specs.Agreement.{Agrees}
 use Rattle.tw_state.specs.State.{State}
 use Rattle.tw_state.specs.Core.{state_of}
 use Rattle.tw_replica.specs.declared.replica.Replica.{Replica}
-use Rattle.tw_path.specs.Path.{Reached, Leg, come, added_of}
+use Rattle.tw_path.specs.Path.{Reached}
 use Rattle.tw_outcome.specs.Start.{starts_at, Starts}
-use Rattle.tw_outcome.specs.End.{ServerChain, Went, Answer, EndsSo, End}
-use Rattle.tw_outcome.specs.End.Answer.{Done, Stopped, Unwritten}
-use Rattle.tw_sync.specs.Start.{Start, from_state, MayStart, IsSoundStart, Begins, IsSnapshotOf, IsSoundExchange, SoundSnapshots, GivenSoundly}
+use Rattle.tw_outcome.specs.End.{Answer, End}
+use Rattle.tw_sync.specs.Start.{Start, from_state, MayStart, IsSoundStart, AsksSnapshot, AsksFirst, Begins, IsSnapshotOf, IsSoundExchange, SoundSnapshots, GivenSoundly}
 use Rattle.tw_sync.specs.Heard.{Heard, heard, AreHeard, HearsUntil}
 use Rattle.tw_sync.specs.Start.Start.{Base, Snapshot}
 use Rattle.tw_sync.specs.Answers.{IsLinkKept}
 use Rattle.tw_sync.specs.End.{EndFrom}
 use Rattle.tw_sync.specs.Sync.{server_chain}
-use Rattle.tw_sync.specs.Contract.{EndsSomehow, Runs}
+use Rattle.tw_sync.specs.Contract.{EndsSomehow, GetsNoReply, AsksInVain, Runs}
+use Rattle.tw_sync.specs.Offer.{OffersAfter}
 use Rattle.tw_sync.specs.declared.report.SyncReport.{SyncReport}
 use Rattle.tw_sync.specs.declared.error.SyncError.{SyncError}
 use Rattle.tw_sync.specs.declared.error.SyncError.TheVariants as errors
+pub use Rattle.tw_sync.proofs.EndsSeen.{ends_before, ends_after}
 use Rattle.tw_sync.proofs.Folds.{agrees_is_kept}
 use Rattle.tw_sync.proofs.Hearing.{kept_same, kept_on}
 use Rattle.tw_sync.proofs.HonestAnswers.{still_honest}
@@ -63,38 +67,6 @@ module _ {L : Type 0} (m : LinkModel L) (client host : List ℕ) (state : State)
   begun_mine Base (inr over) honest = over.asked.mine honest
   begun_mine (Snapshot version tasks) b honest = b.asked.mine honest
 
--- ---- the end, seen from the first link
-
-holds_before : (old mid now : List Version) (v : List ℕ) → Grows old mid → HoldsAll mid now v → HoldsAll old now v
-holds_before old mid now v g h = record { front = h.front; back = h.back; cut = h.cut; holds = grows_on old mid h.front g h.holds }
-
-pushes_before : (old mid now : List Version) (vs : List Version) → Grows old mid → AllByRecursion (λ v. HoldsAll mid now v.parent) vs → AllByRecursion (λ v. HoldsAll old now v.parent) vs
-pushes_before old mid now [] g all = tt
-pushes_before old mid now (v ∷ vs) g all = (holds_before old mid now v.parent g all.0, pushes_before old mid now vs g all.1)
-
-went_before : (start : Reached) (first mid after : ServerChain) (legs : List Leg) → Grows first.chain mid.chain → mid.own ≡ first.own → Went start mid after legs → Went start first after legs
-went_before start first mid after legs g mine w =
-    record { path = w.path; between = w.between; mine = w.mine ∙ ap (λ vs. vs ++ added_of legs) mine; behind = pushes_before first.chain mid.chain after.chain (added_of legs) g w.behind }
-
-module _ (answer : Answer) (old : State) (start : Reached) (new : State) (first mid after : ServerChain) (g : Grows first.chain mid.chain) (mine : mid.own ≡ first.own) where
-  pub ends_before : End answer old start new mid after → End answer old start new first after
-  ends_before e = (grows_on first.chain mid.chain after.chain g e.0, by answer e.1)
-    where
-      by : (a : Answer) → EndsSo a old start new mid after → EndsSo a old start new first after
-      by (Done report) d = record {
-        legs = d.legs;
-        went = went_before start first mid after d.legs g mine d.went;
-        nothing = d.nothing;
-        last = holds_before first.chain mid.chain after.chain (come start d.legs).at g d.last;
-        state = d.state;
-        pulled = d.pulled;
-        pushed = d.pushed;
-        dropped = d.dropped;
-        base = d.base;
-      }
-      by Stopped s = record { legs = s.legs; untold = s.untold; few = s.few; went = went_before start first mid after (s.legs ++ s.untold) g mine s.went; state = s.state }
-      by Unwritten k = record { legs = k.legs; went = went_before start first mid after k.legs g mine k.went; state = k.state }
-
 -- ---- the list of exchanges
 
 -- the list has grown
@@ -125,16 +97,56 @@ first_sound : (chain : List Version) (client host version : List ℕ) (tasks : T
 first_sound chain client host version tasks reply [] ys none brings all = absurd cc
 first_sound chain client host version tasks reply (x ∷ xs) ys is brings all = all.0 version brings.bytes tasks is.0.sent.text (subst (IsResponseAnswer asked.Snapshot x.reply) brings.reply_is is.0.read_as) brings.reads
 
+-- ---- what is sent after it
+
+module _ {L : Type 0} (m : LinkModel L) (client host : List ℕ) (state : State) (now last : L) where
+  pub offers_kept : (result : Result SyncReport SyncError) → OffersAfter m client host state now last result → IsLinkKept m now last
+  offers_kept (Ok report) (inl same) = subst (IsLinkKept m now) (sym same) (kept_same m now)
+  offers_kept (Ok report) (inr o) = o.offers.kept
+  offers_kept (Err e) same = subst (IsLinkKept m now) (sym same) (kept_same m now)
+
+  pub offers_mine : (result : Result SyncReport SyncError) → OffersAfter m client host state now last result → IsHonest m now client → m.own last ≡ m.own now
+  offers_mine (Ok report) (inl same) honest = ap (λ l. m.own l) same
+  offers_mine (Ok report) (inr o) honest = o.offers.mine honest
+  offers_mine (Err e) same honest = ap (λ l. m.own l) same
+
+  pub offers_grow : (result : Result SyncReport SyncError) → OffersAfter m client host state now last result → IsHonest m now client → Grows (m.chain now) (m.chain last)
+  offers_grow (Ok report) (inl same) honest = subst (λ l. Grows (m.chain now) (m.chain l)) (sym same) (grows_same (m.chain now))
+  offers_grow (Ok report) (inr o) honest = (o.offers.on honest).grows
+  offers_grow (Err e) same honest = subst (λ l. Grows (m.chain now) (m.chain l)) (sym same) (grows_same (m.chain now))
+
+  list_same : last ≡ now → HasGrown m now last
+  list_same same = ([], ap (λ l. m.list l) same ∙ sym (append-nil (m.list now)))
+
+  list_by : (text : List ℕ) → (m.list last ≡ m.list now) ⊎ ((reply : List ℕ) × (m.list last ≡ m.list now ++ record { request = text; reply = reply } ∷ [])) → HasGrown m now last
+  list_by text (inl same) = ([], same ∙ sym (append-nil (m.list now)))
+  list_by text (inr (reply, is)) = (record { request = text; reply = reply } ∷ [], is)
+
+  pub offers_list : (result : Result SyncReport SyncError) → OffersAfter m client host state now last result → IsTrue (m.tells_list now) → HasGrown m now last
+  offers_list (Ok report) (inl same) tells = list_same same
+  offers_list (Ok report) (inr o) tells = list_by o.text (o.offers.listed tells)
+  offers_list (Err e) same tells = list_same same
+
 -- ---- a run
 
-module _ {D L : Type 0} (d : DiskModel D) (m : LinkModel L) (client host : List ℕ) (old new : Replica) (before after : D) (first now : L) (result : Result SyncReport SyncError) (run : Runs d m client host old new before after first now result) where
-  pub runs_kept : IsLinkKept m first now
-  runs_kept = kept_on m first run.begun now (begun_kept m client host (state_of old.core) first run.begun run.start run.begins) run.rest.any.link_kept
+module _ {D L : Type 0} (d : DiskModel D) (m : LinkModel L) (client host : List ℕ) (old new : Replica) (before after : D) (first last : L) (result : Result SyncReport SyncError) (run : Runs d m client host old new before after first last result) where
+  abbrev now : L
+  now = run.rest.now
 
-  pub runs_grows : IsHonest m first client → Grows (m.chain first) (m.chain now)
-  runs_grows honest =
+  now_kept : IsLinkKept m first now
+  now_kept = kept_on m first run.begun now (begun_kept m client host (state_of old.core) first run.begun run.start run.begins) run.rest.ends.any.link_kept
+
+  now_grows : IsHonest m first client → Grows (m.chain first) (m.chain now)
+  now_grows honest =
       grows_on (m.chain first) (m.chain run.begun) (m.chain now) (begun_grows m client host (state_of old.core) first run.begun run.start run.begins honest)
-      (run.rest.any.grows (begun_honest m client host (state_of old.core) first run.begun run.start run.begins honest))
+      (run.rest.ends.any.grows (begun_honest m client host (state_of old.core) first run.begun run.start run.begins honest))
+
+  pub runs_kept : IsLinkKept m first last
+  runs_kept = kept_on m first now last now_kept (offers_kept m client host (state_of new.core) now last result run.rest.offers)
+
+  pub runs_grows : IsHonest m first client → Grows (m.chain first) (m.chain last)
+  runs_grows honest =
+      grows_on (m.chain first) (m.chain now) (m.chain last) (now_grows honest) (offers_grow m client host (state_of new.core) now last result run.rest.offers (still_honest m first now client now_kept honest))
 
   -- an end is one also over the chain as it was before the question
   pub runs_before : (answer : Answer) → IsHonest m first client → EndFrom answer run.start (state_of old.core) (state_of new.core) (server_chain m run.begun) (server_chain m now)
@@ -143,33 +155,63 @@ module _ {D L : Type 0} (d : DiskModel D) (m : LinkModel L) (client host : List 
       ends_before answer (state_of old.core) (starts_at (from_state run.start (state_of old.core))) (state_of new.core) (server_chain m first) (server_chain m run.begun) (server_chain m now)
       (begun_grows m client host (state_of old.core) first run.begun run.start run.begins honest) (begun_mine m client host (state_of old.core) first run.begun run.start run.begins honest) e
 
+  -- and over the chain after what was sent last
+  pub runs_after : (answer : Answer) → IsHonest m first client → EndFrom answer run.start (state_of old.core) (state_of new.core) (server_chain m run.begun) (server_chain m now)
+      → EndFrom answer run.start (state_of old.core) (state_of new.core) (server_chain m first) (server_chain m last)
+  runs_after answer honest e =
+      let there = still_honest m first now client now_kept honest in
+      ends_after answer (state_of old.core) (starts_at (from_state run.start (state_of old.core))) (state_of new.core) (server_chain m first) (server_chain m now) (server_chain m last)
+      (offers_grow m client host (state_of new.core) now last result run.rest.offers there) (offers_mine m client host (state_of new.core) now last result run.rest.offers there) (runs_before answer honest e)
+
   -- so it is one of a sync whose path starts somewhere
   pub runs_ended : (answer : Answer) → IsHonest m first client → (IsHonest m run.begun client → EndFrom answer run.start (state_of old.core) (state_of new.core) (server_chain m run.begun) (server_chain m now))
-      → (start : Reached) × Starts (state_of old.core) start × End answer (state_of old.core) start (state_of new.core) (server_chain m first) (server_chain m now)
+      → (start : Reached) × Starts (state_of old.core) start × End answer (state_of old.core) start (state_of new.core) (server_chain m first) (server_chain m last)
   runs_ended answer honest ends = (
     starts_at (from_state run.start (state_of old.core)),
     starts_of run.start (state_of old.core) (may_start m client host (state_of old.core) first run.begun run.start run.begins),
-    runs_before answer honest (ends (begun_honest m client host (state_of old.core) first run.begun run.start run.begins honest)),
+    runs_after answer honest (ends (begun_honest m client host (state_of old.core) first run.begun run.start run.begins honest)),
   )
 
-  -- a snapshot that it started from is sound, if those of its exchanges are
-  runs_sound : IsTrue (m.tells_list first) → SoundSnapshots m client host first now → (start : Start) → Begins m client host (state_of old.core) first run.begun start → IsSoundStart start (m.chain now)
-  runs_sound tells sound Base b = tt
-  runs_sound tells sound (Snapshot version tasks) b =
-      let asked = b.asked.heard_is tells in
-      let more = list_after d m client host run.start old new before after run.begun now result run.rest (b.asked.kept.tells_list ∙ tells) in
-      first_sound (m.chain now) client host version tasks asked.0 asked.1.exchanges more.0 asked.1.are_heard asked.2
-      (sound (asked.1.exchanges ++ more.0) (more.1 ∙ ap (λ xs. xs ++ more.0) asked.1.listed ∙ append_assoc (m.list first) asked.1.exchanges more.0))
+  -- a new replica asked first for the snapshot, unless it got no reply
+  pub runs_ask : is_closed old.journal ≡ false → AsksFirst m client host (state_of old.core) first run.begun (GetsNoReply m client host first last result)
+  runs_ask live fresh = by (run.asks fresh)
+    where
+      Asked : Type 0
+      Asked = AsksSnapshot m client host first run.begun (λ reply. Unit {0})
 
-  given_soundly : GivenSoundly m client host (state_of old.core) first now → (start : Start) → Begins m client host (state_of old.core) first run.begun start → IsSoundStart start (m.chain now)
-  given_soundly given Base b = tt
-  given_soundly given (Snapshot version tasks) b = let g = given b.fresh in runs_sound g.0 g.1 (Snapshot version tasks) b
+      by : Asked ⊎ AsksInVain m client host old first last result → Asked ⊎ GetsNoReply m client host first last result
+      by (inl asked) = inl asked
+      by (inr (inl closed)) = absurd (true≢false (sym closed ∙ live))
+      by (inr (inr none)) = inr none
+
+  -- a snapshot that it started from is sound over a later chain, if those of the exchanges till then are
+  module _ (later : L) where
+    runs_sound : (IsTrue (m.tells_list now) → HasGrown m now later) → IsTrue (m.tells_list first) → SoundSnapshots m client host first later
+        → (start : Start) → Begins m client host (state_of old.core) first run.begun start → IsSoundStart start (m.chain later)
+    runs_sound grown tells sound Base b = tt
+    runs_sound grown tells sound (Snapshot version tasks) b =
+        let asked = b.asked.heard_is tells in
+        let more = list_after d m client host run.start old new before after run.begun now result run.rest.ends (b.asked.kept.tells_list ∙ tells) in
+        let rest = grown (now_kept.tells_list ∙ tells) in
+        first_sound (m.chain later) client host version tasks asked.0 asked.1.exchanges (more.0 ++ rest.0) asked.1.are_heard asked.2
+        (sound (asked.1.exchanges ++ (more.0 ++ rest.0))
+        (rest.1 ∙ ap (λ xs. xs ++ rest.0) (more.1 ∙ ap (λ xs. xs ++ more.0) asked.1.listed ∙ append_assoc (m.list first) asked.1.exchanges more.0)
+        ∙ append_assoc (m.list first) (asked.1.exchanges ++ more.0) rest.0 ∙ ap (λ xs. m.list first ++ xs) (append_assoc asked.1.exchanges more.0 rest.0)))
+
+    given_soundly : (IsTrue (m.tells_list now) → HasGrown m now later) → GivenSoundly m client host (state_of old.core) first later
+        → (start : Start) → Begins m client host (state_of old.core) first run.begun start → IsSoundStart start (m.chain later)
+    given_soundly grown given Base b = tt
+    given_soundly grown given (Snapshot version tasks) b = let g = given b.fresh in runs_sound grown g.0 g.1 (Snapshot version tasks) b
 
   pub runs_sound_start : GivenSoundly m client host (state_of old.core) first now → IsSoundStart run.start (m.chain now)
-  runs_sound_start given = given_soundly given run.start run.begins
+  runs_sound_start given = given_soundly now (λ tells. ([], sym (append-nil (m.list now)))) given run.start run.begins
+
+  -- over the chain after what was sent last
+  pub runs_sound_last : GivenSoundly m client host (state_of old.core) first last → IsSoundStart run.start (m.chain last)
+  runs_sound_last given = given_soundly last (offers_list m client host (state_of new.core) now last result run.rest.offers) given run.start run.begins
 
   -- a replica that agreed with the chain agrees with it
   pub runs_agrees : IsHonest m first client → Agrees (state_of old.core) (m.chain first) → GivenSoundly m client host (state_of old.core) first now → Agrees (state_of new.core) (m.chain now)
   runs_agrees honest a given =
-      run.rest.any.agrees (begun_honest m client host (state_of old.core) first run.begun run.start run.begins honest)
+      run.rest.ends.any.agrees (begun_honest m client host (state_of old.core) first run.begun run.start run.begins honest)
       (agrees_is_kept (state_of old.core) (m.chain first) (m.chain run.begun) a (begun_grows m client host (state_of old.core) first run.begun run.start run.begins honest)) (runs_sound_start given)

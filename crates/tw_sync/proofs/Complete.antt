@@ -16,7 +16,7 @@ use Rattle.tw_path.specs.Path.{versions_of}
 use Rattle.tw_sync.specs.Refused.{SyncRefused}
 use Rattle.tw_sync.specs.Sync.{server_chain}
 use Rattle.tw_sync.specs.Start.{Start, from_state}
-use Rattle.tw_sync.specs.Honest.{HonestRefused, CanSync, RestsOnPulled, IsWant}
+use Rattle.tw_sync.specs.Honest.{HonestRefused, CanSync, RestsOnPulled, RestsOnTold, IsWant}
 use Rattle.tw_sync.specs.declared.error.SyncError.{SyncError}
 use Rattle.tw_sync.specs.declared.error.SyncError.TheVariants as errors
 use Rattle.tw_sync.proofs.CursorInChain.{segments_len-append, pulled_within}
@@ -29,32 +29,32 @@ only_memory bytes (segments.Shape index) ops u within s = (the_only {V = List Sy
 only_memory bytes segments.Memory ops u within s = refl
 
 pub can_sync : {D L : Type 0} (m : DiskModel D) (links : LinkModel L) (old new : Replica) (before after : D) (first last : L) (client host : List ℕ) (start : Start) (e : SyncError) → CanSync m links start old before after first last client host
-    → SyncRefused m links old new before after first last e → HonestRefused start (state_of old.core) (server_chain links first) (server_chain links last) e → RestsOnPulled links client host (from_state start (state_of old.core)) first last e → IsWant e
-can_sync m links old new before after first last client host start errors.Memory can r h p = inl refl
-can_sync m links old new before after first last client host start (errors.Reply kind) can r h p = inr (ap (λ k. errors.Reply k) h)
-can_sync m links old new before after first last client host start errors.Link can r h p = absurd (can.link_works r.0)
-can_sync m links old new before after first last client host start (errors.Gone base) can r h p = absurd (h can.agrees)
-can_sync m links old new before after first last client host start (errors.Busy parent) can r h p = absurd (can.few h)
-can_sync m links old new before after first last client host start (errors.OutOfSync base parent) can r h p = absurd h
-can_sync m links old new before after first last client host start (errors.SegmentTooLong bytes) can r h p =
+    → SyncRefused m links old new before after first last e → HonestRefused start (state_of old.core) (server_chain links first) (server_chain links last) e → RestsOnPulled links client host (from_state start (state_of old.core)) first last e → RestsOnTold links client host start (state_of old.core) first last e → IsWant e
+can_sync m links old new before after first last client host start errors.Memory can r h p t = inl refl
+can_sync m links old new before after first last client host start (errors.Reply kind) can r h p t = inr (ap (λ k. errors.Reply k) h)
+can_sync m links old new before after first last client host start errors.Link can r h p t = absurd (can.link_works r.0)
+can_sync m links old new before after first last client host start (errors.Gone base) can r h p t = absurd (h can.agrees)
+can_sync m links old new before after first last client host start (errors.Busy parent) can r h p t = absurd (can.few h)
+can_sync m links old new before after first last client host start (errors.OutOfSync base parent) can r h p t = absurd h
+can_sync m links old new before after first last client host start (errors.SegmentTooLong bytes) can r h p t =
     let within = can.within.segment h.legs h.path h.between h.last h.some in
     let long = r.0 in
     let len = h.len in
     absurd (omega (arith, within, long, len))
-can_sync m links old new before after first last client host start (errors.PullTooLong bytes) can r h p =
+can_sync m links old new before after first last client host start (errors.PullTooLong bytes) can r h p t =
     let within = can.within.pull (versions_of p.0.legs) p.0.v p.0.between p.1 in
     let long = r.0 in
     let len = p.0.len in
     let all = segments_len-append (versions_of p.0.legs) (p.0.v ∷ []) in
     let pulled = pulled_within p.0.legs in
     absurd (omega (arith, within, long, len, all, pulled))
-can_sync m links old new before after first last client host start (errors.Segment version) can r h p =
+can_sync m links old new before after first last client host start (errors.Segment version) can r h p t =
     let read = can.within.read p.0.versions p.0.v p.0.between p.1 in
     absurd (p.0.other (only_memory p.0.v.segment p.0.error read.ops p.0.unread read.within read.reads))
-can_sync m links old new before after first last client host start (errors.Journal journal.Disk) can r h p = absurd (can.disk_works r.0)
-can_sync m links old new before after first last client host start (errors.Journal journal.Closed) can r h p = absurd (true≢false (sym r.0 ∙ can.is_open))
-can_sync m links old new before after first last client host start (errors.Journal (journal.TooLong bytes)) can r h p = fits (can.within.record_fits h.legs h.path h.between) h.len
+can_sync m links old new before after first last client host start (errors.Journal journal.Disk) can r h p t = absurd (can.disk_works r.0)
+can_sync m links old new before after first last client host start (errors.Journal journal.Closed) can r h p t = absurd (true≢false (sym r.0 ∙ can.is_open))
+can_sync m links old new before after first last client host start (errors.Journal (journal.TooLong bytes)) can r h p t = fits (can.within.record_fits t.0.legs t.0.path t.0.between) t.1 t.0.len
   where
-    fits : {done stopped : ℕ} {P : Type 0} → (P → done ≤ 2 ^ 30) × (stopped ≤ 2 ^ 30) → (P × (bytes ≡ done)) ⊎ (bytes ≡ stopped) → IsWant (errors.Journal (journal.TooLong bytes))
-    fits within (inl (there, len)) = let a = within.0 there in let long = r.0 in absurd (omega (arith, a, long, len))
-    fits within (inr len) = let a = within.1 in let long = r.0 in absurd (omega (arith, a, long, len))
+    fits : {done stopped : ℕ} {P T : Type 0} → (P → done ≤ 2 ^ 30) × (T → stopped ≤ 2 ^ 30) → T → (P × (bytes ≡ done)) ⊎ (bytes ≡ stopped) → IsWant (errors.Journal (journal.TooLong bytes))
+    fits within told (inl (there, len)) = let a = within.0 there in let long = r.0 in absurd (omega (arith, a, long, len))
+    fits within told (inr len) = let a = within.1 told in let long = r.0 in absurd (omega (arith, a, long, len))

@@ -1,5 +1,6 @@
 -- What is left at a cursor came too late, and what others added is pulled.
 use Rattle.std.proofs.Common.{◌≡◌, ℕ, ◌+◌, ◌≤◌, inr, length, List, [], ◌∷◌, ◌++◌, refl, sym, ap, subst, ◌∙◌, arith, length-append}
+use Rattle.std.proofs.Math.Bool.{or-false}
 use Rattle.std.proofs.lemmas.List.{append-nil, append_assoc}
 use Rattle.tw_protocol.specs.Chain.{Version, latest, Grows}
 use Rattle.tw_http.specs.Link.{LinkModel, IsHonest}
@@ -22,7 +23,7 @@ use Rattle.tw_sync.proofs.ExpectedReplies.{conflict_leads, not_late, goes_to_las
 use Rattle.tw_sync.proofs.Results.{ended_by}
 use Rattle.tw_sync.proofs.Served.{grows_on}
 use Rattle.tw_sync.proofs.OneExchangeMore.{IsAsked, SaysTruly, asked_on}
-use Rattle.tw_sync.proofs.PullRefused.{tells_all}
+use Rattle.tw_sync.proofs.ToldBefore.{tells_all}
 
 -- the cursor with one conflict more
 pub record IsLater (p q : Cursor) : Type 0 where
@@ -32,6 +33,7 @@ pub record IsLater (p q : Cursor) : Type 0 where
   pub pending : q.pending ≡ p.pending
   pub unsent : q.unsent ≡ p.unsent
   pub conflicts : q.conflicts ≡ p.conflicts + 1
+  pub wanted : q.wanted ≡ p.wanted
 
 later_path : (state : State) (legs : List Leg) (p q : Cursor) → IsLater p q → IsOnPath state legs p → IsOnPath state legs q
 later_path state legs p q same s = record {
@@ -41,6 +43,7 @@ later_path state legs p q same s = record {
   bytes = same.bytes ∙ s.bytes;
   pending = same.pending ∙ s.pending;
   unsent = same.unsent ∙ s.unsent;
+  wants = λ wanted. s.wants (sym same.wanted ∙ wanted);
 }
 
 some_more : (front at : List Version) → (g : Grows front at) → ¬ (latest at ≡ latest front) → ¬ (g.more ≡ [])
@@ -89,7 +92,7 @@ came_late m client host state first a b p q segment last s asked grows one same 
       on_path = later_path state s.legs p q same s.on_path;
       tries = (let o = s.tries in let e = same.conflicts in omega (arith, o, e));
       asked = asked_on m client host first a b s.legs s.legs p q 1 0 (λ hs. EndedBy hs (IsLastReply client (place state s.legs).at)) (λ hs. EndedBy hs (IsConflict last)) h s.asked asked (conflict_leads h.reply last refl)
-          (record { told = sym (append-nil (versions_of s.legs)); ops = []; reads = refl; versions = (let e = same.versions in omega (arith, e)); bytes = (let e = same.bytes in omega (arith, e)); conflicts = same.conflicts })
+          (record { told = sym (append-nil (versions_of s.legs)); ops = []; reads = refl; versions = (let e = same.versions in omega (arith, e)); bytes = (let e = same.bytes in omega (arith, e)); conflicts = same.conflicts; wanted = same.wanted ∙ sym (or-false p.wanted) })
           (let e = same.conflicts in let f = same.versions in omega (arith, e, f)) (λ hs ended late. absurd (let calm = not_late client (place state s.legs).at hs ended in omega (arith, calm, late))) (λ hs u. ended_by hs h (IsConflict last) refl);
       come = λ honest. (
           let e = s.come honest in

@@ -26,6 +26,7 @@ starts m client host state link cursor whole s = record {
       brought_is = sym s.on_path.versions;
       bytes_are = sym s.on_path.bytes;
       conflicts_are = sym s.conflicts;
+      wanted_is = sym s.calm;
       each = tt;
       followed = tt;
       so = refl;

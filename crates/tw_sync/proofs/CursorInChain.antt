@@ -1,24 +1,27 @@
 -- Where a sync stands, as the chain grows and versions are taken and added.
-use Rattle.std.proofs.Common.{◌≡◌, ℕ, ◌+◌, ◌≤◌, inl, inr, length, List, [], ◌∷◌, ◌++◌, sym, refl, ap, subst, ◌∙◌, arith, length-append}
+use Rattle.std.proofs.Common.{◌≡◌, ℕ, ◌+◌, ◌≤◌, inl, inr, Bool, length, List, [], ◌∷◌, ◌++◌, sym, refl, ap, subst, ◌∙◌, arith, length-append}
 use Rattle.std.specs.List.{AllByRecursion}
 use Rattle.std.proofs.lemmas.List.{append-nil, append_assoc}
 use Rattle.tw_model.specs.declared.SyncOp.{SyncOp}
 use Rattle.tw_protocol.specs.Chain.{Version, latest, IsChain, IsCut, IsBetween, HoldsAll, Grows}
 use Rattle.tw_protocol.specs.Answer.{version}
 use Rattle.tw_protocol.proofs.Between.{between_joins}
+use Rattle.tw_protocol.proofs.Chains.{row_is_split_once}
 use Rattle.tw_segment.specs.Segment.{max_len, segment_text, IsSegment}
 use Rattle.tw_state.specs.State.{State}
 use Rattle.tw_groups.specs.Groups.{joined}
 use Rattle.tw_groups.specs.Cut.{first}
-use Rattle.tw_path.specs.Path.{Leg, IsPush, is_batch, versions_of, version_on}
+use Rattle.tw_path.specs.Path.{Leg, IsPush, is_batch, versions_of, version_on, added_of}
 use Rattle.tw_path.specs.Path.Leg.{Pull, Push}
 use Rattle.tw_path.specs.Walk.{StandsAt}
 use Rattle.tw_path.proofs.Paths.{paths_join}
 use Rattle.tw_outcome.specs.End.{starts_at}
 use Rattle.tw_sync.specs.Cursor.{place, pulled_len, IsOnPath, IsIn, LiesIn, TakesVersion, AddsVersion}
+use Rattle.tw_sync.specs.Start.{Start, from_state, MayStart}
+use Rattle.tw_sync.specs.Start.Start.{Base, Snapshot}
 use Rattle.tw_sync.specs.Honest.{segments_len}
 use Rattle.tw_sync.specs.declared.cursor.Cursor.{Cursor}
-use Rattle.tw_sync.proofs.Legs.{at_on, versions_on, pulled_pull, sent_pull, len_pull, pulled_push, sent_push, len_push}
+use Rattle.tw_sync.proofs.Legs.{at_on, versions_on, added_pull, pulled_pull, sent_pull, len_pull, added_push, pulled_push, sent_push, len_push}
 
 -- ---- chains that grow
 
@@ -107,6 +110,7 @@ taken_on state legs p q id segment s t =
       bytes = (let a = t.bytes in let b = s.bytes in let c = len_pull legs v t.ops in omega (arith, a, b, c));
       pending = t.pending ∙ s.pending;
       unsent = (let a = t.unsent in let b = s.unsent in let c = sent_pull legs v t.ops in omega (arith, a, b, c));
+      wants = λ wanted. (let a = s.wants (sym t.wanted ∙ wanted) in let b = ap length (added_pull legs v t.ops) in omega (arith, a, b));
     }
 
 -- a version may be pushed: the first of what is left is its text
@@ -115,7 +119,7 @@ pub may_push : (state : State) (legs : List Leg) (p : Cursor) (id segment : List
 may_push state legs p id segment ops s some sent text reads within = record { parent = s.stands.at; reads = reads; some = some; sent = sent; text = text; short = within }
 
 -- it is added
-pub added_on_path : (state : State) (legs : List Leg) (p q : Cursor) (v : Version) (ops : List SyncOp) → IsOnPath state legs p → IsPush (place state legs) v ops → AddsVersion p q v.id ops → IsOnPath state (legs ++ Push v ops ∷ []) q
+pub added_on_path : {wanted : Bool} (state : State) (legs : List Leg) (p q : Cursor) (v : Version) (ops : List SyncOp) → IsOnPath state legs p → IsPush (place state legs) v ops → AddsVersion p q v.id ops wanted → IsOnPath state (legs ++ Push v ops ∷ []) q
 added_on_path state legs p q v ops s push t =
     let leg : Leg = Push v ops in
     let joins = paths_join (starts_at state) legs (leg ∷ []) in
@@ -126,4 +130,29 @@ added_on_path state legs p q v ops s push t =
       bytes = (let a = t.bytes in let b = s.bytes in let c = len_push legs v ops in omega (arith, a, b, c));
       pending = t.pending ∙ s.pending;
       unsent = (let a = t.unsent in let b = s.unsent in let c = sent_push legs v ops in omega (arith, a, b, c));
+      wants = λ wanted. (let a = ap length (added_push legs v ops) in let b = length-append (added_of legs) (v ∷ []) in omega (arith, a, b));
     }
+
+-- ---- away from the base
+
+-- versions lead to none that is before them
+leads_away : (chain : List Version) (v w from : List ℕ) (versions front back : List Version) → IsChain chain → (b : IsBetween chain v w versions) → 1 ≤ length versions → IsCut chain from front back → length front ≤ length b.front → ¬ (w ≡ from)
+leads_away chain v w from versions front back whole b some cut le same =
+    let there : IsCut chain from (b.front ++ versions) b.back = subst (λ x. IsCut chain x (b.front ++ versions) b.back) same (cut_behind chain v w versions b) in
+    let n = ap length (row_is_split_once chain from (b.front ++ versions) b.back front back whole there cut) in
+    let p = length-append b.front versions in
+    omega (arith, n, p, le, some)
+
+added_within : (legs : List Leg) → length (added_of legs) ≤ length (versions_of legs)
+added_within [] = omega arith
+added_within (Pull v ops ∷ legs) = let e = added_within legs in omega (arith, e)
+added_within (Push v ops ∷ legs) = let e = added_within legs in omega (arith, e)
+
+-- a path on which a version was added does not end at the replica's base
+pub added_away : (start : Start) (old : State) (chain : List Version) (legs : List Leg) → MayStart start old → IsChain chain → IsIn (from_state start old) chain legs → 1 ≤ length (added_of legs) → ¬ ((place (from_state start old) legs).at ≡ old.base)
+added_away Base old chain legs may whole b some =
+    let more = added_within legs in
+    leads_away chain old.base (place old legs).at old.base (versions_of legs) b.front (versions_of legs ++ b.back) whole b (omega (arith, some, more)) (cut_before chain old.base (place old legs).at (versions_of legs) b) (omega arith)
+added_away (Snapshot version tasks) old chain legs may whole b some =
+    let more = added_within legs in
+    leads_away chain version (place (from_state (Snapshot version tasks) old) legs).at old.base (versions_of legs) [] chain whole b (omega (arith, some, more)) (record { split = refl; at = sym may.nil }) (omega arith)

@@ -99,6 +99,7 @@ module _ {L : Type 0} (m : LinkModel L) (client host : List ℕ) (first now : L)
     brought_is = t.brought_is;
     bytes_are = t.bytes_are;
     conflicts_are = t.conflicts_are;
+    wanted_is = t.wanted_is;
     each = t.each;
     followed = t.followed;
     so = tt;

@@ -1,11 +1,12 @@
 -- What is said of a sync from a snapshot, by what is said of one from the state at it.
 use Rattle.std.proofs.Common.{ℕ, List}
+use Rattle.tw_http.specs.Link.{LinkModel}
 use Rattle.tw_state.specs.State.{State}
 use Rattle.tw_outcome.specs.End.{ServerChain}
 use Rattle.tw_sync.specs.Start.{Start, from_state}
 use Rattle.tw_sync.specs.Start.Start.{Base}
 use Rattle.tw_sync.specs.Heard.{Heard}
-use Rattle.tw_sync.specs.Honest.{HonestRefused}
+use Rattle.tw_sync.specs.Honest.{HonestRefused, RestsOnTold}
 use Rattle.tw_sync.specs.Measured.{IsMeasured}
 use Rattle.tw_sync.specs.declared.error.SyncError.{SyncError}
 use Rattle.tw_sync.specs.declared.error.SyncError.TheVariants as errors
@@ -47,3 +48,16 @@ module _ (start : Start) (old : State) where
   measured_from client hs (errors.Segment version) other h = tt
   measured_from client hs (errors.SegmentTooLong bytes) other h = h
   measured_from client hs (errors.PullTooLong bytes) other h = tt
+
+-- it rests on no place
+pub told_none : {L : Type 0} (m : LinkModel L) (client host : List ℕ) (start : Start) (old : State) (first last : L) (e : SyncError) → IsNoJournal e → RestsOnTold m client host start old first last e
+told_none m client host start old first last (errors.Journal e) other = absurd other
+told_none m client host start old first last errors.Memory other = tt
+told_none m client host start old first last errors.Link other = tt
+told_none m client host start old first last (errors.Reply kind) other = tt
+told_none m client host start old first last (errors.Gone base) other = tt
+told_none m client host start old first last (errors.Busy parent) other = tt
+told_none m client host start old first last (errors.OutOfSync base parent) other = tt
+told_none m client host start old first last (errors.Segment version) other = tt
+told_none m client host start old first last (errors.SegmentTooLong bytes) other = tt
+told_none m client host start old first last (errors.PullTooLong bytes) other = tt

@@ -8,6 +8,7 @@ use Rattle.tw_http.specs.declared.message.Request.{Request}
 use Rattle.tw_http.specs.declared.message.Response.{Response}
 use Rattle.tw_http.specs.declared.message.HttpError.{HttpError}
 use Rattle.tw_sync.specs.Heard.{Heard, heard, IsSent, Hears, HearsUnread, HearsUntil}
+use Rattle.tw_sync.specs.Refused.{AsksOfChain}
 use Rattle.tw_sync.specs.Answers.{HeardRefusedAsk, AskRefused, IsBadlyAnswered}
 use Rattle.tw_sync.specs.Causes.{of_ask}
 use Rattle.tw_sync.specs.declared.error.AskError.{AskError}
@@ -34,7 +35,7 @@ module _ {L : Type 0} (m : LinkModel L) (old new : L) where
   pub hears_unread : (asked : Request) (host reply : List ℕ) → IsListed asked host reply → HearsUnread m (client_of asked) host old new []
   hears_unread asked host reply listed = record { exchanges = []; last = exchange_of asked host reply; listed = listed; are_heard = refl; asked = asked; sent = sent_of asked host reply }
 
-  pub badly_heard : (asked : Request) (host reply : List ℕ) (e : AskError) → IsListed asked host reply → IsBadlyAnswered asked reply e → (hs : List Heard) × HearsUntil m (client_of asked) host old new hs (of_ask e) × HeardRefusedAsk hs e
-  badly_heard asked host reply (asking.Reply kind) listed (r, read, bad) = (heard asked r ∷ [], hears_one asked host reply r listed read, (heard asked r, refl, bad))
-  badly_heard asked host reply asking.Memory listed b = ([], inr (hears_unread asked host reply listed), refl)
-  badly_heard asked host reply asking.Link listed b = absurd b
+  pub badly_heard : (asked : Request) (host reply : List ℕ) (e : AskError) → AsksOfChain asked → IsListed asked host reply → IsBadlyAnswered asked reply e → (hs : List Heard) × HearsUntil m (client_of asked) host old new hs (of_ask e) × HeardRefusedAsk hs e
+  badly_heard asked host reply (asking.Reply kind) of_chain listed (r, read, bad) = (heard asked r ∷ [], hears_one asked host reply r listed read, (heard asked r, refl, (bad, of_chain)))
+  badly_heard asked host reply asking.Memory of_chain listed b = ([], inr (hears_unread asked host reply listed), refl)
+  badly_heard asked host reply asking.Link of_chain listed b = absurd b

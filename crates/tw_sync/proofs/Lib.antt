@@ -8,9 +8,11 @@ pub mod Results
 pub mod StepTaken
 pub mod HonestProgress
 pub mod OneExchangeMore
+pub mod ToldBefore
 pub mod PullRefused
 pub mod OtherVersions
 pub mod LeftIsSent
+pub mod Unsent
 pub mod Conflicts
 pub mod CursorAtStart
 pub mod ReplicaMoved
@@ -29,9 +31,12 @@ pub mod ExpectedReplies
 pub mod Complete
 pub mod SentAndAsked
 pub mod StoppedEnds
+pub mod Offering
+pub mod OpenRuns
 pub mod GivenFacts
 pub mod FromStart
 pub mod Unheard
+pub mod EndsSeen
 pub mod Beginnings
 pub mod SyncEnds
 pub mod LaterOps

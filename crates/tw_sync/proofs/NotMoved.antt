@@ -25,7 +25,7 @@ use Rattle.tw_sync.specs.Start.Start.{Base, Snapshot}
 use Rattle.tw_sync.specs.Sync.{server_chain}
 use Rattle.tw_sync.specs.Way.{RefusesLast, IsUnpassed, TellsOf, WentOn}
 use Rattle.tw_sync.specs.Measured.{IsRecordLen, IsMeasured}
-use Rattle.tw_sync.specs.Honest.{HonestRefused, RestsOnPulled, IsLongRecord}
+use Rattle.tw_sync.specs.Honest.{HonestRefused, RestsOnPulled, RestsOnTold, IsLongRecord}
 use Rattle.tw_sync.specs.Cursor.{place, IsIn, LiesIn}
 use Rattle.tw_sync.specs.Progress.{IsCause}
 use Rattle.tw_sync.specs.Causes.{of_record}
@@ -100,6 +100,13 @@ module _ {D L : Type 0} (m : DiskModel D) (links : LinkModel L) (client : List �
   unmoved_rests host (records.Journal e) = tt
   unmoved_rests host records.Memory = tt
 
+  pub unmoved_told : (host : List ℕ) → ((bytes : ℕ) → bytes ≡ row_size step → RestsOnTold links client host start (state_of old.core) first last (errors.Journal (journal.TooLong bytes))) → (e : RecordError) → IsNotMoved m old new before after at step e
+      → RestsOnTold links client host start (state_of old.core) first last (of_record e)
+  unmoved_told host told (records.Journal journal.Disk) r = tt
+  unmoved_told host told (records.Journal journal.Closed) r = tt
+  unmoved_told host told (records.Journal (journal.TooLong bytes)) r = told bytes r.1.0.0
+  unmoved_told host told records.Memory r = tt
+
   -- its state is the old one
   pub unmoved_state : (e : RecordError) → IsNotMoved m old new before after at step e → state_of new.core ≡ state_of old.core
   unmoved_state (records.Journal e) r = r.1.1
@@ -109,6 +116,19 @@ module _ {D L : Type 0} (m : DiskModel D) (links : LinkModel L) (client : List �
   pub unmoved_cause : (hs : List Heard) (e : RecordError) → GoesOnFrom hs ⊎ GoesOnFromAllButLast hs → HeardRefused client hs (of_record e)
   unmoved_cause hs (records.Journal e) g = record { cause = tt; until = g }
   unmoved_cause hs records.Memory g = record { cause = tt; until = g }
+
+  -- the last version may not be passed, and one more may have been added
+  pub unmoved_refuses_last : (e : RecordError) → IsNotMoved m old new before after at step e → RefusesLast (of_record e)
+  unmoved_refuses_last (records.Journal journal.Disk) r = tt
+  unmoved_refuses_last (records.Journal journal.Closed) r = absurd (true≢false (sym r.1.0.0 ∙ live))
+  unmoved_refuses_last (records.Journal (journal.TooLong bytes)) r = tt
+  unmoved_refuses_last records.Memory r = tt
+
+  pub unmoved_adds : (e : RecordError) → IsNotMoved m old new before after at step e → MayAdd (of_record e)
+  unmoved_adds (records.Journal journal.Disk) r = tt
+  unmoved_adds (records.Journal journal.Closed) r = absurd (true≢false (sym r.1.0.0 ∙ live))
+  unmoved_adds (records.Journal (journal.TooLong bytes)) r = tt
+  unmoved_adds records.Memory r = tt
 
   pub unmoved_measured : (hs : List Heard) → ((bytes : ℕ) → bytes ≡ row_size step → IsRecordLen start (state_of old.core) client hs bytes) → (e : RecordError) → IsNotMoved m old new before after at step e → IsMeasured start (state_of old.core) client hs (of_record e)
   unmoved_measured hs len (records.Journal journal.Disk) r = tt
@@ -144,23 +164,15 @@ went_on_until hs (errors.Busy parent) g = inr g
 went_on_until hs (errors.OutOfSync base parent) g = inr g
 went_on_until hs (errors.PullTooLong bytes) g = inr g
 
-may_refuse_last : (e : RecordError) → RefusesLast (of_record e)
-may_refuse_last (records.Journal e) = tt
-may_refuse_last records.Memory = tt
-
-may_have_added : (e : RecordError) → MayAdd (of_record e)
-may_have_added (records.Journal e) = tt
-may_have_added records.Memory = tt
-
-pub tells_unwritten : (legs : List Leg) (e : SyncError) (hs : List Heard) (r : RecordError) → TellsOf legs e hs → TellsOf legs (of_record r) hs
-tells_unwritten legs e hs r t = record { last = t.last; told = t.told; unpassed = by t.unpassed }
+pub tells_unwritten : (legs : List Leg) (e : SyncError) (hs : List Heard) (r : RecordError) → RefusesLast (of_record r) → TellsOf legs e hs → TellsOf legs (of_record r) hs
+tells_unwritten legs e hs r may t = record { last = t.last; told = t.told; unpassed = by t.unpassed }
   where
     by : IsUnpassed e t.last → IsUnpassed (of_record r) t.last
     by (inl none) = inl none
-    by (inr one) = inr (may_refuse_last r, one.1)
+    by (inr one) = inr (may, one.1)
 
-pub went_unwritten : (state : State) (before after : ServerChain) (legs : List Leg) (e : SyncError) (r : RecordError) → WentOn state before after legs e → WentOn state before after legs (of_record r)
-went_unwritten state before after legs e r w = record { untold = w.untold; few = w.few; told_only = inr (may_have_added r); went = w.went }
+pub went_unwritten : (state : State) (before after : ServerChain) (legs : List Leg) (e : SyncError) (r : RecordError) → MayAdd (of_record r) → WentOn state before after legs e → WentOn state before after legs (of_record r)
+went_unwritten state before after legs e r may w = record { untold = w.untold; few = w.few; told_only = inr may; went = w.went }
 
 -- a chain that has grown knows the version of a snapshot still
 pub known_grown : (start : Start) (old new : List Version) → IsKnownStart start old → Grows old new → IsKnownStart start new

@@ -18,7 +18,8 @@ use Rattle.tw_sync.specs.declared.cursor.Cursor.{Cursor}
 use Rattle.tw_sync.specs.declared.error.SyncError.TheVariants as errors
 use Rattle.tw_sync.proofs.Hearing.{hears_until}
 use Rattle.tw_sync.proofs.ExpectedReplies.{goes_on_to_conflict}
-use Rattle.tw_sync.proofs.PullRefused.{late_by_one, tells_all, went_on}
+use Rattle.tw_sync.proofs.PullRefused.{late_by_one, went_on}
+use Rattle.tw_sync.proofs.ToldBefore.{tells_all}
 
 none_there : (v : Version) → Contains [] v → ⊥
 none_there v at = let lt = at.1 in omega (arith, lt)

@@ -1,5 +1,5 @@
 -- A sync is refused while it pulls.
-use Rattle.std.proofs.Common.{◌≡◌, ◌⊎◌, ℕ, ◌+◌, ◌*◌, ◌≤◌, inl, inr, length, List, [], ◌∷◌, ◌++◌, Result, Ok, Err, Contains, refl, sym, ap, subst, ◌∙◌, arith}
+use Rattle.std.proofs.Common.{◌≡◌, ◌⊎◌, ℕ, ◌+◌, ◌*◌, ◌≤◌, inl, inr, length, List, [], ◌∷◌, ◌++◌, Ok, Contains, refl, sym, ap, subst, ◌∙◌, arith}
 use Rattle.std.proofs.lemmas.List.{append-nil}
 use Rattle.std.proofs.lemmas.List.Elements.{Contains-append_right}
 use Rattle.tw_world.specs.Disk.{Rose}
@@ -7,21 +7,17 @@ use Rattle.tw_protocol.specs.Chain.{Version, IsChain, IsBetween}
 use Rattle.tw_protocol.specs.Answer.{version}
 use Rattle.tw_protocol.proofs.Between.{between_joins}
 use Rattle.tw_http.specs.Link.{LinkModel, IsHonest}
-use Rattle.tw_http.specs.declared.message.Request.{Request}
-use Rattle.tw_http.specs.declared.message.Request.TheVariants as asks
-use Rattle.tw_http.specs.declared.message.Response.{Response}
-use Rattle.tw_http.specs.declared.message.HttpError.{HttpError}
 use Rattle.tw_http.specs.declared.message.Response.TheVariants as replies
 use Rattle.tw_state.specs.State.{State}
 use Rattle.tw_path.specs.Path.{Leg, IsPath, versions_of, added_of}
 use Rattle.tw_outcome.specs.End.{ServerChain, starts_at, Went}
-use Rattle.tw_sync.specs.Heard.{Heard, Hears, HearsUntil, brought, pulled_bytes, versions_in, told_in, told_as, added_as, most_exchanges}
+use Rattle.tw_sync.specs.Heard.{Heard, Hears, HearsUntil, brought, pulled_bytes, versions_in, told_in, most_exchanges}
 use Rattle.tw_sync.specs.Answers.{IsLinkKept, GrowsOn, child_heard, HeardRefusedAsk, AskRefused, NoReply}
 use Rattle.tw_sync.specs.Refused.{max_pull, IsWelcome, IsBadSegment, GoesOnFrom, HeardRefused}
 use Rattle.tw_sync.specs.Sync.{server_chain}
 use Rattle.tw_sync.specs.Measured.{IsMeasured}
 use Rattle.tw_sync.specs.Honest.{HonestRefused, IsLongPull, IsUnreadIn, WasPulled, RestsOnPulled}
-use Rattle.tw_sync.specs.Way.{RefusesLast, TellsOf, WentOn}
+use Rattle.tw_sync.specs.Way.{TellsOf, WentOn}
 use Rattle.tw_sync.specs.Cursor.{place, IsOnPath, IsNotTaken, IsUnreadable, IsIn}
 use Rattle.tw_sync.specs.Progress.{HeardSoFar, HasCome, Asks, IsCause, HeardToStop, StopsTruly, IsStopped}
 use Rattle.tw_sync.specs.Start.Start.{Base}
@@ -35,55 +31,13 @@ use Rattle.tw_sync.specs.declared.error.TakeError.TheVariants as taking
 use Rattle.tw_sync.specs.declared.error.SyncError.{SyncError}
 use Rattle.tw_sync.specs.declared.error.SyncError.TheVariants as errors
 use Rattle.tw_sync.proofs.CursorInChain.{pushes_grown, lies_grown}
-use Rattle.tw_sync.proofs.Hearing.{kept_on, hears_on, hears_until, hears_until_on, brought-append, pulled_bytes-append, versions_in-append, told_in-past, told_in-last}
+use Rattle.tw_sync.proofs.Hearing.{kept_on, hears_on, hears_until, hears_until_on, brought-append, pulled_bytes-append, versions_in-append, told_in-past}
 use Rattle.tw_sync.proofs.ExpectedReplies.{child_leads, goes_on, goes_to_last, goes_on_so_far, refused_on}
 use Rattle.tw_sync.proofs.Results.{ended_by}
 use Rattle.tw_sync.proofs.Served.{grows_on}
 use Rattle.tw_sync.proofs.HonestProgress.{found_behind, never_gone}
 use Rattle.tw_sync.proofs.OneExchangeMore.{IsAsked, SaysTruly, RefusedAsk}
-
--- ---- what was told
-
--- all that was told of is passed
-pub tells_all : (legs : List Leg) (e : SyncError) (hs : List Heard) → told_in hs ≡ versions_of legs → TellsOf legs e hs
-tells_all legs e hs told = record { last = []; told = told ∙ sym (append-nil (versions_of legs)); unpassed = inl refl }
-
--- a reply tells of no version or of one
-pub one_at_most : (h : Heard) → (told_as h.asked h.reply ≡ []) ⊎ ((v : Version) × (told_as h.asked h.reply ≡ v ∷ []))
-one_at_most h = by h.asked h.reply
-  where
-    added : (asked : Request) (id : List ℕ) → (added_as asked id ≡ []) ⊎ ((v : Version) × (added_as asked id ≡ v ∷ []))
-    added (asks.Add client parent segment) id = inr (version id parent segment, refl)
-    added (asks.Child client parent) id = inl refl
-    added (asks.AddSnapshot client version bytes) id = inl refl
-    added (asks.Snapshot client) id = inl refl
-
-    by : (asked : Request) (reply : Result Response HttpError) → (told_as asked reply ≡ []) ⊎ ((v : Version) × (told_as asked reply ≡ v ∷ []))
-    by asked (Ok (replies.Child id parent segment)) = inr (version id parent segment, refl)
-    by asked (Ok (replies.Added id wanted)) = added asked id
-    by asked (Ok (replies.Conflict latest)) = inl refl
-    by asked (Ok replies.UpToDate) = inl refl
-    by asked (Ok replies.Gone) = inl refl
-    by asked (Ok replies.Bad) = inl refl
-    by asked (Ok replies.TooLong) = inl refl
-    by asked (Ok replies.Taken) = inl refl
-    by asked (Ok replies.Stored) = inl refl
-    by asked (Ok (replies.Snapshot version bytes)) = inl refl
-    by asked (Err e) = inl refl
-
--- one reply more, of a cause that refuses the last version
-pub tells_more : (legs : List Leg) (e : SyncError) (hs : List Heard) (h : Heard) → RefusesLast e → told_in hs ≡ versions_of legs → TellsOf legs e (hs ++ h ∷ [])
-tells_more legs e hs h may told = by (one_at_most h)
-  where
-    by : (told_as h.asked h.reply ≡ []) ⊎ ((v : Version) × (told_as h.asked h.reply ≡ v ∷ [])) → TellsOf legs e (hs ++ h ∷ [])
-    by (inl none) = tells_all legs e (hs ++ h ∷ []) (told_in-past hs h none ∙ told)
-    by (inr (v, is)) = record { last = v ∷ []; told = told_in-last hs h v is ∙ ap (λ vs. vs ++ v ∷ []) told; unpassed = inr (may, (v, refl)) }
-
--- what a refused question heard
-pub tells_ask : (legs : List Leg) (e : AskError) (hs ks : List Heard) → HeardRefusedAsk ks e → told_in hs ≡ versions_of legs → TellsOf legs (of_ask e) (hs ++ ks)
-tells_ask legs (asking.Reply kind) hs ks (h, is, bad) told = subst (λ xs. TellsOf legs (errors.Reply kind) (hs ++ xs)) (sym is) (tells_more legs (errors.Reply kind) hs h tt told)
-tells_ask legs asking.Link hs ks none told = subst (λ xs. TellsOf legs errors.Link (hs ++ xs)) (sym none) (tells_all legs errors.Link (hs ++ []) (ap told_in (append-nil hs) ∙ told))
-tells_ask legs asking.Memory hs ks none told = subst (λ xs. TellsOf legs errors.Memory (hs ++ xs)) (sym none) (tells_all legs errors.Memory (hs ++ []) (ap told_in (append-nil hs) ∙ told))
+use Rattle.tw_sync.proofs.ToldBefore.{tells_all, tells_more, tells_ask}
 
 -- ---- the exchanges
 
@@ -269,7 +223,7 @@ pulling_untaken m client host state first a b p q Q id segment e s asked tells n
         stops_here m client host state first a b s.legs p x s.on_path.path c r.on r.mine why.0 why.1
 
     goes : (hs : List Heard) → pulled_bytes hs ≡ p.bytes → GoesOnFrom hs → p.bytes + length segment ≤ max_pull → GoesOnFrom (hs ++ h ∷ [])
-    goes hs have g within = goes_on hs h g (asked.welcome, child_leads h.reply id p.walker.at segment refl) (λ late. refl) (omega (arith, have, within)) (let f = g.few in omega (arith, f))
+    goes hs have g within = goes_on hs h g (asked.welcome, child_leads h.reply id p.walker.at segment refl, asked.of_chain) (λ late. refl) (omega (arith, have, within)) (let f = g.few in omega (arith, f))
 
     stays : (e ≡ taking.Memory) ⊎ (q ≡ p) → (of_take e ≡ errors.Memory) ⊎ IsOnPath state s.legs q
     stays (inl is) = inl (ap of_take is)

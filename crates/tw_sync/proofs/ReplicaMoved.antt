@@ -166,16 +166,17 @@ module _ {D : Type 0} (m : DiskModel D) (old new : Replica) (before after : D) (
       by true e same = same
       by false e there = absurd (apart at old.core.base e (sym at_is ∙ sym (ap (λ (t : State). t.base) there.0) ∙ stays))
 
-  pub records_are : (honest : Type 0) (chain : List Version) → (honest → LiesIn (from_state start (state_of old.core)) chain end.legs) → (bodies : List (List ℕ)) → IsReplicaOn m old before bodies
-      → LeavesOnly m before after (OpensToEither (state_of old.core) (moved_by at step (state_of old.core))) → RecordsOfSync m start old new before after honest chain bodies
-  records_are honest chain lies bodies on leaves = by (same_id at old.core.base) refl by_moved (subst (λ (o : Option State). LeavesOnly m before after (OpensToEither (state_of old.core) o)) (by_leads start (state_of old.core) s at step end) leaves)
+  pub records_are : (Goes : Start → State → Reached → Step → Type 0) → Goes start (state_of old.core) (place (from_state start (state_of old.core)) end.legs) step → (honest : Type 0) (chain : List Version) → (honest → LiesIn (from_state start (state_of old.core)) chain end.legs) → (bodies : List (List ℕ)) → IsReplicaOn m old before bodies
+      → LeavesOnly m before after (OpensToEither (state_of old.core) (moved_by at step (state_of old.core))) → RecordsOfSync m Goes start old new before after honest chain bodies
+  records_are Goes goes honest chain lies bodies on leaves = by (same_id at old.core.base) refl by_moved (subst (λ (o : Option State). LeavesOnly m before after (OpensToEither (state_of old.core) o)) (by_leads start (state_of old.core) s at step end) leaves)
     where
-      by : (b : Bool) → same_id at old.core.base ≡ b → IsMovedTo m old new before after step (cond b None (Some s)) → LeavesOnly m before after (OpensToEither (state_of old.core) (cond b None (Some s))) → RecordsOfSync m start old new before after honest chain bodies
+      by : (b : Bool) → same_id at old.core.base ≡ b → IsMovedTo m old new before after step (cond b None (Some s)) → LeavesOnly m before after (OpensToEither (state_of old.core) (cond b None (Some s))) → RecordsOfSync m Goes start old new before after honest chain bodies
       by true e same run = inl (record { base = ap (λ (t : State). t.base) same.state; same = same })
       by false e there run = inr (record {
         moved = λ stays. apart at old.core.base e (sym at_is ∙ sym (ap (λ (t : State). t.base) there.0) ∙ stays);
         step = step;
         end = record { may = end.may; legs = end.legs; path = end.path; goes_there = end.goes_there; leads = end.leads ∙ ap Some (sym there.0) };
+        goes = goes;
         lies = lies;
         within = there.2;
         on = there.1 bodies on;

@@ -2,11 +2,7 @@
 use Rattle.std.proofs.Common.{◌≡◌, List, [], ◌∷◌, ◌++◌, Result, Ok, Err, refl, sym, subst}
 use Rattle.std.specs.Result.{OnOk, IfOk, IfErr, IsErrAnd}
 use Rattle.tw_sync.specs.Heard.{Heard}
-use Rattle.tw_sync.specs.End.{IsStopping}
 use Rattle.tw_sync.specs.Refused.{EndedBy}
-use Rattle.tw_sync.specs.Contract.{IfWritten}
-use Rattle.tw_sync.specs.declared.report.SyncReport.{SyncReport}
-use Rattle.tw_sync.specs.declared.error.SyncError.{SyncError}
 
 pub ended_by : (hs : List Heard) (h : Heard) (P : Heard → Type 0) → P h → EndedBy (hs ++ h ∷ []) P
 ended_by hs h P p = (h, record { earlier = hs; split = refl }, p)
@@ -42,8 +38,3 @@ if_ok (Err x) p f = tt
 pub if_err : {T E : Type 0} {P Q : E → Type 0} (r : Result T E) → IfErr r P → ((x : E) → P x → Q x) → IfErr r Q
 if_err (Ok v) p f = tt
 if_err (Err x) p f = f x p
-
--- what holds of a sync that is done or stopped
-pub written : (P : Type 0) (r : Result SyncReport SyncError) → IfOk r (λ report. P) → IfErr r (λ e. IsStopping e → P) → IfWritten r P
-written P (Ok report) done stopped = done
-written P (Err e) done stopped = stopped

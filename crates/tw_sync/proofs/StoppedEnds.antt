@@ -27,11 +27,11 @@ use Rattle.tw_sync.specs.Refused.{HeardRefused}
 use Rattle.tw_sync.specs.Sync.{server_chain, IsEndStep}
 use Rattle.tw_sync.specs.Causes.{of_record}
 use Rattle.tw_sync.specs.Way.{TellsOf, WentOn}
-use Rattle.tw_sync.specs.Honest.{HonestRefused}
+use Rattle.tw_sync.specs.Honest.{HonestRefused, IsLongRecord, RestsOnTold}
 use Rattle.tw_sync.specs.Cursor.{place, IsOnPath, LiesIn, IsAtStart}
 use Rattle.tw_sync.specs.Progress.{IsCause, HeardToStop, IsStopped, StopsPulling}
 use Rattle.tw_sync.specs.Start.{Start, from_state, MayStart, IsKnownStart, LeadsTo}
-use Rattle.tw_sync.specs.Moved.{stopped_by, moved_by, MovesBy, IsNotMoved, LeavesMove}
+use Rattle.tw_sync.specs.Moved.{stopped_by, IsStoppedStep, row_size, moved_by, MovesBy, IsNotMoved, LeavesMove}
 use Rattle.tw_sync.specs.Contract.{KeepsAgreement, SendsNothingAgain, LeavesOneEnd, AsksFewFor, AnyEnd, RefusedEnd}
 use Rattle.tw_sync.specs.declared.cursor.Cursor.{Cursor}
 use Rattle.tw_sync.specs.declared.error.SyncError.{SyncError}
@@ -39,11 +39,11 @@ use Rattle.tw_sync.specs.declared.error.SyncError.TheVariants as errors
 use Rattle.tw_sync.proofs.Folds.{agrees_is_kept}
 use Rattle.tw_sync.proofs.Hearing.{hears_until}
 use Rattle.tw_sync.proofs.Complete.{can_sync}
-use Rattle.tw_sync.proofs.FromStart.{IsNoJournal, refused_from, measured_from}
+use Rattle.tw_sync.proofs.FromStart.{IsNoJournal, refused_from, measured_from, told_none}
 use Rattle.tw_sync.proofs.CursorAtStart.{starts}
 use Rattle.tw_sync.proofs.SentAndAsked.{never_again, few_with_untold}
 use Rattle.tw_sync.proofs.ReplicaMoved.{from_sound, leads_to, starts_soundly, stopped_state, state_is, moved_is_sync, end_in, moved_to, stopped_end, stays_same, records_are}
-use Rattle.tw_sync.proofs.NotMoved.{stopping, stopped_refused, answers_unwritten, never_stopping, unmoved_refused, unmoved_honest, unmoved_rests, unmoved_state, unmoved_cause, unmoved_measured, read_all, went_on_until, tells_unwritten, went_unwritten, known_grown, far_from_start}
+use Rattle.tw_sync.proofs.NotMoved.{stopping, stopped_refused, answers_unwritten, never_stopping, unmoved_refused, unmoved_honest, unmoved_rests, unmoved_told, unmoved_state, unmoved_cause, unmoved_measured, unmoved_refuses_last, unmoved_adds, read_all, went_on_until, tells_unwritten, went_unwritten, known_grown, far_from_start}
 
 -- the causes that meeting the chain may have are none of the journal
 pub stopped_no_journal : {L : Type 0} (m : LinkModel L) (first now : L) (e : SyncError) → IsCause m first now e → IsNoJournal e
@@ -193,7 +193,7 @@ module _ {L : Type 0} (m : LinkModel L) (client host : List ℕ) (hand : TasksVa
             let refused = stopped_refused d m old new before after first now e live stopped.cause other (stays_same d old new before after start s r.at step end refl moves) in
             record {
               ended = λ honest. subst (λ a. EndFrom a start old_state (state_of new.core) (server_chain m first) (server_chain m now)) (sym is) (ends_stopped (state_of new.core) new_is honest);
-              records = λ so bodies on. records_are d old new before after start s r.at step end refl moves (IsHonest m first client) (m.chain now) lies bodies on (leaves bodies on);
+              records = λ so bodies on. records_are d old new before after start s r.at step end refl moves IsStoppedStep refl (IsHonest m first client) (m.chain now) lies bodies on (leaves bodies on);
               way = record {
                 legs = stopped.legs;
                 path = stopped.path;
@@ -204,7 +204,7 @@ module _ {L : Type 0} (m : LinkModel L) (client host : List ℕ) (hand : TasksVa
               cancels = unmet_cancels;
               refused = refused;
               honest = λ honest. truly honest;
-              complete = λ can. can_sync d m old new before after first now client host start e can refused (truly can.honest) (stopped.come can.honest).pulled;
+              complete = λ can. can_sync d m old new before after first now client host start e can refused (truly can.honest) (stopped.come can.honest).pulled (told_none m client host start old_state first now e (stopped_no_journal m first now e stopped.cause));
               heard = λ tells. (let t = stopped.heard tells in (t.hs, t.hears, t.refused, λ honest. few honest t));
               measured = λ tells. (let t = stopped.heard tells in (t.hs, t.hears, measured_from start old_state client t.hs e (stopped_no_journal m first now e stopped.cause) t.measured));
             }
@@ -223,9 +223,21 @@ module _ {L : Type 0} (m : LinkModel L) (client host : List ℕ) (hand : TasksVa
         hears : (hs : List Heard) → HearsUntil m client host first now hs e → HearsUntil m client host first now hs (of_record x)
         hears hs heard = hears_until m client host first now hs (of_record x) (read_all m client host first now hs e other heard)
 
+        long : IsHonest m first client → (bytes : ℕ) → bytes ≡ row_size step → IsLongRecord start old_state (server_chain m first) (server_chain m now) bytes
+        long honest bytes len = record { legs = stopped.legs; path = stopped.path; between = far_from_start start old_state (m.chain now) stopped.legs un.0 (known_grown start (m.chain first) (m.chain now) (known honest) (stopped.come honest).grows) (lies honest); len = inr len }
+
         says : IsHonest m first client → HonestRefused start old_state (server_chain m first) (server_chain m now) (of_record x)
-        says honest = unmoved_honest d m client old new before after first now start r.at step live
-            (λ bytes len. record { legs = stopped.legs; path = stopped.path; between = far_from_start start old_state (m.chain now) stopped.legs un.0 (known_grown start (m.chain first) (m.chain now) (known honest) (stopped.come honest).grows) (lies honest); len = inr len }) x un
+        says honest = unmoved_honest d m client old new before after first now start r.at step live (long honest) x un
+
+        was_told : IsHonest m first client → RestsOnTold m client host start old_state first now (of_record x)
+        unfolding long stopped
+        was_told honest = unmoved_told d m client old new before after first now start r.at step live host
+            (λ bytes len. (
+              long honest bytes len,
+              λ tells. (
+                  let t = stopped.heard tells in
+                  (t.hs, read_all m client host first now t.hs e other t.hears, (bytes, tells_unwritten stopped.legs e t.hs (records.Journal (journal.TooLong bytes)) tt t.tells))),
+            )) x un
 
         pub unstopped_end : RefusedEnd d m client host start old new before after first now (of_record x)
         unstopped_end =
@@ -236,14 +248,14 @@ module _ {L : Type 0} (m : LinkModel L) (client host : List ℕ) (hand : TasksVa
               way = record {
                 legs = stopped.legs;
                 path = stopped.path;
-                heard = λ tells. (let t = stopped.heard tells in (t.hs, hears t.hs t.hears, tells_unwritten stopped.legs e t.hs x t.tells));
-                went = λ honest. went_unwritten state (server_chain m first) (server_chain m now) stopped.legs e x (stopped.come honest).went;
+                heard = λ tells. (let t = stopped.heard tells in (t.hs, hears t.hs t.hears, tells_unwritten stopped.legs e t.hs x (unmoved_refuses_last d m client old new before after first now start r.at step live x un) t.tells));
+                went = λ honest. went_unwritten state (server_chain m first) (server_chain m now) stopped.legs e x (unmoved_adds d m client old new before after first now start r.at step live x un) (stopped.come honest).went;
                 state = λ so. absurd (never_stopping x so);
               };
               cancels = unmet_cancels;
               refused = refused;
               honest = says;
-              complete = λ can. can_sync d m old new before after first now client host start (of_record x) can refused (says can.honest) (unmoved_rests d m client old new before after first now start r.at step live host x);
+              complete = λ can. can_sync d m old new before after first now client host start (of_record x) can refused (says can.honest) (unmoved_rests d m client old new before after first now start r.at step live host x) (was_told can.honest);
               heard = λ tells. (
                   let t = stopped.heard tells in
                   (t.hs, hears t.hs t.hears, unmoved_cause d m client old new before after first now start r.at step live t.hs x (went_on_until t.hs e t.refused.until), λ honest. few honest t));
@@ -252,6 +264,6 @@ module _ {L : Type 0} (m : LinkModel L) (client host : List ℕ) (hand : TasksVa
                     t.hs,
                     hears t.hs t.hears,
                     unmoved_measured d m client old new before after first now start r.at step live t.hs
-                        (λ bytes len. inr (record { legs = stopped.legs; path = stopped.path; tells = tells_unwritten stopped.legs e t.hs (records.Journal (journal.TooLong bytes)) t.tells; len = len })) x un,
+                        (λ bytes len. inr (record { legs = stopped.legs; path = stopped.path; tells = tells_unwritten stopped.legs e t.hs (records.Journal (journal.TooLong bytes)) tt t.tells; len = len })) x un,
                   ));
             }

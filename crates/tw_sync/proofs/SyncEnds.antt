@@ -1,9 +1,16 @@
 -- The ends of a sync of an open replica that has met the chain: the replica is moved, or it is not.
-use Rattle.std.proofs.Common.{◌≡◌, ◌^◌, ℕ, inl, inr, false, length, List, None, refl, sym, ap, subst, ◌∙◌, arith}
+use Rattle.std.proofs.Common.{◌≡◌, ◌^◌, ◌⊎◌, ℕ, inl, inr, Bool, true, false, cond, length, List, [], Option, Some, None, refl, sym, ap, subst, ◌∙◌, arith}
+use Rattle.std.proofs.lemmas.Bool.{true≢false}
 use Rattle.tw_world.specs.Disk.{DiskModel}
-use Rattle.tw_model.specs.Ops.{TasksValue}
+use Rattle.tw_protocol.specs.Chain.{same_id}
+use Rattle.tw_protocol.proofs.Chains.{same_id_exact}
+use Rattle.tw_path.proofs.Paths.{path_stands_beside}
+use Rattle.tw_snapshot.specs.Snapshot.{text_within}
+use Rattle.tw_sync.specs.Offer.{StoresTasks, IsWantedLetter, IsLetterFor, MayBeSent, HasLetter}
+use Rattle.tw_model.specs.Ops.{TasksValue, apply_all}
 use Rattle.tw_model.specs.LocalOps.{plain}
 use Rattle.tw_journal.specs.Journal.{is_closed}
+use Rattle.tw_journal.specs.declared.error.AppendError.TheVariants as journal
 use Rattle.tw_http.specs.Link.{LinkModel, IsHonest, IsChainOf}
 use Rattle.tw_bodies.specs.Body.{Step}
 use Rattle.tw_state.specs.Core.{state_of}
@@ -26,12 +33,14 @@ use Rattle.tw_sync.specs.Refused.{EndedBy, IsLastReply}
 use Rattle.tw_sync.specs.Sync.{server_chain, IsEndStep}
 use Rattle.tw_sync.specs.Causes.{of_record}
 use Rattle.tw_sync.specs.Way.{WentOn}
-use Rattle.tw_sync.specs.Honest.{HonestRefused}
+use Rattle.tw_sync.specs.Honest.{HonestRefused, IsLongRecord, RestsOnTold}
+use Rattle.tw_sync.specs.declared.error.SyncError.TheVariants as errors
 use Rattle.tw_sync.specs.Cursor.{place, IsOnPath, IsAtStart, made_report}
 use Rattle.tw_sync.specs.Progress.{IsMet, IsAtEnd, Meets}
-use Rattle.tw_sync.specs.Moved.{done_by, moved_by, MovesBy, IsNotMoved, LeavesMove}
+use Rattle.tw_sync.specs.Moved.{done_by, IsDoneStep, row_size, moved_by, MovesBy, IsNotMoved, LeavesMove}
 use Rattle.tw_sync.specs.Contract.{KeepsAgreement, AnyEnd, DoneEnd, RefusedEnd}
 use Rattle.tw_sync.specs.declared.cursor.Cursor.{Cursor}
+use Rattle.tw_sync.proofs.CursorInChain.{added_away}
 use Rattle.tw_sync.proofs.Folds.{agrees_is_kept}
 use Rattle.tw_sync.proofs.Hearing.{hears_until}
 use Rattle.tw_sync.proofs.Complete.{can_sync}
@@ -39,9 +48,10 @@ use Rattle.tw_sync.proofs.CursorAtStart.{starts}
 use Rattle.tw_sync.proofs.ExpectedReplies.{goes_on_so_far}
 use Rattle.tw_sync.proofs.SentAndAsked.{never_again, few_with_untold}
 use Rattle.tw_sync.proofs.LeftIsSent.{few_at_end, at_end_holds, went_to_end}
-use Rattle.tw_sync.proofs.PullRefused.{tells_all, went_on}
+use Rattle.tw_sync.proofs.PullRefused.{went_on}
+use Rattle.tw_sync.proofs.ToldBefore.{tells_all}
 use Rattle.tw_sync.proofs.ReplicaMoved.{from_sound, from_pending, leads_to, starts_soundly, done_state, pushed_is, dropped_is, state_is, moved_is_sync, end_in, moved_to, done_end, records_are}
-use Rattle.tw_sync.proofs.NotMoved.{answers_unwritten, never_stopping, unmoved_refused, unmoved_honest, unmoved_rests, unmoved_state, unmoved_cause, unmoved_measured}
+use Rattle.tw_sync.proofs.NotMoved.{answers_unwritten, never_stopping, unmoved_refused, unmoved_honest, unmoved_rests, unmoved_told, unmoved_state, unmoved_cause, unmoved_measured}
 use Rattle.tw_sync.proofs.Served.{grows_same}
 
 -- it is met
@@ -137,9 +147,16 @@ module _ {L : Type 0} (m : LinkModel L) (client host : List ℕ) (hand : TasksVa
       pub unmoved_any : AnyEnd d m client start old new before after first now
       unmoved_any = any_end (λ honest a fold. subst (λ t. Agrees t (m.chain now)) (sym same) (agrees_is_kept old_state (m.chain first) (m.chain now) a (come honest).on.grows))
 
+      long : IsHonest m first client → (bytes : ℕ) → bytes ≡ row_size step → IsLongRecord start old_state (server_chain m first) (server_chain m now) bytes
+      long honest bytes len = record { legs = legs; path = path.path; between = (come honest).lies; len = inl (at_end_holds m client state first now legs cursor (come honest), len) }
+
       says : IsHonest m first client → HonestRefused start old_state (server_chain m first) (server_chain m now) (of_record e)
-      says honest = unmoved_honest d m client old new before after first now start r.at step live
-          (λ bytes len. record { legs = legs; path = path.path; between = (come honest).lies; len = inl (at_end_holds m client state first now legs cursor (come honest), len) }) e un
+      says honest = unmoved_honest d m client old new before after first now start r.at step live (long honest) e un
+
+      was_told : IsHonest m first client → RestsOnTold m client host start old_state first now (of_record e)
+      unfolding long met
+      was_told honest = unmoved_told d m client old new before after first now start r.at step live host
+          (λ bytes len. (long honest bytes len, λ tells. (let t = met.pulled.asked.heard tells in (t.hs, t.hears, (bytes, tells_all legs (errors.Journal (journal.TooLong bytes)) t.hs t.told))))) e un
 
       on : IsHonest m first client → WentOn state (server_chain m first) (server_chain m now) legs (of_record e)
       on honest = went_on state (server_chain m first) (server_chain m now) legs (of_record e) (went honest)
@@ -160,7 +177,7 @@ module _ {L : Type 0} (m : LinkModel L) (client host : List ℕ) (hand : TasksVa
             cancels = λ honest mine later w was. (legs, went honest, never_again state (server_chain m first) (server_chain m now) legs mine later w sound (come honest).on.whole (come honest).on.grows (went honest) was);
             refused = refused;
             honest = says;
-            complete = λ can. can_sync d m old new before after first now client host start (of_record e) can refused (says can.honest) (unmoved_rests d m client old new before after first now start r.at step live host e);
+            complete = λ can. can_sync d m old new before after first now client host start (of_record e) can refused (says can.honest) (unmoved_rests d m client old new before after first now start r.at step live host e) (was_told can.honest);
             heard = λ tells. (
                 let t = met.pulled.asked.heard tells in (
                   t.hs,
@@ -200,7 +217,7 @@ module _ {L : Type 0} (m : LinkModel L) (client host : List ℕ) (hand : TasksVa
               pushed_is state legs cursor path,
               sent_is_not_sent_again (m.chain first) (m.chain now) (starts_at state) legs mine later w c.on.whole c.on.grows (start_stands_beside state sound).fits path.path c.lies c.behind (at_end_holds m client state first now legs cursor c) was,
             ));
-        records = λ bodies on. records_are d old new before after start s r.at step end refl moves (IsHonest m first client) (m.chain now) (λ honest. inr (come honest).lies) bodies on (leaves bodies on);
+        records = λ bodies on. records_are d old new before after start s r.at step end refl moves IsDoneStep (met.nothing, refl) (IsHonest m first client) (m.chain now) (λ honest. inr (come honest).lies) bodies on (leaves bodies on);
         heard = λ tells. (
             let t = met.pulled.asked.heard tells in (
               t.hs,
@@ -214,3 +231,35 @@ module _ {L : Type 0} (m : LinkModel L) (client host : List ℕ) (hand : TasksVa
             ));
         exchanges = λ honest. (added_of legs, (come honest).mine, few_at_end (m.exchanges first) (m.exchanges now) cursor.versions (length (added_of legs)) cursor.conflicts met.pulled.asked.count (come honest).late met.pulled.tries);
       }
+
+      -- a request that stores the tasks there stores those of the replica
+      letter_for : (letter : Option (List ℕ)) → IsWantedLetter client host cursor.wanted old_state.base r letter → IsLetterFor client host (state_of new.core) letter
+      letter_for None is = tt
+      letter_for (Some text) (inl none) = absurd cc
+      letter_for (Some text) (inr (far, stores)) = subst (λ (t : State). (t.pending ≡ []) × StoresTasks client host t.base t.tasks text) (sym (new_is ∙ ap (λ (b : Bool). cond b old_state s) far)) (refl, stores)
+
+      -- there is one if it is wanted
+      letter_there : (letter : Option (List ℕ)) → IsWantedLetter client host cursor.wanted old_state.base r letter → cursor.wanted ≡ true → MayBeSent (IsHonest m first client) old_state (state_of new.core) → ¬ (letter ≡ None)
+      letter_there (Some text) is wanted sendable = λ none. absurd cc
+      letter_there None (inl (none, inl calm)) wanted sendable = absurd (true≢false (sym wanted ∙ calm))
+      letter_there None (inl (none, inr here)) wanted sendable = absurd (by sendable.moved)
+        where
+          by : IsHonest m first client ⊎ ¬ (new.core.base ≡ old_state.base) → ⊥
+          by (inl honest) = added_away start old_state (m.chain now) legs may (come honest).on.whole (come honest).lies (path.wants wanted) (same_id_exact r.at old_state.base here)
+          by (inr moved) = moved (ap (λ (t : State). t.base) (new_is ∙ ap (λ (b : Bool). cond b old_state s) here))
+      letter_there None (inr (far, long)) wanted sendable = absurd (too_long (sym long ∙ ap (λ (t : State). text_within t.tasks) (sym (new_is ∙ ap (λ (b : Bool). cond b old_state s) far)) ∙ sendable.within))
+        where
+          too_long : {text : List ℕ} → ◌≡◌ {A = Option (List ℕ)} None (Some text) → ⊥
+          too_long e = cc
+
+      pub letter_end : (base : List ℕ) → base ≡ old_state.base → (letter : Option (List ℕ)) → ((r : Reached) → StandsAt hand r cursor.walker → r.tasks ≡ apply_all hand r.carried → IsWantedLetter client host cursor.wanted base r letter)
+          → HasLetter m client host old_state (state_of new.core) first now letter
+      letter_end base base_is letter stores =
+          let beside = path_stands_beside state.tasks (starts_at state) legs (start_stands_beside state sound) path.path in
+          let there : r.tasks ≡ apply_all state.tasks r.carried = sym (beside.same ∙ ap (apply_all r.tasks) met.nothing) in
+          let is = subst (λ (b : List ℕ). IsWantedLetter client host cursor.wanted b r letter) base_is
+          (stores r (subst (λ (t : TasksValue). StandsAt t r cursor.walker) hand_is path.stands) (subst (λ (t : TasksValue). r.tasks ≡ apply_all t r.carried) hand_is there)) in
+          record {
+            letter_is = letter_for letter is;
+            wanted = λ tells. (let t = met.pulled.asked.heard tells in (t.hs, t.hears, λ wanted may. letter_there letter is (sym t.wanted_is ∙ wanted) may));
+          }

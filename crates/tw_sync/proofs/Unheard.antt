@@ -35,7 +35,8 @@ use Rattle.tw_sync.proofs.Hearing.{hears_none, hears_until, kept_same}
 use Rattle.tw_sync.proofs.ExpectedReplies.{goes_on_none}
 use Rattle.tw_sync.proofs.NotMoved.{never_stopping}
 use Rattle.tw_sync.proofs.ReplicaMoved.{stopped_state}
-use Rattle.tw_sync.proofs.PullRefused.{tells_all, went_on}
+use Rattle.tw_sync.proofs.PullRefused.{went_on}
+use Rattle.tw_sync.proofs.ToldBefore.{tells_all}
 use Rattle.tw_sync.proofs.Served.{grows_same}
 
 -- nothing was asked

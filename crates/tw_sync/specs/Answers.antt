@@ -14,7 +14,7 @@ use Rattle.tw_http.specs.declared.message.Response.{Response}
 use Rattle.tw_http.specs.declared.message.Response.TheVariants as replies
 use Rattle.tw_http.specs.declared.message.HttpError.{HttpError}
 use Rattle.tw_sync.specs.Heard.{Heard, heard}
-use Rattle.tw_sync.specs.Refused.{IsBadReply}
+use Rattle.tw_sync.specs.Refused.{IsBadReply, IsBadOfChain}
 use Rattle.tw_sync.specs.declared.ask.ChildAnswer.{ChildAnswer}
 use Rattle.tw_sync.specs.declared.ask.ChildAnswer.TheVariants.{Found, UpToDate, Gone}
 use Rattle.tw_sync.specs.declared.ask.AddAnswer.{AddAnswer}
@@ -127,7 +127,7 @@ IsBadlyAnswered asked bytes asking.Link = ⊥
 
 -- what a refused question heard: a bad reply, or none that it read
 abbrev pub HeardRefusedAsk : List Heard → AskError → Type 0
-HeardRefusedAsk hs (asking.Reply kind) = (h : Heard) × (hs ≡ h ∷ []) × IsBadReply kind h
+HeardRefusedAsk hs (asking.Reply kind) = (h : Heard) × (hs ≡ h ∷ []) × IsBadOfChain kind h
 HeardRefusedAsk hs e = hs ≡ []
 
 -- a response whose status answers a question

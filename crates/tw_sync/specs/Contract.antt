@@ -1,7 +1,8 @@
 -- The contract of a sync: one record for each of its ends, from where it starts.
-use Rattle.std.specs.Prelude.{◌≡◌, ◌⊎◌, ℕ, ◌+◌, ◌≤◌, ◌^◌, IsTrue, List, [], ◌++◌, length, Result, Ok, Err, IfOk, IfErr}
+use Rattle.std.specs.Prelude.{◌≡◌, ◌⊎◌, ℕ, ◌+◌, ◌≤◌, ◌^◌, true, IsTrue, List, [], ◌++◌, length, option_map, Result, Ok, Err, IfOk, IfErr}
 use Rattle.tw_world.specs.Disk.{DiskModel}
 use Rattle.tw_model.specs.declared.SyncOp.{SyncOp}
+use Rattle.tw_journal.specs.Journal.{is_closed}
 use Rattle.tw_protocol.specs.Chain.{Version, Grows}
 use Rattle.tw_http.specs.Link.{LinkModel, IsHonest}
 use Rattle.tw_state.specs.State.{State}
@@ -18,11 +19,16 @@ use Rattle.tw_sync.specs.Heard.{Heard, HearsUntil, HearsThat, HearsUntilThat, br
 use Rattle.tw_sync.specs.Answers.{IsLinkKept}
 use Rattle.tw_sync.specs.Refused.{HeardRefused, SyncRefused}
 use Rattle.tw_sync.specs.Sync.{server_chain, RecordsOfSync, LeavesEnd, HeardEnd}
+use Rattle.tw_sync.specs.Moved.{IsDoneStep, IsStoppedStep}
 use Rattle.tw_sync.specs.Measured.{IsMeasured}
 use Rattle.tw_sync.specs.Honest.{HonestRefused, CanSync, IsWant}
+use Rattle.tw_sync.specs.Given.{IsUnheard}
+use Rattle.tw_sync.specs.Offer.{HasLetter, OffersState, OffersAfter, IfWanted, reported}
 use Rattle.tw_sync.specs.Way.{WentUntil}
+use Rattle.tw_sync.specs.declared.offer.Done.{Done}
 use Rattle.tw_sync.specs.declared.report.SyncReport.{SyncReport}
 use Rattle.tw_sync.specs.declared.error.SyncError.{SyncError}
+use Rattle.tw_sync.specs.declared.error.SyncError.TheVariants as errors
 
 -- ---- over an honest link
 
@@ -70,17 +76,6 @@ abbrev pub LeavesOneEnd : {D L : Type 0} → DiskModel D → LinkModel L → (cl
 LeavesOneEnd d m client start old before after first now = (bodies : List (List ℕ)) → IsReplicaOn d old before bodies
     → LeavesEnd d before after start (state_of old.core) (IsHonest m first client) (server_chain m first) (server_chain m now)
 
--- a sync that is done or stopped is such
-abbrev pub IfWritten : Result SyncReport SyncError → Type 0 → Type 0
-IfWritten (Ok report) P = P
-IfWritten (Err e) P = IsStopping e → P
-
--- it leaves them, or adds one
-abbrev pub LeavesRecords : {D L : Type 0} → DiskModel D → LinkModel L → (client : List ℕ) → Start → (old new : Replica) (before after : D) (first now : L)
-    → Result SyncReport SyncError → Type 0
-LeavesRecords d m client start old new before after first now result = (bodies : List (List ℕ)) → IsReplicaOn d old before bodies
-    → IfWritten result (RecordsOfSync d start old new before after (IsHonest m first client) (m.chain now) bodies)
-
 -- ---- what was heard
 
 -- of the exchanges of a sync that pulled so many versions each added at most one, and there are few besides
@@ -119,7 +114,7 @@ pub record DoneEnd {D L : Type 0} (d : DiskModel D) (m : LinkModel L) (client ho
   pub ended : EndsOn m client start old new first now report
   pub cancels : SendsLaterAlone m client start old first now report
   pub records : (bodies : List (List ℕ)) → IsReplicaOn d old before bodies
-      → RecordsOfSync d start old new before after (IsHonest m first client) (m.chain now) bodies
+      → RecordsOfSync d IsDoneStep start old new before after (IsHonest m first client) (m.chain now) bodies
   pub heard : HearsThat m client host first now (λ hs. HeardEnd client hs report)
   pub exchanges : AsksFew m client first now report
 
@@ -128,7 +123,7 @@ pub record RefusedEnd {D L : Type 0} (d : DiskModel D) (m : LinkModel L) (client
     (first now : L) (e : SyncError) : Type 0 where
   pub ended : EndsRefused m client start old new first now e
   pub records : IsStopping e → (bodies : List (List ℕ)) → IsReplicaOn d old before bodies
-      → RecordsOfSync d start old new before after (IsHonest m first client) (m.chain now) bodies
+      → RecordsOfSync d IsStoppedStep start old new before after (IsHonest m first client) (m.chain now) bodies
   pub way : WentUntil m client host start (state_of old.core) (state_of new.core) first now e
   pub cancels : SendsNothingAgain m client start old first now
   pub refused : SyncRefused d m old new before after first now e
@@ -144,8 +139,40 @@ pub record EndsSomehow {D L : Type 0} (d : DiskModel D) (m : LinkModel L) (clien
   pub done : IfOk result (DoneEnd d m client host start old new before after first now)
   pub refused : IfErr result (RefusedEnd d m client host start old new before after first now)
 
+-- no reply came: the link failed, or memory ran out, before anything else was asked
+abbrev pub GetsNoReply : {L : Type 0} → LinkModel L → (client host : List ℕ) → (first now : L) → Result SyncReport SyncError → Type 0
+GetsNoReply m client host first now (Ok report) = ⊥
+GetsNoReply m client host first now (Err e) = ((e ≡ errors.Link) ⊎ (e ≡ errors.Memory)) × IsUnheard m client host first now e
+
+-- why a new replica does not ask for the snapshot: it is closed, or gets no reply
+abbrev pub AsksInVain : {L : Type 0} → LinkModel L → (client host : List ℕ) → Replica → (first now : L) → Result SyncReport SyncError → Type 0
+AsksInVain m client host old first now result = (is_closed old.journal ≡ true) ⊎ GetsNoReply m client host first now result
+
+-- the end of a sync, with the request for the snapshot that is to be sent after it
+pub record EndsOpen {D L : Type 0} (d : DiskModel D) (m : LinkModel L) (client host : List ℕ) (start : Start) (old new : Replica) (before after : D)
+    (first now : L) (result : Result Done SyncError) : Type 0 where
+  pub ends : EndsSomehow d m client host start old new before after first now (reported result)
+  pub letter : IfOk result (λ done. HasLetter m client host (state_of old.core) (state_of new.core) first now (option_map (λ v. v.items) done.letter))
+
+-- a sync of an open replica begins with a question for a snapshot, if it may, and ends in one of its ends from there
+abbrev pub RunsOpen : {D L : Type 0} → DiskModel D → LinkModel L → (client host : List ℕ) → (old new : Replica) (before after : D) (first now : L)
+    → Result Done SyncError → Type 0
+RunsOpen d m client host old new before after first now result =
+    Since m client host (state_of old.core) first (AsksInVain m client host old first now (reported result))
+    (λ start begun. EndsOpen d m client host start old new before after begun now result)
+
+-- it ends somewhere, and then sends a snapshot, or not. It does if one was wanted
+pub record EndsAndOffers {D L : Type 0} (d : DiskModel D) (m : LinkModel L) (client host : List ℕ) (start : Start) (old new : Replica) (before after : D)
+    (first last : L) (result : Result SyncReport SyncError) : Type 0 where
+  pub now : L
+  pub ends : EndsSomehow d m client host start old new before after first now result
+  pub offers : OffersAfter m client host (state_of new.core) now last result
+  pub wanted : IfOk result (λ report. IfWanted m client host (state_of old.core) (state_of new.core) first now
+      (OffersState m client host (state_of new.core) now last))
+
 -- it begins with a question for a snapshot, if it may, and ends in one of its ends from there
 abbrev pub Runs : {D L : Type 0} → DiskModel D → LinkModel L → (client host : List ℕ) → (old new : Replica) (before after : D) (first now : L)
     → Result SyncReport SyncError → Type 0
 Runs d m client host old new before after first now result =
-    Since m client host (state_of old.core) first (λ start begun. EndsSomehow d m client host start old new before after begun now result)
+    Since m client host (state_of old.core) first (AsksInVain m client host old first now result)
+    (λ start begun. EndsAndOffers d m client host start old new before after begun now result)

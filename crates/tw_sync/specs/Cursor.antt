@@ -1,5 +1,5 @@
 -- Where a sync is in a chain.
-use Rattle.std.specs.Prelude.{◌≡◌, ◌⊎◌, ℕ, ◌+◌, ◌-◌, ◌<◌, ◌≤◌, List, [], ◌∷◌, length}
+use Rattle.std.specs.Prelude.{◌≡◌, ◌⊎◌, ℕ, ◌+◌, ◌-◌, ◌<◌, ◌≤◌, Bool, true, false, ◌||◌, List, [], ◌∷◌, length}
 use Rattle.tw_model.specs.Ops.{TasksValue}
 use Rattle.tw_model.specs.LocalOps.{plain}
 use Rattle.tw_model.specs.declared.SyncOp.{SyncOp}
@@ -9,7 +9,7 @@ use Rattle.tw_segment.specs.Refusals.{IsUnread}
 use Rattle.tw_segment.specs.declared.error.SegmentError.{SegmentError}
 use Rattle.tw_segment.specs.declared.error.SegmentError.TheVariants as segments
 use Rattle.tw_state.specs.State.{State}
-use Rattle.tw_path.specs.Path.{Reached, Leg, come, IsPath, versions_of, pulled_of, sent_of}
+use Rattle.tw_path.specs.Path.{Reached, Leg, come, IsPath, versions_of, added_of, pulled_of, sent_of}
 use Rattle.tw_path.specs.Path.Leg.{Pull, Push}
 use Rattle.tw_path.specs.Walk.{StandsAt, GoesOverPull, GoesOverPush}
 use Rattle.tw_outcome.specs.End.{starts_at}
@@ -31,7 +31,7 @@ pulled_len [] = 0
 pulled_len (Pull v ops ∷ legs) = length v.segment + pulled_len legs
 pulled_len (Push v ops ∷ legs) = pulled_len legs
 
--- the cursor is where a path leads from this state, and counts what is on it
+-- the cursor is where a path leads from this state, and counts what is on it. A snapshot is wanted only after a version was added
 pub record IsOnPath (state : State) (legs : List Leg) (cursor : Cursor) : Type 0 where
   pub path : IsPath (starts_at state) legs
   pub stands : StandsAt state.tasks (place state legs) cursor.walker
@@ -39,6 +39,7 @@ pub record IsOnPath (state : State) (legs : List Leg) (cursor : Cursor) : Type 0
   pub bytes : cursor.bytes ≡ pulled_len legs
   pub pending : cursor.pending ≡ length (plain state.pending)
   pub unsent : cursor.unsent ≡ length (plain state.pending) - sent_of legs
+  pub wants : cursor.wanted ≡ true → 1 ≤ length (added_of legs)
 
 -- what a sync did that ends at a cursor
 abbrev pub made_report : Cursor → SyncReport
@@ -48,6 +49,7 @@ made_report cursor = record { pulled = cursor.versions; dropped = cursor.unsent;
 pub record IsAtStart (state : State) (cursor : Cursor) : Type 0 where
   pub on_path : IsOnPath state [] cursor
   pub conflicts : cursor.conflicts ≡ 0
+  pub calm : cursor.wanted ≡ false
 
 -- the versions of a path lie in the chain after the base
 abbrev pub IsIn : State → List Version → List Leg → Type 0
@@ -76,15 +78,17 @@ pub record TakesVersion (hand : TasksValue) (old new : Cursor) (id segment : Lis
   pub conflicts : new.conflicts ≡ old.conflicts
   pub pending : new.pending ≡ old.pending
   pub unsent : new.unsent ≡ old.unsent
+  pub wanted : new.wanted ≡ old.wanted
 
--- the cursor goes on to a version that was added with these operations
-pub record AddsVersion (old new : Cursor) (id : List ℕ) (ops : List SyncOp) : Type 0 where
+-- the cursor goes on to a version that was added with these operations. A snapshot is wanted then, or not
+pub record AddsVersion (old new : Cursor) (id : List ℕ) (ops : List SyncOp) (wanted : Bool) : Type 0 where
   pub walks : GoesOverPush id ops old.walker new.walker
   pub versions : new.versions ≡ old.versions
   pub bytes : new.bytes ≡ old.bytes
   pub conflicts : new.conflicts ≡ old.conflicts
   pub pending : new.pending ≡ old.pending
   pub unsent : new.unsent ≡ old.unsent - length ops
+  pub wants : new.wanted ≡ (old.wanted || wanted)
 
 -- a segment that is none
 pub record IsUnreadable (segment : List ℕ) : Type 0 where

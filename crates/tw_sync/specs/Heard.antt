@@ -1,5 +1,5 @@
 -- What a call heard over its link: its requests, and what the replies are read as (TaskChampion book, "HTTP Representation").
-use Rattle.std.specs.Prelude.{◌≡◌, ◌⊎◌, ℕ, ◌+◌, ◌*◌, min, IsTrue, List, [], ◌∷◌, ◌++◌, length, Result, Ok, Err}
+use Rattle.std.specs.Prelude.{◌≡◌, ◌⊎◌, ℕ, ◌+◌, ◌*◌, min, Bool, false, ◌||◌, IsTrue, List, [], ◌∷◌, ◌++◌, length, Result, Ok, Err}
 use Rattle.tw_protocol.specs.Chain.{Version}
 use Rattle.tw_protocol.specs.Answer.{version}
 use Rattle.tw_http.specs.Link.{LinkModel, Exchange}
@@ -147,6 +147,20 @@ conflicts_of (Ok Stored) = 0
 conflicts_of (Ok (Snapshot version bytes)) = 0
 conflicts_of (Err e) = 0
 
+-- whether a reply asks for a snapshot: a 200 to add-version may
+abbrev pub wants_snapshot : Result Response HttpError → Bool
+wants_snapshot (Ok (Added id wanted)) = wanted
+wants_snapshot (Ok (Child id parent segment)) = false
+wants_snapshot (Ok (Conflict latest)) = false
+wants_snapshot (Ok UpToDate) = false
+wants_snapshot (Ok Gone) = false
+wants_snapshot (Ok Bad) = false
+wants_snapshot (Ok TooLong) = false
+wants_snapshot (Ok Taken) = false
+wants_snapshot (Ok Stored) = false
+wants_snapshot (Ok (Snapshot version bytes)) = false
+wants_snapshot (Err e) = false
+
 -- the versions that were brought, one after another
 abbrev pub versions_in : List Heard → List Version
 versions_in [] = []
@@ -156,6 +170,11 @@ versions_in (h ∷ hs) = brought_by h.reply ++ versions_in hs
 abbrev pub told_in : List Heard → List Version
 told_in [] = []
 told_in (h ∷ hs) = told_as h.asked h.reply ++ told_in hs
+
+-- whether one of the replies asks for a snapshot
+abbrev pub wanted_in : List Heard → Bool
+wanted_in [] = false
+wanted_in (h ∷ hs) = wants_snapshot h.reply || wanted_in hs
 
 -- how many bytes of segments were brought
 abbrev pub pulled_bytes : List Heard → ℕ

@@ -24,6 +24,7 @@ use Rattle.tw_sync.specs.Refused.{max_pull}
 use Rattle.tw_sync.specs.Sync.{server_chain}
 use Rattle.tw_sync.specs.Moved.{done_by, stopped_by, row_size}
 use Rattle.tw_sync.specs.Start.{Start, from_state}
+use Rattle.tw_sync.specs.Way.{TellsOf}
 use Rattle.tw_sync.specs.declared.error.ReplyKind.TheVariants.{Status}
 use Rattle.tw_sync.specs.declared.error.SyncError.{SyncError}
 use Rattle.tw_sync.specs.declared.error.SyncError.TheVariants as errors
@@ -113,18 +114,25 @@ abbrev pub LeftFitsSegment : (old : State) → (before after : List Version) →
 LeftFitsSegment old before after = (legs : List Leg) → IsPath (starts_at old) legs → IsIn old after legs → HoldsAll before after (place old legs).at
     → ¬ (joined (place old legs).left ≡ []) → length (segment_text (first is_batch (place old legs).left)) ≤ max_len
 
--- what is carried once all is pulled that the chain held before fits a record, and so does what is carried to each place, with what is left there
-abbrev pub AllFitsRecord : (start : Start) (old : State) → (before after : List Version) → Type 0
-AllFitsRecord start old before after = (legs : List Leg) → IsPath (starts_at (from_state start old)) legs → IsIn (from_state start old) after legs
-    → (HoldsAll before after (place (from_state start old) legs).at → row_size (done_by start old (place (from_state start old) legs)) ≤ 2 ^ 30)
-    × (row_size (stopped_by start old (place (from_state start old) legs)) ≤ 2 ^ 30)
+-- a sync was told of the versions of this path, if the link tells its exchanges, and of one more at most, which it may refuse
+abbrev pub WasTold : {L : Type 0} → LinkModel L → (client host : List ℕ) → (first last : L) → List Leg → Type 0
+WasTold m client host first last legs = HearsThat m client host first last (λ hs. (bytes : ℕ) × TellsOf legs (errors.Journal (TooLong bytes)) hs)
+
+-- what is carried once all is pulled that the chain held before fits a record, and so does what is carried to the place that was told,
+-- with what is left there
+abbrev pub AllFitsRecord : {L : Type 0} → LinkModel L → (client host : List ℕ) → (start : Start) (old : State) → (first last : L) → Type 0
+AllFitsRecord m client host start old first last = (legs : List Leg) → IsPath (starts_at (from_state start old)) legs
+    → IsIn (from_state start old) (m.chain last) legs
+    → (HoldsAll (m.chain first) (m.chain last) (place (from_state start old) legs).at
+    → row_size (done_by start old (place (from_state start old) legs)) ≤ 2 ^ 30)
+    × (WasTold m client host first last legs → row_size (stopped_by start old (place (from_state start old) legs)) ≤ 2 ^ 30)
 
 -- what is pulled, and what is left of what is pending once all is pulled that the chain held before, are within their limits
 pub record AreWithin {L : Type 0} (m : LinkModel L) (client host : List ℕ) (start : Start) (old : State) (first last : L) : Type 0 where
   pub pull : EachPulled m client host (from_state start old) first last (λ versions v. segments_len (versions ++ v ∷ []) ≤ max_pull)
   pub read : EachPulled m client host (from_state start old) first last (λ versions v. IsReadable v.segment)
   pub segment : LeftFitsSegment (from_state start old) (m.chain first) (m.chain last)
-  pub record_fits : AllFitsRecord start old (m.chain first) (m.chain last)
+  pub record_fits : AllFitsRecord m client host start old first last
 
 -- what a sync needs: nothing fails meanwhile, the link is honest, the replica agrees with the chain, others add fewer than sixteen versions,
 -- and all is within its limits
@@ -150,6 +158,22 @@ RestsOnPulled m client host old first last (errors.SegmentTooLong bytes) = Unit 
 RestsOnPulled m client host old first last (errors.Journal e) = Unit {0}
 RestsOnPulled m client host old first last errors.Link = Unit {0}
 RestsOnPulled m client host old first last errors.Memory = Unit {0}
+
+-- a refusal for a record that is too long rests on the place that was told
+abbrev pub RestsOnTold : {L : Type 0} → LinkModel L → (client host : List ℕ) → (start : Start) (old : State) → (first last : L) → SyncError → Type 0
+RestsOnTold m client host start old first last (errors.Journal (TooLong bytes)) =
+    (long : IsLongRecord start old (server_chain m first) (server_chain m last) bytes) × WasTold m client host first last long.legs
+RestsOnTold m client host start old first last (errors.Journal Disk) = Unit {0}
+RestsOnTold m client host start old first last (errors.Journal Closed) = Unit {0}
+RestsOnTold m client host start old first last (errors.Segment version) = Unit {0}
+RestsOnTold m client host start old first last (errors.PullTooLong bytes) = Unit {0}
+RestsOnTold m client host start old first last (errors.Reply kind) = Unit {0}
+RestsOnTold m client host start old first last (errors.Gone base) = Unit {0}
+RestsOnTold m client host start old first last (errors.Busy parent) = Unit {0}
+RestsOnTold m client host start old first last (errors.OutOfSync base parent) = Unit {0}
+RestsOnTold m client host start old first last (errors.SegmentTooLong bytes) = Unit {0}
+RestsOnTold m client host start old first last errors.Link = Unit {0}
+RestsOnTold m client host start old first last errors.Memory = Unit {0}
 
 -- if a sync can be done, it is refused only since memory ran out, or since the server drew an id that is taken
 abbrev pub IsWant : SyncError → Type 0

@@ -37,6 +37,10 @@ abbrev pub AgreeingReplicasAreEqual : Type 0
 AgreeingReplicasAreEqual = (one other : State) (chain : List Version) → IsChain chain → Agrees one chain → Agrees other chain
     → one.base ≡ other.base → plain one.pending ≡ [] → plain other.pending ≡ [] → one.tasks ≡ other.tasks
 
+-- the tasks of a replica in which nothing is pending are a sound snapshot of its base
+abbrev pub SentIsSound : Type 0
+SentIsSound = (state : State) (chain : List Version) → Agrees state chain → state.pending ≡ [] → IsFold chain state.base state.tasks
+
 -- each version that a sync added was sent, of what was pending when it began: the first operations, up to the last that it holds. Once it is
 -- pulled, of the others what was left after it is left
 abbrev pub AddedWasSent : Type 0

@@ -8,6 +8,7 @@ pub mod Answers
 pub mod Refused
 pub mod Start
 pub mod Given
+pub mod Offer
 pub mod Cursor
 pub mod Sync
 pub mod Measured

@@ -35,9 +35,17 @@ abbrev pub stopped_by : Start → State → Reached → Step
 stopped_by Base old r = stopped_step r
 stopped_by (Snapshot version tasks) old r = taken_step old r
 
--- the step of a sync that goes to a place: it is done only if nothing is left there
+-- the step of a sync that is done at a place: nothing is left there
+abbrev pub IsDoneStep : Start → State → Reached → Step → Type 0
+IsDoneStep start old r step = (joined r.left ≡ []) × (step ≡ done_by start old r)
+
+-- the step of a sync that is stopped there
+abbrev pub IsStoppedStep : Start → State → Reached → Step → Type 0
+IsStoppedStep start old r step = step ≡ stopped_by start old r
+
+-- the step of a sync that goes to a place
 abbrev pub IsStepTo : Start → State → Reached → Step → Type 0
-IsStepTo start old r step = ((joined r.left ≡ []) × (step ≡ done_by start old r)) ⊎ (step ≡ stopped_by start old r)
+IsStepTo start old r step = IsDoneStep start old r step ⊎ IsStoppedStep start old r step
 
 -- how many bytes the row of a step's record has
 abbrev pub row_size : Step → ℕ

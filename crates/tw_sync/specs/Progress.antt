@@ -13,7 +13,7 @@ use Rattle.tw_path.specs.Fold.{Reads}
 use Rattle.tw_path.specs.Path.{Leg, IsPath, versions_of, added_of}
 use Rattle.tw_path.specs.Sent.{PushesBehind}
 use Rattle.tw_outcome.specs.End.{starts_at}
-use Rattle.tw_sync.specs.Heard.{Heard, Hears, HearsUntil, conflicts_of, brought, pulled_bytes, conflicts, versions_in, told_in, most_exchanges}
+use Rattle.tw_sync.specs.Heard.{Heard, Hears, HearsUntil, conflicts_of, brought, pulled_bytes, conflicts, wanted_in, versions_in, told_in, most_exchanges}
 use Rattle.tw_sync.specs.Answers.{IsLinkKept, GrowsOn, AnsweredAt}
 use Rattle.tw_sync.specs.Refused.{EndedBy, LeadsOn, EachBringsNext, IsConflict, IsLastReply, HeardRefused, max_pull}
 use Rattle.tw_sync.specs.Sync.{server_chain}
@@ -39,6 +39,7 @@ pub record HeardSoFar {L : Type 0} (m : LinkModel L) (client host : List ℕ) (f
   pub brought_is : brought hs ≡ cursor.versions
   pub bytes_are : pulled_bytes hs ≡ cursor.bytes
   pub conflicts_are : conflicts hs ≡ cursor.conflicts
+  pub wanted_is : wanted_in hs ≡ cursor.wanted
   pub each : AllByRecursion LeadsOn hs
   pub followed : EachBringsNext hs
   pub so : Q hs
@@ -205,12 +206,14 @@ FindsNoneLate {L = L} m client host before cursor after moved = cursor.conflicts
     → IsLate m client host state first before cursor last → IsStopped m client host state first after moved (errors.OutOfSync moved.walker.at last)
 
 -- after a conflict that named this version it has pulled all
-abbrev pub PullsLate : {L : Type 0} → LinkModel L → (client host : List ℕ) → TasksValue → (before : L) → Cursor → (last : List ℕ) → (after : L) → Cursor → Type 0
+abbrev pub PullsLate : {L : Type 0} → LinkModel L → (client host : List ℕ) → TasksValue → (before : L) → Cursor → (last : List ℕ) → (after : L)
+    → Cursor → Type 0
 PullsLate {L = L} m client host hand before cursor last after moved = (state : State) (first : L) → state.tasks ≡ hand
     → IsLate m client host state first before cursor last → HasPulled m client host state first after moved
 
 -- it is refused
-abbrev pub StopsLate : {L : Type 0} → LinkModel L → (client host : List ℕ) → TasksValue → (before : L) → Cursor → (last : List ℕ) → (after : L) → Cursor → SyncError → Type 0
+abbrev pub StopsLate : {L : Type 0} → LinkModel L → (client host : List ℕ) → TasksValue → (before : L) → Cursor → (last : List ℕ) → (after : L)
+    → Cursor → SyncError → Type 0
 StopsLate {L = L} m client host hand before cursor last after moved e = (state : State) (first : L) → state.tasks ≡ hand
     → IsLate m client host state first before cursor last → IsStopped m client host state first after moved e
 

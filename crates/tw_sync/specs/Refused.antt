@@ -7,6 +7,7 @@ use Rattle.tw_journal.specs.Journal.{is_closed}
 use Rattle.tw_journal.specs.declared.error.AppendError.{AppendError}
 use Rattle.tw_journal.specs.declared.error.AppendError.TheVariants as journal
 use Rattle.tw_http.specs.Link.{LinkModel}
+use Rattle.tw_http.specs.declared.message.Request.{Request}
 use Rattle.tw_http.specs.declared.message.Request.TheVariants as asks
 use Rattle.tw_http.specs.declared.message.Response.TheVariants as replies
 use Rattle.tw_http.specs.declared.message.HttpError.TheVariants as http
@@ -76,9 +77,20 @@ IsBadReply (Status code) heard = HasBadStatus code heard
 abbrev pub IsWelcome : Heard → Type 0
 IsWelcome heard = (kind : ReplyKind) → ¬ (IsBadReply kind heard)
 
+-- what is asked of the chain, and not of the snapshot
+abbrev pub AsksOfChain : Request → Type 0
+AsksOfChain (asks.Add client parent segment) = Unit {0}
+AsksOfChain (asks.Child client parent) = Unit {0}
+AsksOfChain (asks.AddSnapshot client version bytes) = ⊥
+AsksOfChain (asks.Snapshot client) = ⊥
+
 -- a reply that a sync goes on from: no 410
 abbrev pub LeadsOn : Heard → Type 0
-LeadsOn heard = IsWelcome heard × ¬ (heard.reply ≡ Ok replies.Gone)
+LeadsOn heard = IsWelcome heard × ¬ (heard.reply ≡ Ok replies.Gone) × AsksOfChain heard.asked
+
+-- a reply about the chain that no sync goes on from
+abbrev pub IsBadOfChain : ReplyKind → Heard → Type 0
+IsBadOfChain kind heard = IsBadReply kind heard × AsksOfChain heard.asked
 
 -- a 404 to get-child of this version: there is none after it
 abbrev pub IsUpToDate : (client base : List ℕ) → Heard → Type 0
@@ -123,7 +135,7 @@ pub record IsTooMuch (hs : List Heard) (bytes : ℕ) : Type 0 where
 
 -- the cause of a refusal, if it was heard
 abbrev pub HeardCause : (client : List ℕ) → List Heard → SyncError → Type 0
-HeardCause client hs (errors.Reply kind) = EndedBy hs (IsBadReply kind)
+HeardCause client hs (errors.Reply kind) = EndedBy hs (IsBadOfChain kind)
 HeardCause client hs (errors.Gone base) = EndedBy hs (IsGone client base)
 HeardCause client hs (errors.Busy parent) = EndedBy hs (IsConflict parent) × (conflicts hs ≡ 16)
 HeardCause client hs (errors.OutOfSync base parent) = IsOutOfSync client hs base parent
@@ -209,7 +221,9 @@ SyncRefused m links old new before after first last errors.Memory = IsUnchanged 
 abbrev pub MayAdd : SyncError → Type 0
 MayAdd errors.Link = Unit {0}
 MayAdd errors.Memory = Unit {0}
-MayAdd (errors.Journal e) = Unit {0}
+MayAdd (errors.Journal journal.Disk) = Unit {0}
+MayAdd (errors.Journal (journal.TooLong bytes)) = Unit {0}
+MayAdd (errors.Journal journal.Closed) = ⊥
 MayAdd (errors.Reply kind) = ⊥
 MayAdd (errors.Gone base) = ⊥
 MayAdd (errors.Busy parent) = ⊥

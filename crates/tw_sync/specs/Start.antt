@@ -97,11 +97,16 @@ abbrev pub Begins : {L : Type 0} → LinkModel L → (client host : List ℕ) �
 Begins m client host state first now Base = (now ≡ first) ⊎ PassesOver m client host state first now
 Begins m client host state first now (Snapshot version tasks) = IsGiven m client host state first now version tasks
 
+-- a new replica asks for the snapshot before all else, unless this is so
+abbrev pub AsksFirst : {L : Type 0} → LinkModel L → (client host : List ℕ) → State → (first begun : L) → (unasked : Type 0) → Type 0
+AsksFirst m client host state first begun unasked = IsNewReplica state → AsksSnapshot m client host first begun (λ reply. Unit {0}) ⊎ unasked
+
 -- it begins so, and the rest of it, from there on, is such
-pub record Since {L : Type 0} (m : LinkModel L) (client host : List ℕ) (state : State) (first : L) (P : Start → L → Type 0) : Type 0 where
+pub record Since {L : Type 0} (m : LinkModel L) (client host : List ℕ) (state : State) (first : L) (unasked : Type 0) (P : Start → L → Type 0) : Type 0 where
   pub start : Start
   pub begun : L
   pub begins : Begins m client host state first begun start
+  pub asks : AsksFirst m client host state first begun unasked
   pub rest : P start begun
 
 -- ---- sound snapshots

@@ -10,7 +10,7 @@ use Rattle.tw_state.specs.Core.{state_of}
 use Rattle.tw_replica.specs.Replica.{IsReplicaOn, IsSame, OpensToEither}
 use Rattle.tw_replica.specs.declared.replica.Replica.{Replica}
 use Rattle.tw_path.specs.Fold.{Reads}
-use Rattle.tw_path.specs.Path.{Leg, IsPath}
+use Rattle.tw_path.specs.Path.{Reached, Leg, IsPath}
 use Rattle.tw_outcome.specs.End.{ServerChain, Answer, starts_at}
 use Rattle.tw_sync.specs.Start.{Start, from_state, MayStart}
 use Rattle.tw_sync.specs.End.{EndFrom}
@@ -37,23 +37,24 @@ pub record WritesNothing {D : Type 0} (m : DiskModel D) (old new : Replica) (bef
   pub base : new.core.base ≡ old.core.base
   pub same : IsSame old new before after
 
--- a sync that moves the base writes one record, which is within its limit: of the step to a place of its path through the chain.
+-- a sync that moves the base writes one record, which is within its limit: of such a step to a place of its path through the chain.
 -- At any moment the disk opens to the state before or to the new one
-pub record WritesOne {D : Type 0} (m : DiskModel D) (start : Start) (old new : Replica) (before after : D) (honest : Type 0) (chain : List Version)
-    (bodies : List (List ℕ)) : Type 0 where
+pub record WritesOne {D : Type 0} (m : DiskModel D) (Goes : Start → State → Reached → Step → Type 0) (start : Start) (old new : Replica)
+    (before after : D) (honest : Type 0) (chain : List Version) (bodies : List (List ℕ)) : Type 0 where
   pub moved : ¬ (new.core.base ≡ old.core.base)
   pub step : Step
   pub end : IsEndStep start (state_of old.core) (state_of new.core) step
+  pub goes : Goes start (state_of old.core) (place (from_state start (state_of old.core)) end.legs) step
   pub lies : honest → LiesIn (from_state start (state_of old.core)) chain end.legs
   pub within : row_size step ≤ 2 ^ 30
   pub on : IsReplicaOn m new after (bodies ++ body_of step ∷ [])
   pub leaves : LeavesOnly m before after (OpensToEither (state_of old.core) (Some (state_of new.core)))
 
--- the records after a sync
-abbrev pub RecordsOfSync : {D : Type 0} → DiskModel D → (start : Start) (old new : Replica) (before after : D) (honest : Type 0) (chain : List Version)
-    → List (List ℕ) → Type 0
-RecordsOfSync m start old new before after honest chain bodies =
-    WritesNothing m old new before after bodies ⊎ WritesOne m start old new before after honest chain bodies
+-- the records after a sync that goes to its place by such a step
+abbrev pub RecordsOfSync : {D : Type 0} → DiskModel D → (Goes : Start → State → Reached → Step → Type 0) → (start : Start) (old new : Replica)
+    (before after : D) (honest : Type 0) (chain : List Version) → List (List ℕ) → Type 0
+RecordsOfSync m Goes start old new before after honest chain bodies =
+    WritesNothing m old new before after bodies ⊎ WritesOne m Goes start old new before after honest chain bodies
 
 -- the end that a sync has led to, if it has come so far
 abbrev pub IsEndIn : (start : Start) (old : State) (before after : ServerChain) → Option State → Type 0

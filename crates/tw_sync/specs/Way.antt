@@ -1,6 +1,7 @@
 -- The path that a refused sync has gone.
 use Rattle.std.specs.Prelude.{◌≡◌, ◌⊎◌, ℕ, List, [], ◌∷◌, ◌++◌}
 use Rattle.tw_protocol.specs.Chain.{Version}
+use Rattle.tw_journal.specs.declared.error.AppendError.TheVariants as journal
 use Rattle.tw_http.specs.Link.{LinkModel, IsHonest}
 use Rattle.tw_state.specs.State.{State}
 use Rattle.tw_path.specs.Path.{Leg, come, IsPath, versions_of}
@@ -19,7 +20,9 @@ RefusesLast (errors.Reply kind) = Unit {0}
 RefusesLast (errors.Segment version) = Unit {0}
 RefusesLast (errors.PullTooLong bytes) = Unit {0}
 RefusesLast errors.Memory = Unit {0}
-RefusesLast (errors.Journal e) = Unit {0}
+RefusesLast (errors.Journal journal.Disk) = Unit {0}
+RefusesLast (errors.Journal (journal.TooLong bytes)) = Unit {0}
+RefusesLast (errors.Journal journal.Closed) = ⊥
 RefusesLast (errors.Gone base) = ⊥
 RefusesLast (errors.Busy parent) = ⊥
 RefusesLast (errors.OutOfSync base parent) = ⊥

@@ -30,6 +30,8 @@ pub struct Cursor {
     pub pending: u64,
     /// How many of them were not sent.
     pub unsent: u64,
+    /// Whether the server has asked for a snapshot.
+    pub wanted: bool,
     ghost few: { versions ≤ bytes },
     ghost within: { bytes ≤ max_pull },
 }
@@ -44,6 +46,7 @@ impl Drop for Cursor {
             conflicts: _conflicts,
             pending: _pending,
             unsent: _unsent,
+            wanted: _wanted,
         } = self;
     }
 }
@@ -84,6 +87,7 @@ impl Cursor {
             conflicts: _conflicts,
             pending: _pending,
             unsent: _unsent,
+            wanted: _wanted,
         } = self;
         walker.into_carried()
     }

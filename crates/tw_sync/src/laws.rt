@@ -1,5 +1,5 @@
 //! Laws of chains, positions and ends of a sync. Each function does nothing: its contract is the law.
-ghost use Rattle.tw_sync.specs.Laws.{NewReplicaAgrees, AgreesIsKept, FoldIsOne, PendingActsOnTheFold, AgreeingReplicasAreEqual};
+ghost use Rattle.tw_sync.specs.Laws.{NewReplicaAgrees, AgreesIsKept, FoldIsOne, PendingActsOnTheFold, AgreeingReplicasAreEqual, SentIsSound};
 ghost use Rattle.tw_sync.specs.Laws.{AddedWasSent};
 ghost use Rattle.tw_sync.specs.LaterOps.{CommitFollows, UndoStaysBehind, SentForFollowing};
 ghost use Rattle.tw_sync.specs.World.{ReachedIsGood, ReachedFollows};
@@ -30,6 +30,11 @@ pub fn pending_acts_on_the_fold()
 /// and so print the same export.
 pub fn agreeing_replicas_are_equal()
     ensures { AgreeingReplicasAreEqual }
+{}
+
+/// The tasks of a replica that agrees with a chain, and in which nothing is pending, are the chain folded to its base: a sound snapshot.
+pub fn what_is_sent_is_sound()
+    ensures { SentIsSound }
 {}
 
 /// With no version pulled the local list is left as it is.

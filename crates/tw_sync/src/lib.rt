@@ -9,6 +9,7 @@ mod engine;
 mod error;
 mod given;
 pub mod laws;
+mod offer;
 mod pulling;
 mod pushing;
 mod report;

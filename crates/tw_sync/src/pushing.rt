@@ -46,11 +46,8 @@ pub(crate) fn push<L: Link>(
 {
     let Letter { batch, ops, text } = write_letter(alloc, &cursor.walker.left)?;
     match ask_add(alloc, link, client, host, cursor.walker.at, text)? {
-        AddAnswer::Added {
-            id,
-            wanted: _wanted,
-        } => {
-            cursor.add(alloc, id, ops, batch)?;
+        AddAnswer::Added { id, wanted } => {
+            cursor.add(alloc, id, ops, batch, wanted)?;
             Ok(Sent::Added)
         }
         AddAnswer::Conflict { latest } => {

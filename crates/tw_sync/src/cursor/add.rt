@@ -11,7 +11,7 @@ use tw_world::Memory;
 use uuid::Uuid;
 
 impl Cursor {
-    /// Goes on to a version that was added with the operations of a batch, which are no longer left.
+    /// Goes on to a version that was added with the operations of a batch, which are no longer left. The server wants a snapshot then, or not.
     ///
     /// After a refusal the cursor must not be used.
     pub fn add(
@@ -20,13 +20,15 @@ impl Cursor {
         id: Uuid,
         ops: Vec<SyncOp>,
         batch: Batch,
+        wanted: bool,
     ) -> Result<(), Memory>
         requires { IsFirstBatch batch self.old.walker.left.items }
-        ensures { OnOk result (AddsVersion self.old self.new id ops.items) }
+        ensures { OnOk result (AddsVersion self.old self.new id ops.items wanted) }
     {
         let count = ops.len() as u64;
         self.walker.push(alloc, id, &ops, batch)?;
         self.unsent = self.unsent.saturating_sub(count);
+        self.wanted = self.wanted || wanted;
         Ok(())
     }
 }

@@ -30,6 +30,7 @@ impl Cursor {
             conflicts: 0,
             pending,
             unsent: pending,
+            wanted: false,
         })
     }
 
@@ -46,6 +47,7 @@ impl Cursor {
             conflicts: 0,
             pending: 0,
             unsent: 0,
+            wanted: false,
         })
     }
 }

@@ -38,7 +38,7 @@ pub returns-clause-refused_heard : goal.returns-clause-refused_heard
 returns-clause-refused_heard g c =
     let asked = Add c.args.client c.args.parent c.from_vec.result in
     if_err c.add_answer.result c.add_answer.ensures.refused (λ e bad tells.
-    badly_heard g.L.Link.model c.args.link.now c.exchange.new.link asked c.args.host.now c.in_ok-reply.reply.items e (c.in_ok-reply.ensures.listed tells)
+    badly_heard g.L.Link.model c.args.link.now c.exchange.new.link asked c.args.host.now c.in_ok-reply.reply.items e tt (c.in_ok-reply.ensures.listed tells)
     (subst (λ b. IsBadlyAnswered asked b e) c.as_slice.ensures.value (bad c.args.client c.args.parent c.from_vec.result)))
 
 pub returns-clause-refused_honest : goal.returns-clause-refused_honest

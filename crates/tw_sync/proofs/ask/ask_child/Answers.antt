@@ -24,7 +24,7 @@ returns-clause-refused g c =
 pub returns-clause-refused_heard : goal.returns-clause-refused_heard
 returns-clause-refused_heard g c =
     if_err c.child_answer.result c.child_answer.ensures.refused (λ e bad tells.
-    badly_heard g.L.Link.model c.args.link.now c.exchange.new.link (Child c.args.client c.args.parent) c.args.host.now c.in_ok-reply.reply.items e (c.in_ok-reply.ensures.listed tells)
+    badly_heard g.L.Link.model c.args.link.now c.exchange.new.link (Child c.args.client c.args.parent) c.args.host.now c.in_ok-reply.reply.items e tt (c.in_ok-reply.ensures.listed tells)
     (subst (λ b. IsBadlyAnswered (Child c.args.client c.args.parent) b e) c.as_slice.ensures.value (bad c.args.client)))
 
 pub returns-clause-refused_honest : goal.returns-clause-refused_honest

@@ -1,6 +1,10 @@
-use Rattle.std.proofs.Common.{◌^◌, ◌≡◌, None, refl, sym, subst, rules}
+use Rattle.std.proofs.Common.{◌^◌, ◌≡◌, ◌∙◌, ℕ, List, None, refl, ap, sym, subst, rules}
+use Rattle.std.specs.Prelude.{option_map}
+use Rattle.tw_protocol.specs.Chain.{same_id}
 use Rattle.tw_state.specs.Core.{state_of}
 use Rattle.tw_sync.specs.Start.Start.{Snapshot}
+use Rattle.tw_replica.specs.declared.error.RecordError.TheVariants as records
+use Rattle.tw_sync.specs.Moved.{taken_step, moved_by}
 use Rattle.tw_sync.specs.Contract.{DoneEnd}
 use Rattle.tw_sync.specs.declared.error.SyncError.TheVariants as errors
 use Rattle.tw_sync.proofs.StepTaken.{nothing_grown}
@@ -10,7 +14,7 @@ use Rattle.tw_sync.proofs.Served.{grows_same}
 use Rattle.tw_sync.proofs.Results.{passed_on}
 use Rattle.tw_sync.proofs.StoppedEnds.{forgotten_any, forgotten_refused, stopped_any, stopped_end_is, unstopped_any, unstopped_end}
 use Rattle.tw_sync.proofs.Unheard.{unasked, no_memory}
-use Rattle.tw_sync.proofs.SyncEnds.{unmoved_any, unmoved_end, moved_any, moved_end}
+use Rattle.tw_sync.proofs.SyncEnds.{unmoved_any, unmoved_end, moved_any, moved_end, letter_end}
 use Rattle.tw_sync.proofs.engine.sync_from.Goals as goal
 
 -- ---- no cursor to begin at
@@ -52,6 +56,27 @@ pub returns-in_ok-take_over-in-Ok-clause-done : goal.returns-in_ok-take_over-in-
 returns-in_ok-take_over-in-Ok-clause-done g c =
     subst (DoneEnd g.D.Disk.model g.L.Link.model c.args.client c.args.host.now (Snapshot c.args.given.version c.args.given.tasks) c.args.replica.now c.take_over.new.replica c.args.disk.now c.take_over.new.disk c.args.link.now c.meet.new.link) (sym c.report-report.ensures)
     (moved_end g.L.Link.model c.args.client c.args.host.now c.args.given.tasks (Snapshot c.args.given.version c.args.given.tasks) c.args.replica.now c.requires.fresh c.args.link.now c.meet.new.link c.in_ok-cursor.cursor c.meet.new.cursor (g.met.L.Link.tells_chain c.args.link.now) refl (c.in_ok-cursor.ensures (state_of c.args.replica.now.core)) c.in-Ok.ensures.met g.D.Disk.model c.take_over.new.replica c.args.disk.now c.take_over.new.disk c.requires.open c.take_over.ensures.any_moment c.take_over.ensures.growth c.in_ok-take_over-in-Ok.ensures.moved)
+
+-- the request for the snapshot is not made
+pub returns-in_err-letter-in-Ok-clause-any : goal.returns-in_err-letter-in-Ok-clause-any
+returns-in_err-letter-in-Ok-clause-any g c =
+    unmoved_any g.L.Link.model c.args.client c.args.host.now c.args.given.tasks (Snapshot c.args.given.version c.args.given.tasks) c.args.replica.now c.requires.fresh c.args.link.now c.meet.new.link c.in_ok-cursor.cursor c.meet.new.cursor (g.met.L.Link.tells_chain c.args.link.now) refl (c.in_ok-cursor.ensures (state_of c.args.replica.now.core)) c.in-Ok.ensures.met g.D.Disk.model c.args.replica.now c.args.disk.now c.args.disk.now c.requires.open
+    (λ r stands u bodies on. nothing_written g.D.Disk.model g.met.D.Disk.only_now c.args.replica.now c.args.disk.now bodies (moved_by r.at (taken_step (state_of c.args.replica.now.core) r) (state_of c.args.replica.now.core)) on)
+    (λ bodies on. nothing_grown g.D.Disk.model g.met.D.Disk.only_now c.args.disk.now (2 ^ 30)) records.Memory
+    (λ r stands u. (ap (λ (h : List ℕ). same_id h c.args.replica.now.core.base) (sym stands.at) ∙ ap (λ (b : List ℕ). same_id c.meet.new.cursor.walker.at b) (sym c.base.ensures) ∙ c.in_err-letter-in-Ok.ensures.far, (c.requires.open, record { state = refl; journal = refl; disk = refl })))
+
+pub returns-in_err-letter-in-Ok-clause-refused : goal.returns-in_err-letter-in-Ok-clause-refused
+returns-in_err-letter-in-Ok-clause-refused g c =
+    passed_on c.from_residual-in_err-letter-in-Ok.result _ _ c.from_residual-in_err-letter-in-Ok.ensures.1
+    (unmoved_end g.L.Link.model c.args.client c.args.host.now c.args.given.tasks (Snapshot c.args.given.version c.args.given.tasks) c.args.replica.now c.requires.fresh c.args.link.now c.meet.new.link c.in_ok-cursor.cursor c.meet.new.cursor (g.met.L.Link.tells_chain c.args.link.now) refl (c.in_ok-cursor.ensures (state_of c.args.replica.now.core)) c.in-Ok.ensures.met g.D.Disk.model c.args.replica.now c.args.disk.now c.args.disk.now c.requires.open
+    (λ r stands u bodies on. nothing_written g.D.Disk.model g.met.D.Disk.only_now c.args.replica.now c.args.disk.now bodies (moved_by r.at (taken_step (state_of c.args.replica.now.core) r) (state_of c.args.replica.now.core)) on)
+    (λ bodies on. nothing_grown g.D.Disk.model g.met.D.Disk.only_now c.args.disk.now (2 ^ 30)) records.Memory
+    (λ r stands u. (ap (λ (h : List ℕ). same_id h c.args.replica.now.core.base) (sym stands.at) ∙ ap (λ (b : List ℕ). same_id c.meet.new.cursor.walker.at b) (sym c.base.ensures) ∙ c.in_err-letter-in-Ok.ensures.far, (c.requires.open, record { state = refl; journal = refl; disk = refl }))))
+
+pub returns-in_ok-take_over-in-Ok-clause-letter : goal.returns-in_ok-take_over-in-Ok-clause-letter
+returns-in_ok-take_over-in-Ok-clause-letter g c =
+    letter_end g.L.Link.model c.args.client c.args.host.now c.args.given.tasks (Snapshot c.args.given.version c.args.given.tasks) c.args.replica.now c.requires.fresh c.args.link.now c.meet.new.link c.in_ok-cursor.cursor c.meet.new.cursor (g.met.L.Link.tells_chain c.args.link.now) refl (c.in_ok-cursor.ensures (state_of c.args.replica.now.core)) c.in-Ok.ensures.met g.D.Disk.model c.take_over.new.replica c.args.disk.now c.take_over.new.disk c.requires.open c.take_over.ensures.any_moment c.take_over.ensures.growth c.in_ok-take_over-in-Ok.ensures.moved
+    c.base.result c.base.ensures (option_map (λ v. v.items) c.in_ok-letter-in-Ok.letter) c.in_ok-letter-in-Ok.ensures.letter
 
 -- ---- there was no memory
 

@@ -8,7 +8,8 @@ use Rattle.tw_sync.specs.Sending.{IsUnsent}
 use Rattle.tw_sync.proofs.CursorInChain.{may_push}
 use Rattle.tw_sync.proofs.Results.{passed_on}
 use Rattle.tw_sync.proofs.OneExchangeMore.{add_is_asked}
-use Rattle.tw_sync.proofs.LeftIsSent.{added, unsent, unadded, added_unkept, some_first}
+use Rattle.tw_sync.proofs.LeftIsSent.{added, some_first}
+use Rattle.tw_sync.proofs.Unsent.{unsent, unadded, added_unkept}
 use Rattle.tw_sync.proofs.Conflicts.{came_late}
 use Rattle.tw_sync.proofs.pushing.push.Goals as goal
 
@@ -32,7 +33,7 @@ returns-in_err-add-in-Added-clause-stopped g c =
     let k = c.in_ok-id.ensures in
     let t = c.in_ok-batch.ensures in
     passed_on c.from_residual-in_err-add-in-Added.result _ _ c.from_residual-in_err-add-in-Added.ensures.1
-    (λ state begin s. added_unkept g.L.Link.model c.args.client c.args.host.now state begin c.args.link.now c.ask_add.new.link c.args.cursor.now _ c.in-Added.id c.in_ok-batch.field-0.text.items c.in-Added._wanted c.in_ok-batch.field-0.ops.items s
+    (λ state begin s. added_unkept g.L.Link.model c.args.client c.args.host.now state begin c.args.link.now c.ask_add.new.link c.args.cursor.now _ c.in-Added.id c.in_ok-batch.field-0.text.items c.in-Added.wanted c.in_ok-batch.field-0.ops.items s
     (add_is_asked g.L.Link.model c.args.client c.args.host.now c.args.link.now c.ask_add.new.link k.kept k.count c.args.cursor.now.walker.at c.in_ok-batch.field-0.text.items _ _ c.in-Added.is k.heard k.welcome)
     k.grows (λ honest. subst (IsAddAnswer g.L.Link.model c.args.link.now c.ask_add.new.link c.args.cursor.now.walker.at c.in_ok-batch.field-0.text.items) c.in-Added.is (k.answer honest))
     (may_push state s.legs c.args.cursor.now c.in-Added.id c.in_ok-batch.field-0.text.items c.in_ok-batch.field-0.ops.items s.on_path (λ none. c.requires.some (ap joined s.on_path.stands.left ∙ none)) (t.ops ∙ ap (first is_batch) s.on_path.stands.left) t.text t.reads_back t.within))
@@ -41,7 +42,7 @@ pub returns-in_ok-add-in-Added-clause-pushed : goal.returns-in_ok-add-in-Added-c
 returns-in_ok-add-in-Added-clause-pushed g c = λ state begin s.
     let k = c.in_ok-id.ensures in
     let t = c.in_ok-batch.ensures in
-    added g.L.Link.model c.args.client c.args.host.now state begin c.args.link.now c.ask_add.new.link c.args.cursor.now _ c.in-Added.id c.in_ok-batch.field-0.text.items c.in-Added._wanted c.in_ok-batch.field-0.ops.items s
+    added g.L.Link.model c.args.client c.args.host.now state begin c.args.link.now c.ask_add.new.link c.args.cursor.now _ c.in-Added.id c.in_ok-batch.field-0.text.items c.in-Added.wanted c.in_ok-batch.field-0.ops.items s
     (add_is_asked g.L.Link.model c.args.client c.args.host.now c.args.link.now c.ask_add.new.link k.kept k.count c.args.cursor.now.walker.at c.in_ok-batch.field-0.text.items _ _ c.in-Added.is k.heard k.welcome)
     k.grows (λ honest. subst (IsAddAnswer g.L.Link.model c.args.link.now c.ask_add.new.link c.args.cursor.now.walker.at c.in_ok-batch.field-0.text.items) c.in-Added.is (k.answer honest))
     (may_push state s.legs c.args.cursor.now c.in-Added.id c.in_ok-batch.field-0.text.items c.in_ok-batch.field-0.ops.items s.on_path (λ none. c.requires.some (ap joined s.on_path.stands.left ∙ none)) (t.ops ∙ ap (first is_batch) s.on_path.stands.left) t.text t.reads_back t.within)
@@ -61,4 +62,4 @@ returns-in-Conflict-clause-pushed g c = λ state begin s.
     came_late g.L.Link.model c.args.client c.args.host.now state begin c.args.link.now c.ask_add.new.link c.args.cursor.now _ c.in_ok-batch.field-0.text.items c.in-Conflict.latest s
     (add_is_asked g.L.Link.model c.args.client c.args.host.now c.args.link.now c.ask_add.new.link k.kept k.count c.args.cursor.now.walker.at c.in_ok-batch.field-0.text.items _ _ c.in-Conflict.is k.heard k.welcome)
     k.grows (λ honest. subst (IsAddAnswer g.L.Link.model c.args.link.now c.ask_add.new.link c.args.cursor.now.walker.at c.in_ok-batch.field-0.text.items) c.in-Conflict.is (k.answer honest))
-    (record { walker = refl; versions = refl; bytes = refl; pending = refl; unsent = refl; conflicts = refl })
+    (record { walker = refl; versions = refl; bytes = refl; pending = refl; unsent = refl; conflicts = refl; wanted = refl })

@@ -12,12 +12,12 @@ pub returns-in-Ok-clause-ended : goal.returns-in-Ok-clause-ended
 returns-in-Ok-clause-ended c = λ honest.
     let run = c.in-Ok.ensures.runs in
     runs_ended memory_model lone_link_model c.from_bytes-client.result _ c.args.self.now.replica c.sync.new.replica c.args.self.now.disk c.sync.new.disk c.args.link.now c.sync.new.link _ run (Done (counts_of c.in-Ok.report))
-    (subst (IsHonest lone_link_model c.args.link.now) (sym c.from_bytes-client.ensures) honest) run.rest.done.ended
+    (subst (IsHonest lone_link_model c.args.link.now) (sym c.from_bytes-client.ensures) honest) run.rest.ends.done.ended
 
 pub returns-in-Ok-clause-open : goal.returns-in-Ok-clause-open
 returns-in-Ok-clause-open c =
     let run = c.in-Ok.ensures.runs in
-    open_after_sync run.start c.args.self.now.replica c.sync.new.replica c.args.self.now.disk c.sync.new.disk _ c.sync.new.link c.requires.0 c.requires.1 (run.rest.done.records c.requires.0 c.requires.1)
+    open_after_sync run.start c.args.self.now.replica c.sync.new.replica c.args.self.now.disk c.sync.new.disk _ run.rest.now c.requires.0 c.requires.1 (run.rest.ends.done.records c.requires.0 c.requires.1)
 
 pub returns-in-Ok-clause-kept : goal.returns-in-Ok-clause-kept
 returns-in-Ok-clause-kept c = runs_kept memory_model lone_link_model c.from_bytes-client.result _ c.args.self.now.replica c.sync.new.replica c.args.self.now.disk c.sync.new.disk c.args.link.now c.sync.new.link _ c.in-Ok.ensures.runs

@@ -1,4 +1,5 @@
-use Rattle.std.proofs.Common.{List, refl, subst}
+use Rattle.std.proofs.Common.{List, refl, sym, subst}
+use Rattle.std.proofs.lemmas.Bool.{true≢false}
 use Rattle.tw_model.specs.declared.Op.{Op}
 use Rattle.tw_path.specs.Walk.{StandsAt, before_pending}
 use Rattle.tw_sync.proofs.cursor.Cursor.at_snapshot.Goals as goal
@@ -12,6 +13,8 @@ returns c = λ state. record {
     bytes = refl;
     pending = refl;
     unsent = refl;
+    wants = λ wanted. absurd (true≢false (sym wanted));
   };
   conflicts = refl;
+  calm = refl;
 }

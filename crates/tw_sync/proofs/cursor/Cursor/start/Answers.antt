@@ -1,4 +1,5 @@
-use Rattle.std.proofs.Common.{◌≡◌, ◌∙◌, List, ℕ, length, ap, subst, refl, arith}
+use Rattle.std.proofs.Common.{◌≡◌, ◌∙◌, List, ℕ, length, ap, sym, subst, refl, arith}
+use Rattle.std.proofs.lemmas.Bool.{true≢false}
 use Rattle.tw_model.specs.Ops.{TasksValue}
 use Rattle.tw_model.specs.LocalOps.{plain}
 use Rattle.tw_model.specs.declared.Op.{Op}
@@ -23,6 +24,8 @@ returns c =
         bytes = refl;
         pending = count;
         unsent = (let n = count in omega (arith, n));
+        wants = λ wanted. absurd (true≢false (sym wanted));
       };
       conflicts = refl;
+      calm = refl;
     }
