@@ -1,9 +1,9 @@
 -- The sources of records are inside them.
-use Rattle.std.proofs.Common.{◌≡◌, ◌∙◌, ℕ, zero, suc, ◌<◌, ◌≤◌, Bool, true, false, cond, List, [], ◌∷◌, ◌++◌, length, map, reverse, refl, sym, subst, arith}
+use Rattle.std.proofs.Common.{◌≡◌, ◌∙◌, ℕ, zero, suc, ◌<◌, ◌≤◌, Bool, true, false, cond, List, [], ◌∷◌, ◌++◌, length, map, reverse, refl, sym, subst, arith, ap}
 use Rattle.std.specs.Prelude.{All}
 use Rattle.std.specs.Prelude.{Result, Ok, Err, IfOk}
-use Rattle.std.proofs.lemmas.List.{length-map, length-reverse}
-use Rattle.std.proofs.lemmas.List.Elements.{All-nil, All-cons, All-push, All-append}
+use Rattle.std.proofs.lemmas.List.{length-map, length-reverse, reverse-append, reverse-reverse}
+use Rattle.std.proofs.lemmas.List.Elements.{All-nil, All-cons, All-push, All-append, All-tail, All-head}
 use Rattle.tw_records.specs.Bodies.{block_size, is_kind, kind_in}
 use Rattle.tw_records.specs.Table.{Source, Own, Named, Block, Stored, Odd, sources_of, other}
 use Rattle.tw_records.specs.Opening.{IsInside}
@@ -59,11 +59,15 @@ kinds_back : (kinds : List ℕ) → kinds ≡ map kind_in (singles kinds)
 kinds_back [] = refl
 kinds_back (k ∷ kinds) = λ i. k ∷ kinds_back kinds i
 
-pub walked_inside : (kinds : List ℕ) (sources : List Source) → ((bodies : List (List ℕ)) → kinds ≡ map kind_in bodies → sources ≡ sources_of block_size zero zero (reverse bodies)) → AreInside (length kinds) sources
+All-reverse : {X : Type 0} (P : X → Type 0) (xs : List X) → All P xs → All P (reverse xs)
+All-reverse P [] all = all
+All-reverse P (x ∷ xs) all = subst (All P) (sym (reverse-append (x ∷ []) xs)) (All-push P (reverse xs) x (All-reverse P xs (All-tail P x xs all)) (All-head P x xs all))
+
+pub walked_inside : (kinds : List ℕ) (sources : List Source) → ((bodies : List (List ℕ)) → kinds ≡ map kind_in bodies → reverse sources ≡ sources_of block_size zero zero (reverse bodies)) → AreInside (length kinds) sources
 walked_inside kinds sources is =
     let long : length (reverse (singles kinds)) ≡ length kinds = length-reverse (singles kinds) ∙ length-map kinds (λ k. k ∷ []) in
-    subst (AreInside (length kinds)) (sym (is (singles kinds) (kinds_back kinds)))
-    (sources_inside (length kinds) zero zero (reverse (singles kinds)) (omega (arith, long)) (λ some. absurd (omega (arith, some))) (omega arith))
+    subst (AreInside (length kinds)) (ap reverse (sym (is (singles kinds) (kinds_back kinds))) ∙ reverse-reverse sources) (All-reverse (IsInside (length kinds)) (sources_of block_size zero zero (reverse (singles kinds)))
+    (sources_inside (length kinds) zero zero (reverse (singles kinds)) (omega (arith, long)) (λ some. absurd (omega (arith, some))) (omega arith)))
 
 pub if_ok_weaker : {X E : Type 0} {P Q : X → Type 0} (r : Result X E) → ((x : X) → P x → Q x) → IfOk r P → IfOk r Q
 if_ok_weaker (Ok x) f h = f x h

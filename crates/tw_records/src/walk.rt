@@ -6,40 +6,48 @@ ghost use Rattle.tw_records.specs.Opening.{IsInside, fresh_by, fresh_after};
 
 use std::alloc::{AllocError, Global};
 
-/// What tells of a record.
+/// What tells of a record. An opening has one of each record, so that they are small.
 #[derive(Clone, Copy)]
 pub enum Source {
     /// The version is told by its own record.
-    Own { number: u64 },
+    Own { number: u32 },
     /// The version is told by a block, at this place in it.
-    Named { block: u64, place: u64, number: u64 },
+    Named { block: u32, place: u16, number: u32 },
     /// The record is a block.
-    Block { number: u64 },
+    Block { number: u32 },
     /// The record is a stored snapshot.
-    Stored { number: u64 },
+    Stored { number: u32 },
     /// The record is none of these, or a block that names records that are not there.
-    Odd { number: u64 },
+    Odd { number: u32 },
 }
+
+/// So many records have a number of 32 bits.
+const MOST: usize = 0xffff_ffff;
 
 // How many versions are still to be passed over, for which block.
 #[derive(Clone, Copy)]
 struct Walk {
-    passing: u64,
-    block: u64,
+    passing: u16,
+    block: u32,
 }
 
-/// The sources of records with these kinds, in the order of the file.
+/// The sources of records with these kinds, the last one first. More records than have a number of 32 bits count as want of
+/// memory.
 pub fn sources_of(alloc: Global, kinds: &[u8]) -> Result<Vec<Source>, AllocError>
     ensures walked { IfOk result (λ sources. (bodies : List (List ℕ)) → kinds.now ≡ map kind_in bodies
-        → sources.items ≡ sources_of block_size zero zero (reverse bodies)) }
+        → reverse sources.items ≡ sources_of block_size zero zero (reverse bodies)) }
     ensures inside { IfOk result (λ sources. All (IsInside (length kinds.now)) sources.items) }
 {
+    if MOST <= kinds.len() {
+        return Err(AllocError);
+    }
     walk_back(alloc, kinds)
 }
 
 fn walk_back(alloc: Global, kinds: &[u8]) -> Result<Vec<Source>, AllocError>
+    requires { length kinds.now < 2 ^ 32 }
     ensures { IfOk result (λ sources. (bodies : List (List ℕ)) → kinds.now ≡ map kind_in bodies
-        → sources.items ≡ sources_of block_size zero zero (reverse bodies)) }
+        → reverse sources.items ≡ sources_of block_size zero zero (reverse bodies)) }
 {
     let mut found = Vec::new(alloc);
     let mut walk = Walk {
@@ -49,16 +57,15 @@ fn walk_back(alloc: Global, kinds: &[u8]) -> Result<Vec<Source>, AllocError>
     let mut n = kinds.len();
     while 0 < n {
         n -= 1;
-        let next = step(&mut found, walk, kinds[n], n as u64)?;
+        let next = step(&mut found, walk, kinds[n], n as u32)?;
         walk = next;
     }
     end(&mut found, walk)?;
-    found.reverse();
     Ok(found)
 }
 
 // One record before those that were walked over.
-fn step(found: &mut Vec<Source>, walk: Walk, kind: u8, number: u64) -> Result<Walk, AllocError>
+fn step(found: &mut Vec<Source>, walk: Walk, kind: u8, number: u32) -> Result<Walk, AllocError>
     ensures passing { IfOk result (λ w. w.passing ≡ passing_after block_size walk.passing kind) }
     ensures block { IfOk result (λ w. w.block ≡ block_after walk.block kind number) }
     ensures found { OnOk result (found.new.items ≡ found.old.items ++ reverse (found_at walk.passing walk.block kind number)) }
@@ -90,7 +97,7 @@ fn step(found: &mut Vec<Source>, walk: Walk, kind: u8, number: u64) -> Result<Wa
     }
 }
 
-fn version_at(walk: Walk, number: u64) -> Source
+fn version_at(walk: Walk, number: u32) -> Source
     ensures { result ≡ version_at walk.passing walk.block number }
 {
     if 0 < walk.passing {

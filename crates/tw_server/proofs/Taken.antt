@@ -1,9 +1,11 @@
 -- What each source adds to what an opening has read.
-use Rattle.std.proofs.Common.{◌≡◌, ◌∙◌, ◌<◌, ◌≤◌, ◌+◌, ◌*◌, ℕ, Bool, true, false, cond, ◌&&◌, ◌==◌, Result, Ok, Err, List, [], ◌∷◌, ◌++◌, length, get_or, take, drop, sym, ap, subst, arith}
+use Rattle.std.proofs.Common.{◌≡◌, ◌∙◌, ◌<◌, ◌≤◌, ◌+◌, ◌*◌, ℕ, Bool, true, false, cond, ◌&&◌, ◌==◌, Result, Ok, Err, List, [], ◌∷◌, ◌++◌, length, get_or, take, drop, reverse, sym, ap, subst, arith}
 use Rattle.std.specs.Result.{IfErr}
 use Rattle.std.proofs.lemmas.Bool.{true≢false, and_parts}
 use Rattle.std.proofs.lemmas.Bool.Decides.{nat_tests}
-use Rattle.std.proofs.lemmas.List.{take_more, take-append-drop, length-take, length-drop}
+use Rattle.std.specs.Prelude.{All}
+use Rattle.std.proofs.Math.Seq.{get_or-append_seam}
+use Rattle.std.proofs.lemmas.List.{append-nil, append_assoc, reverse-append, length-append, get_or_append_left, length-take, length-drop}
 use Rattle.std.proofs.lemmas.List.Elements.{All-take, All-drop}
 use Rattle.tw_world.specs.Bytes.{IsBytes}
 use Rattle.tw_world.specs.Disk.{DiskModel}
@@ -140,6 +142,20 @@ memory_no_damage (Err e) P is p = subst P (sym is) p
 
 -- ---- one source after another
 
+pub all_last : {X : Type 0} (P : X → Type 0) (xs ys : List X) (x : X) → xs ≡ ys ++ x ∷ [] → All P xs → P x
+all_last P xs ys x is all = subst P (get_or-append_seam ys x [] x) (subst (All P) is all (length ys) x (let long = length-append ys (x ∷ []) in omega (arith, long)))
+
+pub all_before : {X : Type 0} (P : X → Type 0) (xs ys : List X) (x : X) → xs ≡ ys ++ x ∷ [] → All P xs → All P ys
+all_before P xs ys x is all k d lt = subst P (get_or_append_left ys (x ∷ []) d k lt) (subst (All P) is all k d (let long = length-append ys (x ∷ []) in omega (arith, lt, long)))
+
+-- those that are left, the last one first, and the one that is taken
+pub one_fewer : (sources done before left : List Source) (source : Source) → sources ≡ done ++ reverse before → before ≡ left ++ source ∷ [] → sources ≡ (done ++ source ∷ []) ++ reverse left
+one_fewer sources done before left source all is =
+    all ∙ ap (λ l. done ++ reverse l) is ∙ ap (λ l. done ++ l) (reverse-append left (source ∷ [])) ∙ sym (append_assoc done (source ∷ []) (reverse left))
+
+pub none_left : (sources done left : List Source) → sources ≡ done ++ reverse left → left ≡ [] → done ≡ sources
+none_left sources done left all none = sym (all ∙ ap (λ l. done ++ reverse l) none ∙ append-nil done)
+
 module _ (bodies : List (List ℕ)) where
   abbrev by_all : Table → List Source → Result Table ℕ
   by_all = table_by block_size bodies
@@ -153,15 +169,13 @@ module _ (bodies : List (List ℕ)) where
       by (Ok u) e f = f u e
       by (Err k) e f = e
 
-  module _ (sources : List Source) (k : ℕ) (d : Source) (table : Table) (inside : k < length sources) (so_far : by_all no_rows (take k sources) ≡ Ok table) where
-    abbrev source : Source
-    source = get_or sources k d
-
-    pub one_more : by_all no_rows (take (k + 1) sources) ≡ taken block_size bodies table source
-    one_more = ap (by_all no_rows) (take_more sources k d inside) ∙ table_push bodies no_rows (take k sources) source table so_far
+  -- all sources are those that were taken, one more, and those that are left
+  module _ (sources done left : List Source) (source : Source) (table : Table) (all : sources ≡ (done ++ source ∷ []) ++ left) (so_far : by_all no_rows done ≡ Ok table) where
+    pub one_more : by_all no_rows (done ++ source ∷ []) ≡ taken block_size bodies table source
+    one_more = table_push bodies no_rows done source table so_far
 
     bad_there : (n : ℕ) → taken block_size bodies table source ≡ Err n → by_all no_rows sources ≡ Err n
-    bad_there n bad = ap (by_all no_rows) (sym (take-append-drop (k + 1) sources)) ∙ by_more no_rows (take (k + 1) sources) (drop (k + 1) sources) n (one_more ∙ bad)
+    bad_there n bad = ap (by_all no_rows) all ∙ by_more no_rows (done ++ source ∷ []) left n (one_more ∙ bad)
 
     -- damage of one source is damage of all
     pub damage_there : (file : List ℕ) (e : ServerOpenError) → IfDamaged e (IsDamageBy file bodies (taken block_size bodies table source)) → IfDamaged e (IsDamageBy file bodies (by_all no_rows sources))

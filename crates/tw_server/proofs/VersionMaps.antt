@@ -1,28 +1,23 @@
 -- What the maps of the versions say, as versions are added.
-use Rattle.std.proofs.Common.{◌≡◌, ◌⊎◌, inl, inr, ◌∙◌, ℕ, suc, ◌+◌, ◌<◌, ◌≤◌, Bool, true, false, not, cond, ◌&&◌, if◌then◌else◌, Option, Some, None, option_map, is_some, unwrap_or, List, [], ◌∷◌, ◌++◌, length, refl, sym, ap, arith, nat_lt}
+use Rattle.std.proofs.Common.{◌≡◌, ◌⊎◌, inl, inr, ◌∙◌, ℕ, suc, ◌+◌, ◌<◌, ◌≤◌, Bool, true, false, not, cond, ◌&&◌, if◌then◌else◌, Option, Some, None, option_map, is_some, unwrap_or, List, [], ◌∷◌, ◌++◌, length, get_or, take, refl, sym, ap, arith, nat_lt}
 use Rattle.std.specs.List.{position, position_or_len}
-use lib.Dec.{eqb}
-use Rattle.std.proofs.lemmas.Bool.{cases_eq}
-use Rattle.std.specs.Cmp.{both_tied}
+use Rattle.std.proofs.lemmas.Bool.{cases_eq, and_parts}
+use Rattle.std.proofs.lemmas.List.Quantifiers.{position-Some}
+use Rattle.std.proofs.lemmas.Bool.Decides.{nat_tests}
 use Rattle.std.specs.Cmp.Lexicographic.{texts_ties}
 use Rattle.std.specs.Ordering.{is_eq}
 use Rattle.std.specs.declared.cmp.Ordering.{Ordering}
 use Rattle.std.specs.declared.cmp.Ordering.TheVariants.{Less, Equal, Greater}
-use Rattle.std.proofs.lemmas.Bool.Decides.{nat_tests}
-use Rattle.std.proofs.lemmas.List.{length-append}
-use Rattle.std.proofs.lemmas.List.Folds.{position_or_len_push}
-use Rattle.std.proofs.lemmas.List.Sums.{prefix_len-le-length}
-use Rattle.std.proofs.lemmas.Map.Lookups.{CmpEqualImpliesEq, exact_bytes, exact_pairs}
+use Rattle.std.proofs.lemmas.List.{length-append, take-append-le, get_or_append_left}
+use Rattle.std.proofs.Math.Seq.{get_or-append_seam, take-append_seam}
+use Rattle.std.proofs.lemmas.Map.Lookups.{CmpEqualImpliesEq, exact_bytes}
 use Rattle.tw_protocol.specs.Chain.{same_id}
 use Rattle.tw_protocol.proofs.Chains.{same_id_exact}
 use Rattle.tw_records.specs.declared.entry.Entry.{Entry}
-use Rattle.tw_server.specs.Versions.{latest_in, ids_of, place_of, place_in, is_child, uuid_cmp, pair_cmp, first_of}
+use Rattle.tw_server.specs.Versions.{ArePlacesOf, latest_in, ids_of, place_of, place_in, is_keyed, uuid_cmp}
 
 pub exact_uuids : CmpEqualImpliesEq uuid_cmp
 exact_uuids = exact_bytes
-
-pub exact_keys : CmpEqualImpliesEq pair_cmp
-exact_keys = exact_pairs uuid_cmp uuid_cmp exact_bytes exact_bytes
 
 pub absent : {X : Type 0} (o : Option X) (b : Bool) → b ≡ is_some o → b ≡ false → o ≡ None
 absent None b e f = refl
@@ -52,9 +47,6 @@ latest_push client h (x ∷ es) e = by (same_id x.client client) (λ k. latest_p
 pub latest_more : (client h known : List ℕ) (es : List Entry) (e : Entry) → known ≡ latest_in client h es → cond (is_eq (uuid_cmp e.client client)) e.id known ≡ latest_in client h (es ++ e ∷ [])
 latest_more client h known es e is = ap (cond (is_eq (uuid_cmp e.client client)) e.id) is ∙ ap (λ t. cond t e.id (latest_in client h es)) (sym (texts_ties e.client client)) ∙ sym (latest_push client h es e)
 
-keys_tied : (a b : List ℕ × List ℕ) → (same_id a.0 b.0 && same_id a.1 b.1) ≡ is_eq (pair_cmp a b)
-keys_tied a b = both_tied (same_id a.0 b.0) (same_id a.1 b.1) (uuid_cmp a.0 b.0) (uuid_cmp a.1 b.1) (texts_ties a.0 b.0) (texts_ties a.1 b.1)
-
 -- ---- the ids of a client, after one more version
 
 ids_push : (client : List ℕ) (es : List Entry) (e : Entry) → ids_of client (es ++ e ∷ []) ≡ cond (same_id e.client client) (ids_of client es ++ e.id ∷ []) (ids_of client es)
@@ -68,18 +60,6 @@ ids_push client (x ∷ es) e = by (same_id x.client client) (same_id e.client cl
     by true false rest = ap (λ l. x.id ∷ l) rest
     by false true rest = rest
     by false false rest = rest
-
-place_push : (id y : List ℕ) (xs : List (List ℕ)) → place_of id (xs ++ y ∷ []) ≡ cond (same_id y id) (first_of (place_of id xs) (length xs)) (place_of id xs)
-place_push id y [] = refl
-place_push id y (x ∷ xs) = by (same_id x id) (same_id y id) (place_of id xs) (place_of id (xs ++ y ∷ [])) (place_push id y xs)
-  where
-    by : (t u : Bool) (o p : Option ℕ) → p ≡ cond u (first_of o (length xs)) o
-        → cond t (Some 0) (option_map suc p) ≡ cond u (first_of (cond t (Some 0) (option_map suc o)) (suc (length xs))) (cond t (Some 0) (option_map suc o))
-    by true true o p e = refl
-    by true false o p e = refl
-    by false true None p e = ap (option_map suc) e
-    by false true (Some k) p e = ap (option_map suc) e
-    by false false o p e = ap (option_map suc) e
 
 module _ (client : List ℕ) (es : List Entry) (e : Entry) where
   ids_same : same_id e.client client ≡ true → ids_of client (es ++ e ∷ []) ≡ ids_of client es ++ e.id ∷ []
@@ -99,29 +79,6 @@ module _ (client : List ℕ) (es : List Entry) (e : Entry) where
           ∙ sym (ap length (ids_same same) ∙ length-append (ids_of client es) (e.id ∷ []))
       by false other = ap (λ b. cond b (n + 1) known) (sym (texts_ties e.client client) ∙ other) ∙ is ∙ sym (ap length (ids_other other))
 
-  -- the place of an id
-  pub places_more : (id : List ℕ) (here known : Option ℕ) (n : ℕ) → here ≡ place_in e.client e.id es → known ≡ place_in client id es → n ≡ length (ids_of e.client es)
-      → cond (is_eq (pair_cmp (e.client, e.id) (client, id))) (first_of here n) known ≡ place_in client id (es ++ e ∷ [])
-  places_more id here known n at is count = by (same_id e.client client) (same_id e.id id) refl refl
-    where
-      tied : (same_id e.client client && same_id e.id id) ≡ is_eq (pair_cmp (e.client, e.id) (client, id))
-      tied = keys_tied (e.client, e.id) (client, id)
-
-      after : same_id e.client client ≡ true → place_in client id (es ++ e ∷ []) ≡ cond (same_id e.id id) (first_of (place_in client id es) (length (ids_of client es))) (place_in client id es)
-      after same = ap (place_of id) (ids_same same) ∙ place_push id e.id (ids_of client es)
-
-      by : (t u : Bool) → same_id e.client client ≡ t → same_id e.id id ≡ u → cond (is_eq (pair_cmp (e.client, e.id) (client, id))) (first_of here n) known ≡ place_in client id (es ++ e ∷ [])
-      by true true a b =
-          let c = same_id_exact e.client client a in
-          let d = same_id_exact e.id id b in
-          ap (λ x. cond x (first_of here n) known) (sym tied ∙ (λ i. a i && b i))
-          ∙ (λ i. first_of ((at ∙ (λ j. place_in (c j) (d j) es)) i) ((count ∙ ap (λ k. length (ids_of k es)) c) i))
-          ∙ sym (after a ∙ ap (λ x. cond x (first_of (place_in client id es) (length (ids_of client es))) (place_in client id es)) b)
-      by true false a b =
-          ap (λ x. cond x (first_of here n) known) (sym tied ∙ (λ i. a i && b i)) ∙ is
-          ∙ sym (after a ∙ ap (λ x. cond x (first_of (place_in client id es) (length (ids_of client es))) (place_in client id es)) b)
-      by false u a b = ap (λ x. cond x (first_of here n) known) (sym tied ∙ ap (λ x. x && same_id e.id id) a) ∙ is ∙ sym (ap (place_of id) (ids_other a))
-
 -- no client has more versions than there are
 pub ids_few : (client : List ℕ) (es : List Entry) → length (ids_of client es) ≤ length es
 ids_few client [] = omega arith
@@ -131,35 +88,71 @@ ids_few client (e ∷ es) = by (same_id e.client client) (ids_few client es)
     by true few = omega (arith, few)
     by false few = omega (arith, few)
 
--- ---- the child of a parent
+-- ---- the place of an id
 
-place_by : (k n m l : ℕ) (t : Bool) → k ≤ n → m ≡ cond (eqb k n) (n + cond t 0 1) k → l ≡ n + 1
-    → cond (nat_lt m l) (Some m) None ≡ cond t (first_of (cond (nat_lt k n) (Some k) None) n) (cond (nat_lt k n) (Some k) None)
-place_by k n m l true few is long = by (cases_eq k n)
+position_cons : {X : Type 0} (p : X → Bool) (x : X) (xs : List X) → position p (x ∷ xs) ≡ cond (p x) (Some 0) (option_map suc (position p xs))
+position_cons p x xs = by (p x)
   where
-    by : (k ≡ n) ⊎ (k ≡ n → ⊥) → cond (nat_lt m l) (Some m) None ≡ first_of (cond (nat_lt k n) (Some k) None) n
-    by (inl e) = let at : m ≡ n = grind (arith, nat_tests) in grind (arith, nat_tests)
-    by (inr ne) = let at : m ≡ k = grind (arith, nat_tests) in let less : k < n = omega arith in grind (arith, nat_tests)
-place_by k n m l false few is long = by (cases_eq k n)
+    later : (t : Bool) (k : ℕ) → cond t (Some (suc k)) None ≡ option_map suc (cond t (Some k) None)
+    later true k = refl
+    later false k = refl
+
+    none : (n : ℕ) → nat_lt 0 (suc n) ≡ true
+    none n = grind (arith, nat_tests)
+
+    less : (k n : ℕ) → nat_lt (1 + k) (suc n) ≡ nat_lt k n
+    less k n = grind (arith, nat_tests)
+
+    by : (t : Bool) → (let at = cond (not t) (1 + position_or_len p xs) 0 in cond (nat_lt at (suc (length xs))) (Some at) None) ≡ cond t (Some 0) (option_map suc (position p xs))
+    by true = ap (λ t. cond t (Some 0) None) (none (length xs))
+    by false =
+        let k = position_or_len p xs in
+        let next : 1 + k ≡ suc k = omega arith in
+        (λ i. cond (less k (length xs) i) (Some (next i)) None) ∙ later (nat_lt k (length xs)) k
+
+-- it is how many versions of the client come before the first one of this id
+pub place_at : (client id : List ℕ) (es : List Entry) → place_in client id es ≡ option_map (λ n. length (ids_of client (take n es))) (position (is_keyed false client id) es)
+place_at client id [] = refl
+place_at client id (e ∷ es) =
+    by (same_id e.client client) (same_id e.id id) refl refl (position (is_keyed false client id) es) (place_at client id es)
+    ∙ sym (ap (option_map (λ n. length (ids_of client (take n (e ∷ es))))) (position_cons (is_keyed false client id) e es))
   where
-    by : (k ≡ n) ⊎ (k ≡ n → ⊥) → cond (nat_lt m l) (Some m) None ≡ cond (nat_lt k n) (Some k) None
-    by (inl e) = let at : m ≡ n + 1 = grind (arith, nat_tests) in grind (arith, nat_tests)
-    by (inr ne) = let at : m ≡ k = grind (arith, nat_tests) in let less : k < n = omega arith in grind (arith, nat_tests)
+    ids_are : (t : Bool) → same_id e.client client ≡ t → (n : ℕ) → length (ids_of client (take (suc n) (e ∷ es))) ≡ length (if t then e.id ∷ ids_of client (take n es) else ids_of client (take n es))
+    ids_are t same n = ap (λ b. length (if b then e.id ∷ ids_of client (take n es) else ids_of client (take n es))) same
 
-position_push : {X : Type 0} (p : X → Bool) (xs : List X) (y : X) → position p (xs ++ y ∷ []) ≡ cond (p y) (first_of (position p xs) (length xs)) (position p xs)
-position_push p xs y = place_by (position_or_len p xs) (length xs) (position_or_len p (xs ++ y ∷ [])) (length (xs ++ y ∷ [])) (p y) (prefix_len-le-length (λ x. not (p x)) xs) (position_or_len_push p xs y) (length-append xs (y ∷ []))
+    by : (t u : Bool) → same_id e.client client ≡ t → same_id e.id id ≡ u → (o : Option ℕ) → place_in client id es ≡ option_map (λ n. length (ids_of client (take n es))) o
+        → place_of id (if t then e.id ∷ ids_of client es else ids_of client es) ≡ option_map (λ n. length (ids_of client (take n (e ∷ es)))) (cond (t && u) (Some 0) (option_map suc o))
+    by true true a b o rest = ap (λ x. cond x (Some 0) (option_map suc (place_in client id es))) b
+    by true false a b None rest = (λ i. cond (b i) (Some 0) (option_map suc (rest i)))
+    by true false a b (Some n) rest = (λ i. cond (b i) (Some 0) (option_map suc (rest i))) ∙ ap (λ k. Some k) (sym (ids_are true a n))
+    by false u a b None rest = rest
+    by false u a b (Some n) rest = rest ∙ ap (λ k. Some k) (sym (ids_are false a n))
 
--- the child of a parent, after one more version
-pub child_more : (client parent : List ℕ) (here known : Option ℕ) (es : List Entry) (e : Entry) → here ≡ position (is_child e.client e.parent) es → known ≡ position (is_child client parent) es
-    → cond (is_eq (pair_cmp (e.client, e.parent) (client, parent))) (first_of here (length es)) known ≡ position (is_child client parent) (es ++ e ∷ [])
-child_more client parent here known es e at is = by (pair_cmp (e.client, e.parent) (client, parent)) refl ∙ sym (position_push (is_child client parent) es e)
+-- the place of a version that was found
+pub place_found : (client id : List ℕ) (places : List ℕ) (es : List Entry) (n : ℕ) → ArePlacesOf places es → position (is_keyed false client id) es ≡ Some n
+    → (n < length places) × (Some (get_or places n 0) ≡ place_in client id es)
+place_found client id places es n are at =
+    let d : Entry = record { client = []; id = []; parent = [] } in
+    let first = position-Some (is_keyed false client id) es n d at in
+    let here = get_or es n d in
+    let same = same_id_exact here.client client (and_parts (same_id here.client client) (same_id here.id id) first.1).0 in (
+      let inside = first.0 in let long = are.0 in omega (arith, inside, long),
+      ap (λ k. Some k) (are.1 n d first.0 ∙ ap (λ c. length (ids_of c (take n es))) same) ∙ sym (place_at client id es ∙ ap (option_map (λ k. length (ids_of client (take k es)))) at),
+    )
+
+pub place_none : (client id : List ℕ) (es : List Entry) → position (is_keyed false client id) es ≡ None → None ≡ place_in client id es
+place_none client id es none = sym (place_at client id es ∙ ap (option_map (λ k. length (ids_of client (take k es)))) none)
+
+pub places_more : (places : List ℕ) (es : List Entry) (e : Entry) (n : ℕ) → ArePlacesOf places es → n ≡ length (ids_of e.client es) → ArePlacesOf (places ++ n ∷ []) (es ++ e ∷ [])
+places_more places es e n are at = (length-append places (n ∷ []) ∙ ap (λ k. k + 1) are.0 ∙ sym (length-append es (e ∷ [])), λ k d lt. by k d lt (cases_eq k (length es)))
   where
-    same : (r : Ordering) → pair_cmp (e.client, e.parent) (client, parent) ≡ r → is_child client parent e ≡ is_eq r
-    same r t = keys_tied (e.client, e.parent) (client, parent) ∙ ap is_eq t
-
-    by : (r : Ordering) → pair_cmp (e.client, e.parent) (client, parent) ≡ r → cond (is_eq r) (first_of here (length es)) known ≡ cond (is_child client parent e) (first_of (position (is_child client parent) es) (length es)) (position (is_child client parent) es)
-    by Less t = is ∙ ap (λ b. cond b (first_of (position (is_child client parent) es) (length es)) (position (is_child client parent) es)) (sym (same Less t))
-    by Greater t = is ∙ ap (λ b. cond b (first_of (position (is_child client parent) es) (length es)) (position (is_child client parent) es)) (sym (same Greater t))
-    by Equal t =
-        ap (λ o. first_of o (length es)) (at ∙ ap (λ (k : List ℕ × List ℕ). position (is_child k.0 k.1) es) (exact_keys (e.client, e.parent) (client, parent) t))
-        ∙ ap (λ b. cond b (first_of (position (is_child client parent) es) (length es)) (position (is_child client parent) es)) (sym (same Equal t))
+    by : (k : ℕ) (d : Entry) → k < length (es ++ e ∷ []) → (k ≡ length es) ⊎ (k ≡ length es → ⊥)
+        → get_or (places ++ n ∷ []) k 0 ≡ length (ids_of (get_or (es ++ e ∷ []) k d).client (take k (es ++ e ∷ [])))
+    by k d lt (inl same) =
+        ap (λ j. get_or (places ++ n ∷ []) j 0) (same ∙ sym are.0) ∙ get_or-append_seam places n [] 0 ∙ at
+        ∙ sym (ap (λ j. length (ids_of (get_or (es ++ e ∷ []) j d).client (take j (es ++ e ∷ [])))) same
+        ∙ (λ i. length (ids_of (get_or-append_seam es e [] d i).client (take-append_seam es (e ∷ []) i))))
+    by k d lt (inr ne) =
+        let less : k < length es = let long = length-append es (e ∷ []) in omega (arith, lt, ne, long) in
+        get_or_append_left places (n ∷ []) 0 k (let long = are.0 in omega (arith, less, long)) ∙ are.1 k d less
+        ∙ sym (λ i. length (ids_of (get_or_append_left es (e ∷ []) d k less i).client (take-append-le k es (e ∷ []) (omega (arith, less)) i)))

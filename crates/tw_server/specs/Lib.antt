@@ -7,6 +7,7 @@ pub mod Server
 pub mod Reader
 pub mod Opening
 pub mod Versions
+pub mod Index
 pub mod Room
 pub mod Laws
 pub mod Memory

@@ -1,5 +1,5 @@
 // The answer to a request.
-ghost use Rattle.std.specs.Prelude.{◌≡◌, ◌⊎◌, ◌<◌, ◌+◌, ◌++◌, true, false, length, List, ℕ, Err, IfOk, IfErr, IsSome, OnOk, OnErr};
+ghost use Rattle.std.specs.Prelude.{◌≡◌, ◌⊎◌, ◌<◌, ◌+◌, ◌^◌, ◌++◌, true, false, length, List, ℕ, Err, IfOk, IfErr, IsSome, OnOk, OnErr};
 ghost use Rattle.std.specs.BTreeMap.{get};
 ghost use Rattle.tw_world.specs.Disk.{Tells, FaultsRise, Untouched};
 ghost use Rattle.tw_journal.specs.Journal.{IsSameBesideRoom, HasRoom as HasJournalRoom, HasBody, OnBody, journal_count};
@@ -23,6 +23,9 @@ use tw_http::{Bytes, Request, Response};
 use tw_records::{Entry, Image, body_of, snapshot_body};
 use tw_world::{Disk, IdWords};
 use uuid::Uuid;
+
+// So many records have a number of 32 bits.
+const MOST: u64 = 0xffff_ffff;
 
 impl Server {
     /// Answers a request of the account of its client, as the protocol's table says, and makes an accepted version or a
@@ -117,7 +120,7 @@ impl Server {
         let entry = Entry { client, id, parent };
         let body = body_of(alloc, &entry, segment)?;
         self.make_room(&entry)?;
-        let number = self.journal.count();
+        let number = self.journal.count() as u32;
         self.journal.append(disk, body.as_slice())?;
         self.versions.push(entry, number);
         *ids = drawn;
@@ -125,15 +128,19 @@ impl Server {
         Ok(Response::Added { id, wanted })
     }
 
-    // Makes room for a version, and in the journal for the offset of its record.
+    // Makes room for a version, and in the journal for the offset of its record. The number of its record has 32 bits.
     fn make_room(&mut self, entry: &Entry) -> Result<(), AnswerError>
         ensures same { IsSameBesideRoom self.old.journal self.new.journal }
         ensures entries { self.new.versions.entries.items ≡ self.old.versions.entries.items }
         ensures numbers { self.new.versions.numbers.items ≡ self.old.versions.numbers.items }
         ensures images { self.new.images ≡ self.old.images }
         ensures room { OnOk result (HasRoom self.new.versions entry.now) }
+        ensures few { OnOk result (journal_count self.new.journal < 2 ^ 32) }
         ensures refused { IfErr result (λ e. e ≡ refused.Memory) }
     {
+        if MOST <= self.journal.count() {
+            return Err(AnswerError::Memory);
+        }
         self.journal.make_room()?;
         self.versions.make_room(entry)?;
         Ok(())
@@ -209,7 +216,7 @@ impl Server {
         match self.versions.child(client, parent) {
             Some(n) => {
                 let entry = self.versions.entries[n];
-                let number = self.versions.numbers[n];
+                let number = self.versions.numbers[n] as u64;
                 let front = body_of(alloc, &entry, &[])?;
                 let segment = self.rest(alloc, disk, number, front.as_slice())?;
                 Ok(Response::Child {

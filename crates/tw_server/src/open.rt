@@ -69,7 +69,7 @@ impl Server {
     {
         let kinds = self.kinds(alloc, &*disk)?;
         let sources = sources_of(alloc, kinds.as_slice())?;
-        self.take_all(alloc, disk, sources.as_slice())?;
+        self.take_all(alloc, disk, sources)?;
         Ok(fresh_versions(kinds.as_slice()))
     }
 

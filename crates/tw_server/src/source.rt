@@ -1,5 +1,5 @@
 // Takes what the records of a server tell, one source after another.
-ghost use Rattle.std.specs.Prelude.{◌≡◌, ◌<◌, ◌++◌, ◌∷◌, [], false, IfErr, OnOk, All};
+ghost use Rattle.std.specs.Prelude.{◌≡◌, ◌<◌, ◌++◌, ◌∷◌, [], false, reverse, IfErr, OnOk, All};
 ghost use Rattle.tw_world.specs.Disk.{Untouched};
 ghost use Rattle.tw_journal.specs.Journal.{journal_count};
 ghost use Rattle.tw_journal.specs.Window.{IsWindowOn};
@@ -22,28 +22,30 @@ use tw_records::{Entry, Image, Source, is_block_body};
 use tw_world::Disk;
 
 impl Server {
-    // Takes what all sources tell.
+    // Takes what all sources tell, of which the last one comes first.
     pub(crate) fn take_all<D: Disk>(
         &mut self,
         alloc: Global,
         disk: &mut D,
-        sources: &[Source],
+        mut sources: Vec<Source>,
     ) -> Result<(), ServerOpenError>
-        requires inside { All (IsInside (journal_count self.old.journal)) sources.now }
+        requires inside { All (IsInside (journal_count self.old.journal)) sources.items }
         requires open { is_closed self.old ≡ false }
         requires length { D.model.len disk.old ≡ server_end self.old }
 
-        ensures taken { OnOk result (OnNothing D.model self.old disk.old (λ bodies. IsReadBy self.new (table_by block_size bodies no_rows sources.now))) }
+        ensures taken { OnOk result (OnNothing D.model self.old disk.old (λ bodies.
+            IsReadBy self.new (table_by block_size bodies no_rows (reverse sources.items)))) }
         ensures journal { self.new.journal ≡ self.old.journal }
         ensures untouched { Untouched D.model disk.old disk.new }
 
         ensures refused { IfErr result (TakeRefused D.model disk.old disk.new) }
         ensures damaged { IfErr result (λ e. OnNothing D.model self.old disk.old (λ bodies.
-            IfDamaged e (IsDamageBy (D.model.seen disk.old) bodies (table_by block_size bodies no_rows sources.now)))) }
+            IfDamaged e (IsDamageBy (D.model.seen disk.old) bodies (table_by block_size bodies no_rows (reverse sources.items))))) }
     {
         let mut reader = Reader::on(alloc, &*disk);
-        for source in sources {
-            self.take(alloc, &mut reader, disk, source)?;
+        while let Some(source) = sources.pop() {
+            self.take(alloc, &mut reader, disk, &source)?;
+            release(&mut sources);
         }
         Ok(())
     }
@@ -75,10 +77,10 @@ impl Server {
                 block,
                 place,
                 number,
-            } => self.take_named(alloc, reader, disk, block, place, number),
-            Source::Block { number } => self.take_block(alloc, reader, disk, number),
-            Source::Stored { number } => self.take_stored(alloc, reader, disk, number),
-            Source::Odd { number } => Err(self.damaged(disk, number)),
+            } => self.take_named(alloc, reader, disk, block as u64, place as u64, number),
+            Source::Block { number } => self.take_block(alloc, reader, disk, number as u64),
+            Source::Stored { number } => self.take_stored(alloc, reader, disk, number as u64),
+            Source::Odd { number } => Err(self.damaged(disk, number as u64)),
         }
     }
 
@@ -88,7 +90,7 @@ impl Server {
         alloc: Global,
         reader: &mut Reader,
         disk: &mut D,
-        n: u64,
+        n: u32,
     ) -> Result<(), ServerOpenError>
         requires inside { n < journal_count self.old.journal }
         requires open { is_closed self.old ≡ false }
@@ -103,10 +105,10 @@ impl Server {
         ensures refused { IfErr result (TakeRefused D.model disk.old disk.new) }
         ensures damaged { IfErr result (IsBadSource D.model self.old reader.old disk.old (Own n)) }
     {
-        let front = read_front(&self.journal, alloc, &mut reader.window, disk, n)?;
+        let front = read_front(&self.journal, alloc, &mut reader.window, disk, n as u64)?;
         match self.next_entry(front.as_slice()) {
             Some(entry) => self.take_version(entry, n),
-            None => Err(self.damaged(disk, n)),
+            None => Err(self.damaged(disk, n as u64)),
         }
     }
 
@@ -118,7 +120,7 @@ impl Server {
         disk: &mut D,
         block: u64,
         place: u64,
-        n: u64,
+        n: u32,
     ) -> Result<(), ServerOpenError>
         requires block { block < journal_count self.old.journal }
         requires place { place < block_size }
@@ -213,7 +215,7 @@ impl Server {
     }
 
     // Takes the version of the record with this number.
-    fn take_version(&mut self, entry: Entry, n: u64) -> Result<(), ServerOpenError>
+    fn take_version(&mut self, entry: Entry, n: u32) -> Result<(), ServerOpenError>
         requires inside { n < journal_count self.old.journal }
 
         ensures journal { self.new.journal ≡ self.old.journal }
@@ -243,5 +245,14 @@ impl Server {
         };
         self.images.put(image.client, placed);
         Ok(())
+    }
+}
+
+// Gives back the memory of sources that were taken, half of it at a time.
+fn release(sources: &mut Vec<Source>)
+    ensures { sources.new.items ≡ sources.old.items }
+{
+    if sources.len() <= sources.capacity() / 2 {
+        sources.shrink_to_fit();
     }
 }

@@ -35,7 +35,8 @@ StandFor-prop bodies log x y = by y.0 (ap fresh_in (sym x.1 ∙ y.1)) y.1
   where
     by : (k : ℕ) → x.0 ≡ k → (q : read_from nothing_read bodies ≡ Some (record { log = log; fresh = k })) → x ≡ (k, q)
     by k e = subst (λ n. (q : read_from nothing_read bodies ≡ Some (record { log = log; fresh = n })) → x ≡ (n, q)) e
-        (λ q. ap (λ (r : read_from nothing_read bodies ≡ Some (record { log = log; fresh = x.0 })). (x.0, r)) (read_prop bodies (record { log = log; fresh = x.0 }) x.1 q))
+        (λ q. ap (λ (r : read_from nothing_read bodies ≡ Some (record { log = log; fresh = x.0 })). (x.0, r))
+        (read_prop bodies (record { log = log; fresh = x.0 }) x.1 q))
 
 -- ---- a disk has one list of records
 
@@ -47,14 +48,19 @@ record IsServerAt {D : Type 0} (m : DiskModel D) (server : Server) (disk : D) (l
 at_prop : {D : Type 0} (m : DiskModel D) (server : Server) (disk : D) (log : Log) (bodies : List (List ℕ)) → IsProp (IsServerAt m server disk log bodies)
 at_prop m server disk log bodies = hlevel (props, Row-prop, Differ-prop, StandFor-prop)
 
-abbrev made : {D : Type 0} (m : DiskModel D) (server : Server) (disk : D) (log : Log) (bodies : List (List ℕ)) → IsServerAt m server disk log bodies → IsServerOn m server disk log
+abbrev made : {D : Type 0} (m : DiskModel D) (server : Server) (disk : D) (log : Log) (bodies : List (List ℕ))
+    → IsServerAt m server disk log bodies → IsServerOn m server disk log
 made m server disk log bodies at = record { bodies = bodies; journal = at.journal; stands = at.stands; places = at.places }
 
 pub IsServerOn-prop : {D : Type 0} (m : DiskModel D) (server : Server) (disk : D) (log : Log) → IsProp (IsServerOn m server disk log)
 IsServerOn-prop m server disk log x y =
-    by y.bodies (one_records magic (m.seen disk) x.bodies y.bodies (open_records m magic server.journal disk x.bodies x.journal) (open_records m magic server.journal disk y.bodies y.journal))
+    by y.bodies
+    (one_records magic (m.seen disk) x.bodies y.bodies
+    (open_records m magic server.journal disk x.bodies x.journal)
+    (open_records m magic server.journal disk y.bodies y.journal))
     (record { journal = y.journal; stands = y.stands; places = y.places })
   where
     by : (bs : List (List ℕ)) → x.bodies ≡ bs → (b : IsServerAt m server disk log bs) → x ≡ made m server disk log bs b
     by bs e = subst (λ k. (b : IsServerAt m server disk log k) → x ≡ made m server disk log k b) e
-        (λ b. ap (made m server disk log x.bodies) (at_prop m server disk log x.bodies (record { journal = x.journal; stands = x.stands; places = x.places }) b))
+        (λ b. ap (made m server disk log x.bodies)
+        (at_prop m server disk log x.bodies (record { journal = x.journal; stands = x.stands; places = x.places }) b))

@@ -66,11 +66,13 @@ pub struct MemoryServer {
     pub ids: IdWords,
     pub versions: Vec<MemoryVersion>,
     pub snapshots: Vec<MemorySnapshot>,
-    ghost stands: { is_closed server ≡ false → IsServerOn memory_model server disk (log_of versions.items snapshots.items) } by { Prim.hlevel (props, IsServerOn-prop) },
+    ghost stands: { is_closed server ≡ false
+        → IsServerOn memory_model server disk (log_of versions.items snapshots.items) } by { Prim.hlevel (props, IsServerOn-prop) },
     ghost long: { is_closed server ≡ false → memory_model.len disk ≡ server_end server },
     ghost known: { Knows server (log_of versions.items snapshots.items) } by { Prim.hlevel props },
     ghost sound: { IsSound (log_of versions.items snapshots.items).versions } by { Prim.hlevel (props, Row-prop, Differ-prop) },
-    ghost accounts: { (client : List ℕ) → IsAccount (account_of client (log_of versions.items snapshots.items)) } by { Prim.hlevel (props, Row-prop, Differ-prop) },
+    ghost accounts: { (client : List ℕ)
+        → IsAccount (account_of client (log_of versions.items snapshots.items)) } by { Prim.hlevel (props, Row-prop, Differ-prop) },
     ghost fit: { All (λ v. length v.segment ≤ max_body) versions.items },
     ghost stored_fit: { All (λ s. length s.bytes ≤ max_body) snapshots.items },
 }
