@@ -42,7 +42,8 @@ fn is_past(at: Option<u64>, now: u64) -> bool
 }
 
 fn is_overdue(view: &View<'_>, task: &TaskMap) -> bool
-    ensures { result ≡ (has_status (scene_of view.entry.now) task.now Pending && passes (λ due. nat_lt due view.entry.now.now.seconds) (moment_at (codes "due") task.now)) }
+    ensures { result ≡ (has_status (scene_of view.entry.now) task.now Pending
+        && passes (λ due. nat_lt due view.entry.now.now.seconds) (moment_at (codes "due") task.now)) }
 {
     has_status(view, task, Status::Pending) && is_past(moment_at(task, "due"), view.now.seconds)
 }

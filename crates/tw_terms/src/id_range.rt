@@ -67,7 +67,8 @@ fn take_id(
     id: u64,
     is_within: bool,
 ) -> Result<(), Memory>
-    ensures { OnOk result ((u : List ℕ) → tree.get bytes_cmp ids.new u ≡ cond (has_uuid u place.now) (cond is_within (Some id) None) (tree.get bytes_cmp ids.old u)) }
+    ensures { OnOk result ((u : List ℕ) → tree.get bytes_cmp ids.new u
+        ≡ cond (has_uuid u place.now) (cond is_within (Some id) None) (tree.get bytes_cmp ids.old u)) }
 {
     let Some(uuid) = place else {
         return Ok(());

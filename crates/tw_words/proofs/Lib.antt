@@ -1,5 +1,6 @@
 pub mod FirstFaults
 pub mod UnnamedWords
+pub mod PickedWords
 pub mod PlacedWords
 pub mod NamingWords
 pub mod EmptyWords
