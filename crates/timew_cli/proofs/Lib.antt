@@ -1,4 +1,5 @@
 pub mod Ending
+pub mod NotLoaded
 pub mod Loaded
 pub mod Runs
 pub mod Unnamed

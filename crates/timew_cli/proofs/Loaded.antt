@@ -1,9 +1,9 @@
 -- A command over what was loaded, seen from before the loading.
-use Rattle.std.proofs.Common.{◌≡◌, inl, inr, ℕ, List, [], ◌∷◌, ◌++◌, ◌⊎◌, length, Result, Ok, Err, refl, sym, ap, subst, ◌∙◌, arith}
-use Rattle.std.specs.Prelude.{slice_index_or, IfOk, IfErr}
-use Rattle.std.proofs.lemmas.List.{append-nil, length-append}
+use Rattle.std.proofs.Common.{◌≡◌, inl, inr, ℕ, List, [], ◌++◌, Result, Ok, Err, refl, sym, ap, subst, ◌∙◌, arith}
+use Rattle.std.specs.Prelude.{IfOk, IfErr}
+use Rattle.std.proofs.lemmas.List.{append-nil}
 use Rattle.tw_time.specs.Moments.{TimeZone}
-use Rattle.tw_world.specs.Disk.{DiskModel, Rose}
+use Rattle.tw_world.specs.Disk.{DiskModel}
 use Rattle.tw_world.specs.Disk as disk
 use Rattle.tw_world.specs.Crash.{CrashModel, Tells, IsStable, LeavesOnly, FaultsRise}
 use Rattle.tw_world.specs.Folder.{Files, FolderModel}
@@ -13,50 +13,28 @@ use Rattle.tw_world.proofs.Crashes.{CountsNow, weaker}
 use Rattle.tw_world.proofs.TurnRules.{disk_run, ends_second, turns_weaker, turns_joined}
 use Rattle.tw_journal.specs.Form.{offset_in}
 use Rattle.tw_journal.proofs.Offsets.{still_open, open_records}
-use Rattle.tw_journal.specs.Open.{IsDamagedAt}
-use Rattle.tw_journal.specs.declared.error.JournalError.TheVariants as fault
-use Rattle.tw_journal.proofs.Unique.{one_records}
-use Rattle.timew_month.specs.Body.{FileChange, step_of}
-use Rattle.timew_store.specs.History.{History, Stands, start}
-use Rattle.timew_store.specs.Held.{magic, Held, OpensTo, IsAtRest, held_by, finished}
-use Rattle.timew_store.specs.Loading.{OpensAlike, LeavesAlike, HoldsNoStep, Stays}
+use Rattle.timew_store.specs.History.{History, start}
+use Rattle.timew_store.specs.Held.{magic, Held, OpensTo, held_by}
+use Rattle.timew_store.specs.Loading.{OpensAlike, LeavesAlike}
 use Rattle.timew_month.specs.Rows.{rows_of}
-use Rattle.timew_store.specs.Store.{IsStoreOn, IsLoadedStore, LoadRefused, IsLoadFault, LoadSparesDisk, intervals_of}
+use Rattle.timew_store.specs.Store.{IsStoreOn, IsLoadedStore, intervals_of}
 use Rattle.timew_interval.specs.declared.interval.Interval.{Interval}
 use Rattle.timew_store.specs.declared.store.Store.{Store}
-use Rattle.timew_store.specs.declared.error.LoadError.{LoadError}
-use Rattle.timew_store.specs.declared.error.LoadError.TheVariants as load
-use Rattle.timew_store.proofs.AfterLoading.{same_last, all_finished}
+use Rattle.timew_store.proofs.AfterLoading.{all_finished}
+use Rattle.timew_store.proofs.LoadedStore.{loaded_on, loaded_files, loaded_held}
 use Rattle.timew_store.proofs.Prepares.{opens_here}
 use Rattle.timew_store.proofs.Undoes.{rest_read}
 use Rattle.timew_store.proofs.Stays.{MayStay, DiskMayStay}
 use Rattle.timew_words.specs.declared.command.Command.{Command}
-use Rattle.timew_cli.specs.Cause.{load_cause, carry_cause}
+use Rattle.timew_cli.specs.Cause.{carry_cause}
 use Rattle.timew_cli.specs.Carried.{Carried, carried_by, carried_out, with_rows}
-use Rattle.timew_cli.specs.Run.{Outside, went, HasSize, HoldsNoStepAt, IsLeft, Opens, HoldsMore, Does, CarriedOut, Refused, PassesLimit, Because, NotCarried, CanBeCarriedOut, LeavesOf, LeavesStates}
+use Rattle.timew_cli.specs.Run.{Outside, went, HasSize, IsLeft, Opens, HoldsMore, Does, CarriedOut, Refused, PassesLimit, Because, NotCarried, CanBeCarriedOut, LeavesOf, LeavesStates}
 use Rattle.timew_cli.specs.Step.{shown_text, shown_of, Rests, EndsBadly, EndsWith, EndsOn, IsFaultOf, IsOnlyRead, Among, IsTooLong}
 use Rattle.timew_cli.specs.declared.carry.CarryError.{CarryError}
 use Rattle.timew_cli.specs.declared.carry.Shown.{Shown}
 use Rattle.timew_cli.specs.declared.cause.Cause.{Cause}
 use Rattle.timew_cli.specs.declared.cause.Cause.TheVariants as causes
 use Rattle.timew_cli.proofs.Ending.{no_step}
-
--- where the last record holds no step, a record holds none
-ends_at : (file : List ℕ) (offset : ℕ) → HoldsNoStep file offset → HoldsNoStepAt file offset
-ends_at file offset holds = record {
-  bodies = holds.bodies;
-  records = holds.records;
-  number = length holds.end.front;
-  inside = omega (arith, ap length holds.end.split, length-append holds.end.front (holds.end.body ∷ []));
-  none = (
-    ap step_of (ap (λ (l : List (List ℕ)). slice_index_or l (length holds.end.front) []) holds.end.split ∙ last_of holds.end.front holds.end.body) ∙ holds.end.none,
-    holds.end.offset_is,
-  );
-}
-  where
-    last_of : (front : List (List ℕ)) (body : List ℕ) → slice_index_or (front ++ body ∷ []) (length front) [] ≡ body
-    last_of [] body = refl
-    last_of (b ∷ front) body = last_of front body
 
 -- a run of two objects, and then calls that only read the second of them
 turns_then_reads : {A B X Y : Type 0} (m : CrashModel A X) (n : CrashModel B Y) → CountsNow n → (P : X → Y → Type 0) (a : A) (b : B) (c : A) (d : B) (e : B) → InTurns m n P a b c d → LeavesOnly n d e (n.leaves d) → InTurns m n P a b c e
@@ -69,49 +47,7 @@ module _ {F D : Type 0} (m : FolderModel F) (n : DiskModel D) (command : Command
   still_among w held (Ok carried) x y alike = inl alike
   still_among w held (Err cause) x y alike = inl alike
 
-  -- ---- where nothing was loaded
-
   module _ (f0 f1 : F) (d0 d1 : D) where
-    pub load_ends : (e : LoadError) → LoadRefused m n f0 f1 d0 d1 e → (LoadSparesDisk e → Stays m n f0 f1 d0 d1) → LeavesAlike m n f0 f1 d0 d1 → Because m n command now zone (went f0 f1 d0 d1) (load_cause e)
-    load_ends load.Folder r stays alike = r
-    load_ends (load.Journal fault.Disk) r stays alike = r.1
-    load_ends (load.Journal fault.Memory) r stays alike = record { stays = stays tt; any_moment = alike }
-    load_ends (load.Journal (fault.Damaged offset)) r stays alike = (λ tells. of_either (r.1 tells), record { stays = stays tt; any_moment = alike })
-      where
-        of_either : IsDamagedAt magic (n.seen d0) offset ⊎ HoldsNoStep (n.seen d0) offset → IsDamagedAt magic (n.seen d0) offset ⊎ HoldsNoStepAt (n.seen d0) offset
-        of_either (inl damaged) = inl damaged
-        of_either (inr none) = inr (ends_at (n.seen d0) offset none)
-    load_ends (load.Journal (fault.TooLong bytes)) r stays alike = absurd r.1
-    load_ends (load.Journal fault.Closed) r stays alike = absurd r.1
-    load_ends (load.BadLine file line) r stays alike = λ held opens.
-        let bad = r.1 opens.told opens.settled opens.tells held opens.opens in (
-          ap (λ (found : Result (List Interval) (List ℕ × ℕ)). with_rows command held found now zone) bad.0,
-          record {
-            bodies = bad.1.bodies;
-            had = bad.1.had;
-            journal = bad.1.journal;
-            history = bad.1.history;
-            rest = subst (λ (b : List (List ℕ)). IsAtRest m n bad.1.journal f1 d1 b bad.1.history) (sym (append-nil bad.1.bodies)) bad.1.rest;
-            holds = bad.1.holds;
-          },
-        )
-    load_ends load.Memory r stays alike = record { stays = stays tt; any_moment = alike }
-
-    pub load_wants : (e : LoadError) → LoadRefused m n f0 f1 d0 d1 e → ((held : Held) → disk.Tells n d0 → OpensTo (m.seen f0) (n.seen d0) held → IsLoadFault e) → CanBeCarriedOut m n command now zone (went f0 f1 d0 d1) → load_cause e ≡ causes.Memory
-    load_wants load.Folder r sound can = absurd (can.folder_well r)
-    load_wants (load.Journal fault.Disk) r sound can = absurd (can.disk_well r.1)
-    load_wants (load.Journal fault.Memory) r sound can = refl
-    load_wants (load.Journal (fault.Damaged offset)) r sound can = absurd (sound can.held can.opens.tells can.opens.opens)
-    load_wants (load.Journal (fault.TooLong bytes)) r sound can = absurd r.1
-    load_wants (load.Journal fault.Closed) r sound can = absurd r.1
-    load_wants (load.BadLine file line) r sound can =
-        let bad = r.1 can.opens.told can.opens.settled can.opens.tells can.held can.opens.opens in
-        absurd (apart (sym can.is ∙ ap (λ (found : Result (List Interval) (List ℕ × ℕ)). with_rows command can.held found now zone) bad.0))
-      where
-        apart : Ok can.carried ≡ Err (causes.BadLine file line) → ⊥
-        apart e = cc
-    load_wants load.Memory r sound can = refl
-
     pub load_leaves : (Tells m f0 → IsStable m f0 → disk.Tells n d0 → InTurns m (crash_of n) (OpensAlike m n f0 d0) f0 d0 f1 d1) → LeavesStates m n command now zone (went f0 f1 d0 d1)
     load_leaves run held opens =
         turns_weaker m (crash_of n) (OpensAlike m n f0 d0) (LeavesOf m n command now zone (went f0 f1 d0 d1) held (carried_out command held now zone)) (λ x y alike. still_among (went f0 f1 d0 d1) held (carried_out command held now zone) x y alike) f0 d0 f1 d1 (run opens.told opens.settled opens.tells)
@@ -122,19 +58,14 @@ module _ {F D : Type 0} (m : FolderModel F) (n : DiskModel D) (command : Command
     abbrev pub is_loaded : IsLoadedStore m n f0 f1 d0 d1 store
     is_loaded = loaded opens.tells
 
-    stands : Stands is_loaded.bodies opens.opens.history
-    stands = subst (λ (b : List (List ℕ)). Stands b opens.opens.history) (one_records magic (n.seen d0) opens.opens.bodies is_loaded.bodies opens.opens.records is_loaded.records) opens.opens.stands
-
     on : IsStoreOn m n store f1 d1 is_loaded.bodies opens.opens.history
-    on = is_loaded.on opens.told opens.settled opens.opens.history stands
+    on = loaded_on m n store f0 f1 d0 d1 is_loaded held opens.told opens.settled opens.opens
 
     files_same : m.seen f1 ≡ held.files
-    files_same = is_loaded.finished_now opens.told ∙ ap (finished (m.seen f0)) (sym (same_last is_loaded.bodies is_loaded.last opens.opens.history is_loaded.last_is stands)) ∙ opens.opens.files_are
+    files_same = loaded_files m n store f0 f1 d0 d1 is_loaded held opens.told opens.settled opens.opens
 
     held_same : held_by m f1 opens.opens.history ≡ held
-    held_same =
-        ap (λ (s : Files). let h : Held = record { files = s; undoable = opens.opens.history.undoable } in h) files_same
-        ∙ ap (λ (u : List (List FileChange)). let h : Held = record { files = held.files; undoable = u } in h) opens.opens.undoable_are
+    held_same = loaded_held m n store f0 f1 d0 d1 is_loaded held opens.told opens.settled opens.opens
 
     expected_same : carried_by command (held_by m f1 opens.opens.history) (intervals_of store) now zone ≡ carried_out command held now zone
     expected_same =
@@ -279,7 +210,7 @@ module _ {F D : Type 0} (m : FolderModel F) (n : DiskModel D) (command : Command
     step_wants folder kept (causes.Damaged offset) ends is can =
         let has = loaded can.opens.tells in
         let at = is.0 (kept.tells ∙ can.opens.tells) has.bodies has.open_on in
-        absurd (no_step has.bodies start can.opens.opens.history (stands store f0 f1 f2 d0 d1 d2 loaded can.held can.opens) at.0 at.1 at.2.0)
+        absurd (no_step has.bodies start can.opens.opens.history (on store f0 f1 f2 d0 d1 d2 loaded can.held can.opens).rest.stands at.0 at.1 at.2.0)
     step_wants folder kept causes.Done ends is can = no_refusal causes.Done ends can
     step_wants folder kept causes.OutFault ends is can = no_refusal causes.OutFault ends can
     step_wants folder kept causes.NotTracking ends is can = no_refusal causes.NotTracking ends can

@@ -1,6 +1,5 @@
 -- What stands before the rows of some numbers, or behind them, stays.
 use Rattle.std.specs.Prelude.{not}
-use Rattle.std.specs.List.{flat_map}
 use Rattle.std.proofs.Common.{◌≡◌, ℕ, zero, suc, ◌+◌, ◌-◌, ◌<◌, Bool, true, false, cond, get_or, append_assoc, List, [], ◌∷◌, ◌++◌, length, take, drop, length-drop, refl, sym, ap, subst, ◌∙◌, arith}
 use Rattle.std.proofs.lemmas.List.{drop-drop, drop_more}
 use Rattle.timew_interval.specs.declared.interval.Interval.{Interval}

@@ -1,6 +1,7 @@
 -- Rows by their numbers, which count from the last one, from 1.
 use Rattle.std.specs.List.{list_any}
-use Rattle.std.specs.Prelude.{ℕ, List, [], ◌∷◌, Bool, false, Option, Some, None, ◌≡◌, ◌<◌, ◌≤◌, ◌+◌, ◌-◌, ◌==◌, Result, Ok, Err, if◌then◌else◌, nat_lt, map, filter, not, drop, length}
+use Rattle.std.specs.Prelude.{ℕ, List, [], ◌∷◌, Bool, false, Option, Some, None, ◌≡◌, ◌<◌, ◌≤◌, ◌+◌, ◌-◌, ◌==◌, Result, Ok, Err, if◌then◌else◌, nat_lt, map}
+use Rattle.std.specs.Prelude.{filter, not, drop, length}
 use Rattle.timew_interval.specs.Interval.{by_id}
 use Rattle.timew_interval.specs.declared.interval.Interval.{Interval}
 use Rattle.timew_cmd.specs.declared.error.TimewError.{TimewError}

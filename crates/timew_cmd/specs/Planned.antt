@@ -17,7 +17,8 @@ use Rattle.timew_cmd.specs.Commands.Track.{tracked}
 use Rattle.timew_cmd.specs.Commands.Untag.{untagged}
 use Rattle.timew_cmd.specs.Open.{open_of, moment_or}
 use Rattle.timew_words.specs.declared.command.Changing.{Changing}
-use Rattle.timew_words.specs.declared.command.Changing.TheVariants.{Cancel, Start, Stop, Continue, Track, Tag, Untag, Annotate, Delete, Split, Join, Move, Lengthen, Shorten}
+use Rattle.timew_words.specs.declared.command.Changing.TheVariants.{Cancel, Start, Stop, Continue, Track, Tag, Untag, Annotate, Delete, Split, Join, Move}
+use Rattle.timew_words.specs.declared.command.Changing.TheVariants.{Lengthen, Shorten}
 use Rattle.timew_cmd.specs.declared.error.TimewError.{TimewError}
 use Rattle.timew_cmd.specs.declared.error.TimewError.TheVariants.{Memory as NoMemory}
 

@@ -1,7 +1,7 @@
 -- What commands make of seconds: which tags and annotation each has.
-use Rattle.std.specs.Prelude.{ℕ, List, [], ◌∷◌, max, min, Option, Some, None, Result, Ok, if◌then◌else◌, ◌≡◌, ◌+◌, ◌-◌, ◌*◌, nat_le, unwrap_or}
+use Rattle.std.specs.Prelude.{ℕ, List, [], ◌∷◌, max, min, Some, None, Ok, if◌then◌else◌, ◌≡◌, ◌+◌, ◌-◌, ◌*◌, nat_le, unwrap_or}
 use Rattle.tw_time.specs.declared.length.Length.{Length}
-use Rattle.timew_interval.specs.Interval.{Content, content, has, at, AreRows}
+use Rattle.timew_interval.specs.Interval.{content, has, at, AreRows}
 use Rattle.timew_interval.specs.Placing.{spanning}
 use Rattle.timew_interval.specs.declared.interval.Interval.{Interval}
 use Rattle.timew_cmd.specs.Commands.Join.{joined}

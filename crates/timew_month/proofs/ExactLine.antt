@@ -13,7 +13,7 @@ use Rattle.tw_world.specs.Folder.{same_bytes}
 use Rattle.timew_interval.specs.declared.interval.Interval.{Interval}
 use Rattle.timew_month.specs.declared.read.line.Line.{Line}
 use Rattle.timew_month.specs.Body.{◌>>=◌}
-use Rattle.timew_month.specs.Exact.{AreWritten, IsTail, IsExact}
+use Rattle.timew_month.specs.Exact.{AreWritten, IsTail, IsExact, row_in}
 use Rattle.timew_interval.specs.Interval.{IsRow}
 use Rattle.timew_interval.specs.Line.{end_text, tags_text, tail_text}
 use Rattle.timew_month.specs.Line.{after, moment_at, end_behind, end_at}
@@ -134,8 +134,8 @@ no_tail tags note bytes no_tags no_note none = record {
 
 module _ {E : Type 0} (line behind_inc behind_start tail : List ℕ) (start : ℕ) (end : Option ℕ) where
   pub exact_read : (read : Result (Option Line) E) → after (codes "inc ") line ≡ Some behind_inc → moment_at behind_inc ≡ Some (start, behind_start) → end_at behind_start ≡ Some (end, tail)
-      → IfOk read (λ o. IfSome o (λ l. IsRow l.row)) → IfOk read (λ o. IfSome o (λ l. l.row.start ≡ start)) → IfOk read (λ o. IfSome o (λ l. l.row.end ≡ end))
-      → IfOk read (λ o. IfSome o (λ l. l.is_exact ≡ true → IsTail l.row.tags l.row.annotation tail)) → IfOk read (λ o. IfSome o (λ l. l.is_exact ≡ true → IsExact line l.row))
+      → IfOk read (λ o. IfSome o (λ l. IsRow (row_in l))) → IfOk read (λ o. IfSome o (λ l. l.start ≡ start)) → IfOk read (λ o. IfSome o (λ l. l.end ≡ end))
+      → IfOk read (λ o. IfSome o (λ l. l.tail.now.is_exact ≡ true → IsTail l.tail.now.tags l.tail.now.annotation tail)) → IfOk read (λ o. IfSome o (λ l. l.tail.now.is_exact ≡ true → IsExact line (row_in l)))
   exact_read (Err e) inc first last row starts ends exact = tt
   exact_read (Ok None) inc first last row starts ends exact = tt
-  exact_read (Ok (Some l)) inc first last row starts ends exact = λ is. exact_line line behind_inc behind_start tail start end l.row inc first last starts ends row (exact is)
+  exact_read (Ok (Some l)) inc first last row starts ends exact = λ is. exact_line line behind_inc behind_start tail start end (row_in l) inc first last starts ends row (exact is)

@@ -5,6 +5,8 @@ use Rattle.std.specs.Str.{is_utf8}
 use Rattle.timew_interval.specs.declared.interval.Interval.{Interval}
 use Rattle.timew_month.specs.declared.read.month.MonthRows.{MonthRows}
 use Rattle.timew_month.specs.declared.read.tail.Tail.{Tail}
+use Rattle.timew_month.specs.declared.read.line.Line.{Line}
+use Rattle.timew_month.specs.Tail.{tail_of}
 use Rattle.timew_interval.specs.Interval.{tags_rise}
 use Rattle.timew_interval.specs.Line.{is_bare, tag_text, tags_text, tail_text, line_text, lines_text}
 use Rattle.timew_interval.specs.ReadBack.{IsGoodTag, IsWritable}
@@ -46,6 +48,15 @@ pub record IsTail (tags : List (List ℕ)) (note : List ℕ) (bytes : List ℕ) 
 
 abbrev pub read_of : Tail → List (List ℕ) × List ℕ
 read_of t = (t.tags, t.annotation)
+
+-- this was read of the bytes
+pub record IsTailOf (t : Tail) (bytes : List ℕ) : Type 0 where
+  pub value : tail_of bytes ≡ Some (read_of t)
+  pub exact : t.is_exact ≡ true → IsTail t.tags t.annotation bytes
+
+-- the interval of a line that was read
+abbrev pub row_in : Line → Interval
+row_in l = record { start = l.start; end = l.end; tags = l.tail.now.tags; annotation = l.tail.now.annotation }
 
 -- the line of an interval, which is read back
 pub record IsExact (line : List ℕ) (r : Interval) : Type 0 where

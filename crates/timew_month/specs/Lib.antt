@@ -8,6 +8,7 @@ pub mod Gathered
 pub mod NamedFiles
 pub mod Changes
 pub mod Tail
+pub mod Tails
 pub mod Exact
 pub mod Known
 pub mod Day

@@ -5,4 +5,6 @@ mod line;
 pub(crate) mod month;
 mod reader;
 pub(crate) mod rows;
+pub(crate) mod seen;
 pub(crate) mod tail;
+pub(crate) mod tails;

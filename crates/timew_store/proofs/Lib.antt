@@ -6,11 +6,13 @@ pub mod FinishedFiles
 pub mod FinishingByFile
 pub mod CrashOfChange
 pub mod AfterLoading
+pub mod LoadedStore
 pub mod ReadingCalls
 pub mod FilesRead
 pub mod LoadRefusals
 pub mod Prepares
 pub mod LastChange
+pub mod ExchangedFiles
 pub mod Undoes
 pub mod Growth
 pub mod RestoredStore

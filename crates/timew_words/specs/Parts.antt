@@ -1,6 +1,7 @@
 -- Words with their numbers, and what a word is as a part of a command: timew(1).
 use Rattle.std.specs.List.{list_any, starts_with}
-use Rattle.std.specs.Prelude.{ℕ, List, [], ◌∷◌, codes, Bool, Option, Some, None, ◌+◌, ◌==◌, Result, Ok, Err, if◌then◌else◌, map, filter, not, drop, length, ◌++◌, cond, nat_eq, take_while, is_some}
+use Rattle.std.specs.Prelude.{ℕ, List, [], ◌∷◌, codes, Bool, Option, Some, None, ◌+◌, ◌==◌, Result, Ok, Err, if◌then◌else◌, map, filter, not, drop, length}
+use Rattle.std.specs.Prelude.{◌++◌, cond, nat_eq, take_while, is_some}
 use Rattle.tw_text.specs.Columns.{cell_text}
 use Rattle.tw_text.specs.Natural.{natural}
 use Rattle.tw_time.specs.Lengths.{duration}

@@ -6,7 +6,6 @@ use Rattle.tw_time.specs.Moments.{TimeZone}
 use Rattle.timew_interval.specs.declared.interval.Interval.{Interval}
 use Rattle.timew_cmd.specs.Ranges.{measured, rows_within, seconds_within, total}
 use Rattle.timew_cmd.specs.Texts.{tags_text, shown_text, length_text}
-use Rattle.timew_words.specs.declared.command.Changing.TheVariants.{Start}
 
 abbrev pub columns : Layout
 columns = (codes "ID", true) ∷ (codes "Start", false) ∷ (codes "End", false) ∷ (codes "Time", false) ∷ (codes "Tags", false) ∷ []

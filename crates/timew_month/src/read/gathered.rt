@@ -5,8 +5,10 @@ ghost use Rattle.timew_month.specs.Month.{lines};
 ghost use Rattle.timew_month.specs.Rows.{found_from, seat, in_seats};
 
 use crate::months::MonthFile;
+use crate::read::day::Day;
 use crate::read::line::read_line;
 use crate::read::month::line_length;
+use crate::read::tails::Tails;
 use std::alloc::Global;
 use timew_interval::Interval;
 use tw_world::{Memory, Text};
@@ -44,19 +46,21 @@ fn add_row(seats: &mut Vec<Seat>, index: usize, row: Option<Interval>) -> Result
 }
 
 // Gathers one line, if it is not empty.
-fn add_line(
+fn add_line<'a>(
     alloc: Global,
     gathered: &mut Gathered,
+    day: &mut Day,
+    tails: &mut Tails<'a>,
     file: &Text,
     line: u64,
-    bytes: &[u8],
+    bytes: &'a [u8],
 ) -> Result<(), Memory>
     ensures { OnOk result (Gathers (line_found file.now line bytes.now) gathered.old gathered.new) }
 {
     if bytes.len() == 0 {
         return Ok(());
     }
-    let row = read_line(alloc, bytes)?;
+    let row = read_line(alloc, day, tails, bytes)?;
     let index = gathered.spots.len();
     let is_row = row.is_some();
     let file = file.copy(alloc)?;
@@ -69,12 +73,16 @@ fn add_line(
 fn gather_file(alloc: Global, gathered: &mut Gathered, file: &MonthFile) -> Result<(), Memory>
     ensures { OnOk result (Gathers (found_from file.now.name 1 (lines file.now.bytes.items)) gathered.old gathered.new) }
 {
+    let mut day = Day::first();
+    let mut tails = Tails::new(alloc)?;
     let mut rest = file.bytes.as_slice();
     let mut number = 1;
     loop {
         let size = line_length(rest);
         let (line, more) = rest.split_at(size);
-        add_line(alloc, gathered, &file.name, number, line)?;
+        add_line(
+            alloc, gathered, &mut day, &mut tails, &file.name, number, line,
+        )?;
         if more.len() == 0 {
             return Ok(());
         }

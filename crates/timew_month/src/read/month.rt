@@ -6,7 +6,8 @@ ghost use Rattle.timew_interval.specs.Interval.{IsRow};
 ghost use Rattle.timew_month.specs.Month.{month_rows, with_rows, MonthRefused, IsTaken, line_length};
 
 use crate::read::day::Day;
-use crate::read::line::{Line, read_exactly};
+use crate::read::line::read_exactly;
+use crate::read::tails::Tails;
 use memchr::memchr;
 use std::alloc::Global;
 use timew_interval::Interval;
@@ -52,7 +53,13 @@ pub(crate) struct MonthRows {
 
 impl MonthRows {
     // Reads a line, and answers whether it is one. An empty one is passed over.
-    fn take_line(&mut self, alloc: Global, day: &mut Day, line: &[u8]) -> Result<bool, Memory>
+    fn take_line<'a>(
+        &mut self,
+        alloc: Global,
+        day: &mut Day,
+        tails: &mut Tails<'a>,
+        line: &'a [u8],
+    ) -> Result<bool, Memory>
         ensures taken { IfOk result (λ taken. IsTaken taken line.now self.old.rows.items self.new.rows.items) }
         ensures are { AllByRecursion IsRow self.old.rows.items → AllByRecursion IsRow self.new.rows.items }
         ensures text { IfOk result (λ taken. taken ≡ true → StaysText line.now self.old self.new) }
@@ -60,10 +67,11 @@ impl MonthRows {
         if line.len() == 0 {
             return Ok(true);
         }
-        match read_exactly(alloc, day, line)? {
-            Some(Line { row, is_exact }) => {
+        match read_exactly(alloc, day, tails, line)? {
+            Some(read) => {
+                let row = read.row(alloc)?;
                 self.rows.push(row)?;
-                self.keep_text(is_exact);
+                self.keep_text(read.tail.is_exact);
                 Ok(true)
             }
             None => Ok(false),
@@ -105,12 +113,13 @@ pub(crate) fn read_lines(
         is_text: true,
     };
     let mut day = Day::first();
+    let mut tails = Tails::new(alloc)?;
     let mut rest = bytes;
     let mut number = 1;
     loop {
         let size = line_length(rest);
         let (line, more) = rest.split_at(size);
-        if !month.take_line(alloc, &mut day, line)? {
+        if !month.take_line(alloc, &mut day, &mut tails, line)? {
             return Err(MonthError::Line { line: number });
         }
         if more.len() == 0 {

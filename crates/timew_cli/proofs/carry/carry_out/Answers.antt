@@ -1,6 +1,7 @@
 use Rattle.std.proofs.Common.{◌∙◌}
 use Rattle.timew_cli.proofs.Growth.{load_grows, record_grows}
-use Rattle.timew_cli.proofs.Loaded.{load_ends, load_wants, load_leaves, ended_done, ended_badly, ended_wants, step_leaves}
+use Rattle.timew_cli.proofs.NotLoaded.{load_ends, load_wants}
+use Rattle.timew_cli.proofs.Loaded.{load_leaves, ended_done, ended_badly, ended_wants, step_leaves}
 use Rattle.timew_cli.proofs.carry.carry_out.Goals as goal
 
 pub returns-in-Err-clause-refused : goal.returns-in-Err-clause-refused

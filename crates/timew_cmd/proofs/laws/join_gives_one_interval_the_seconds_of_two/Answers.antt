@@ -1,4 +1,4 @@
-use Rattle.timew_cmd.proofs.SecondsHad.{join_takes}
+use Rattle.timew_cmd.proofs.ReplacedSeconds.{join_takes}
 use Rattle.timew_cmd.proofs.laws.join_gives_one_interval_the_seconds_of_two.Goals as goal
 
 pub returns : goal.returns

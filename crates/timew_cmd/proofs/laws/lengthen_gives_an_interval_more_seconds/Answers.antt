@@ -1,4 +1,4 @@
-use Rattle.timew_cmd.proofs.SecondsHad.{lengthen_moves}
+use Rattle.timew_cmd.proofs.ReplacedSeconds.{lengthen_moves}
 use Rattle.timew_cmd.proofs.laws.lengthen_gives_an_interval_more_seconds.Goals as goal
 
 pub returns : goal.returns

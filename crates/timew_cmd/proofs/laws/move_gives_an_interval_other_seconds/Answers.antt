@@ -1,4 +1,4 @@
-use Rattle.timew_cmd.proofs.SecondsHad.{move_moves}
+use Rattle.timew_cmd.proofs.ReplacedSeconds.{move_moves}
 use Rattle.timew_cmd.proofs.laws.move_gives_an_interval_other_seconds.Goals as goal
 
 pub returns : goal.returns

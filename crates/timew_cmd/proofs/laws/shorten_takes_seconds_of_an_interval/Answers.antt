@@ -1,4 +1,4 @@
-use Rattle.timew_cmd.proofs.SecondsHad.{shorten_moves}
+use Rattle.timew_cmd.proofs.ReplacedSeconds.{shorten_moves}
 use Rattle.timew_cmd.proofs.laws.shorten_takes_seconds_of_an_interval.Goals as goal
 
 pub returns : goal.returns

@@ -8,7 +8,8 @@ use Rattle.timew_month.specs.Records.{changes_of}
 use Rattle.timew_store.proofs.FilesRead.{judged_files}
 use Rattle.timew_store.proofs.LoadRefusals.{passed_on}
 use Rattle.timew_month.proofs.MonthsAfter.{months_after, named_after}
-use Rattle.timew_store.proofs.Undoes.{edited_kept, exchanged_months, back_refused}
+use Rattle.timew_store.proofs.Undoes.{back_refused}
+use Rattle.timew_store.proofs.ExchangedFiles.{edited_kept, exchanged_months}
 use Rattle.timew_store.proofs.undo.prepared_undo.Goals as goal
 
 pub returns-in-Some-clause-refused : goal.returns-in-Some-clause-refused

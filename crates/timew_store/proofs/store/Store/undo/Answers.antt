@@ -12,7 +12,8 @@ use Rattle.timew_store.specs.Growth.{record_size}
 use Rattle.timew_month.specs.Records.{changes_of}
 use Rattle.timew_store.proofs.Growth.{nothing_grown, grows_within, reads_grow, reads_then_grow, undo_size}
 use Rattle.timew_store.proofs.LoadRefusals.{passed_on}
-use Rattle.timew_store.proofs.Undoes.{none_found, some_found, some_holds, exchanged_months, nothing_left, bodies_are, back_is, undo_ready, taken_back_to, undo_closed, undo_reads, undo_writes, walk_undo_refused, write_undo_refused, back_undo_refused}
+use Rattle.timew_store.proofs.Undoes.{none_found, some_found, some_holds, nothing_left, bodies_are, back_is, undo_ready, taken_back_to, undo_closed, undo_reads, undo_writes, walk_undo_refused, write_undo_refused, back_undo_refused}
+use Rattle.timew_store.proofs.ExchangedFiles.{exchanged_months}
 use Rattle.timew_store.proofs.store.Store.undo.Goals as goal
 
 -- a closed store refuses first of all

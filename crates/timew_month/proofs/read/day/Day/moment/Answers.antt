@@ -1,4 +1,4 @@
-use Rattle.std.proofs.Common.{◌++◌, sym, ◌∙◌, take-append-drop}
+use Rattle.std.proofs.Common.{ℕ, ◌+◌, ◌++◌, Some, sym, ap, ◌∙◌, take-append-drop}
 use Rattle.std.specs.Cmp.Lexicographic.{same_text}
 use Rattle.timew_month.proofs.DayMoments.{moment_in_day, not_other}
 use Rattle.timew_month.proofs.read.day.Day.moment.Goals as goal
@@ -12,3 +12,4 @@ returns-clause-value c =
     let cut = c.in_ok-date.ensures.cases in
     moment_in_day c.args.self.now.at c.in_ok-second.second known text date clock c.args.self.now.in_range c.args.self.now.is (sym (take-append-drop 9 text) ∙ (λ i. sym cut.0 i ++ sym cut.1 i))
     (same_text date c.in_ok-day.day.now (not_other _ c.if-ne.ensures) ∙ c.in_ok-day.ensures.cases.0) c.in_ok-second.ensures.shown c.in_ok-second.ensures.in_day
+    ∙ ap (λ (n : ℕ). Some (n + c.in_ok-second.second)) (sym c.args.self.now.begins)
