@@ -111,49 +111,21 @@ fn over_hours<D: Disk, L: Link, P: Spawner>(
         None
     };
     match opened {
-        Some(hours) => {
-            let Hours {
-                mut months,
-                mut track,
-            } = hours;
-            Ok(run_beside(
-                rt,
-                alloc,
-                words,
-                settings,
-                now,
-                zone,
-                ids,
-                disk,
-                link,
-                hooks,
-                &mut months,
-                &mut track,
-            ))
-        }
+        Some(Hours { months, track }) => Ok(run_beside(
+            rt, alloc, words, settings, now, zone, ids, disk, link, hooks, months, track,
+        )),
         None => {
-            let mut months = FailingFolder::new();
-            let mut track = FailingDisk::new();
+            let months = FailingFolder::new();
+            let track = FailingDisk::new();
             Ok(run_beside(
-                rt,
-                alloc,
-                words,
-                settings,
-                now,
-                zone,
-                ids,
-                disk,
-                link,
-                hooks,
-                &mut months,
-                &mut track,
+                rt, alloc, words, settings, now, zone, ids, disk, link, hooks, months, track,
             ))
         }
     }
 }
 
 // The same over the streams of the program.
-fn run_beside<D: Disk, L: Link, P: Spawner, F: Folder, J: Disk>(
+fn run_beside<D: Disk, L: Link, P: Spawner, F: Folder + Drop, J: Disk + Drop>(
     rt: &HostRuntime,
     alloc: Global,
     words: &Vec<String>,
@@ -164,15 +136,27 @@ fn run_beside<D: Disk, L: Link, P: Spawner, F: Folder, J: Disk>(
     disk: &mut D,
     link: &mut L,
     hooks: &mut P,
-    months: &mut F,
-    track: &mut J,
+    mut months: F,
+    mut track: J,
 ) -> u8 {
     let mut input = StreamSource::new(rt.stdin());
     let mut out = Stream::new(rt.stdout());
     let mut err = Stream::new(rt.stderr());
     let outcome = task_run(
-        alloc, words, settings, now, zone, ids, disk, link, &mut input, &mut out, &mut err, hooks,
-        months, track,
+        alloc,
+        words,
+        settings,
+        now,
+        zone,
+        ids,
+        disk,
+        link,
+        &mut input,
+        &mut out,
+        &mut err,
+        hooks,
+        &mut months,
+        &mut track,
     );
     outcome.status
 }

@@ -222,6 +222,6 @@ module _ {D S O L P F J : Type 0} (m : Models D S O L P F J) (w : Outside D S O 
   pub agreement_stays : ((disk : D) → Tells m.disk disk → m.disk.leaves disk (m.disk.seen disk)) → CountsNow m.disk → (asked : Result Job LineError) (old new : IdWords) (cause : Cause)
       → IsRun m asked old new w cause → Tells m.disk w.d0 → IsHonestFor m.link asked w.l0 → IsSoundFor m.disk m.link asked w.d0 w.l0 w.l1 → AgreementStays m.disk m.link w cause
   agreement_stays seen_may_stay counts_now asked old new cause run tells honest sound =
-      if_sound m.disk m.link w.d0 w.l0 w.l1 asked (λ start begun. IsRunFrom m start asked old (from_link w begun) cause) (AgreementStays m.disk m.link w cause) tells honest sound
+      if_sound m.disk m.link w.d0 w.l0 w.l1 cause asked (λ start begun. IsRunFrom m start asked old (from_link w begun) cause) (AgreementStays m.disk m.link w cause) tells honest sound
       (λ start begun at known. earlier begun cause at.grows (agreement_from m (from_link w begun) tells_chain seen_may_stay counts_now start at.sound asked old cause known tells at.honest))
       run.run

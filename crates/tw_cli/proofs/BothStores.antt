@@ -38,7 +38,8 @@ use Rattle.tw_cli.specs.declared.carry.Made.{Made}
 use Rattle.tw_cli.specs.declared.carry.CarryError.{CarryError}
 use Rattle.tw_cli.specs.declared.hours.Before.{Before}
 use Rattle.tw_cli.proofs.Carrying.{leads}
-use Rattle.tw_cli.proofs.Driven.{written_run, both_unopened, alone_after}
+use Rattle.tw_cli.proofs.DrivenHours.{both_unopened, alone_after}
+use Rattle.tw_cli.proofs.Driven.{written_run}
 use Rattle.tw_cli.proofs.LoadedHours.{alike_here, loaded_alike, rows_read, change_leaves}
 use Rattle.tw_cli.proofs.Openings.{records_of, opens_to, held_is}
 

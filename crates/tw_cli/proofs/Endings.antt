@@ -1,5 +1,5 @@
 -- How a run ends once its text is known, or once it has failed.
-use Rattle.std.proofs.Common.{◌≡◌, inl, inr, sym, subst, refl, List, ℕ, Ok, Err}
+use Rattle.std.proofs.Common.{◌≡◌, ◌∙◌, ◌⊎◌, inl, inr, ap, sym, subst, refl, List, ℕ, Ok, Err}
 use Rattle.tw_world.specs.Disk.{DiskModel, Rose}
 use Rattle.tw_world.specs.Sink.{SinkModel, Got, GotPart}
 use Rattle.tw_world.specs.Source.{SourceModel}
@@ -20,7 +20,7 @@ use Rattle.tw_spawn.specs.Spawner.{SpawnerModel}
 use Rattle.tw_changes.specs.declared.refusal.Refusal.{Refusal}
 use Rattle.tw_changes.specs.declared.refusal.Refusal.TheVariants as refusal
 use Rattle.tw_ending.specs.Ending.{EndsPrinting}
-use Rattle.tw_ending.specs.Ending.End.{Failed}
+use Rattle.tw_ending.specs.Ending.End.{Well, Failed}
 use Rattle.tw_cli.specs.Cause.{end_of, open_cause, input_cause, refusal_cause, hook_cause, track_cause, load_cause, carry_cause, journal_cause, sync_cause, failure_cause}
 use Rattle.tw_cli.specs.Run.{NotCarried, GivesBy, Gives, IsDoneOrWant, IsDoneOrTaken, IsWantOrTaken}
 use Rattle.tw_sync.specs.Start.{Start}
@@ -28,7 +28,7 @@ use Rattle.tw_sync.specs.declared.report.SyncReport.{SyncReport}
 use Rattle.tw_cli.specs.Text.{synced_text}
 use Rattle.tw_cli.specs.Crash.{LeavesSync}
 use Rattle.tw_cli.specs.SyncRuns.{SyncRuns, SyncEndsRun}
-use Rattle.tw_cli.specs.Syncing.{NotSynced, SyncGivesBy, SyncGives}
+use Rattle.tw_cli.specs.Syncing.{AsksInVain, NewAsks, NotSynced, SyncGivesBy, SyncGives}
 use Rattle.tw_settings.specs.declared.server.ServerSettings.{ServerSettings}
 use Rattle.tw_replica.specs.declared.error.OpenError.{OpenError}
 use Rattle.tw_replica.specs.declared.error.OpenError.TheVariants as opening
@@ -137,6 +137,16 @@ module _ {O : Type 0} (s : SinkModel O) (o0 o1 : O) (text : List ℕ) (cause : C
 
 -- ---- a sync
 
+-- one that was done has asked for what it asks for
+never_in_vain : {L : Type 0} (l0 l1 : L) → AsksInVain l0 l1 Done → ⊥
+never_in_vain l0 l1 (inl refused) = (let e : Well ≡ Failed = ap end_of refused.1 ∙ open_fails refused.0 in absurd cc)
+never_in_vain l0 l1 (inr (inl link)) = absurd cc
+never_in_vain l0 l1 (inr (inr memory)) = absurd cc
+
+asks_well : {L A : Type 0} (l0 l1 : L) (cause : Cause) → A ⊎ AsksInVain l0 l1 Done → A ⊎ AsksInVain l0 l1 cause
+asks_well l0 l1 cause (inl asked) = inl asked
+asks_well l0 l1 cause (inr vain) = absurd (never_in_vain l0 l1 vain)
+
 module _ {D O L : Type 0} (m : DiskModel D) (s : SinkModel O) (links : LinkModel L) (server : ServerSettings) (d0 d1 : D) where
   -- it was done, and its text is printed
   pub synced_ends : (o0 o1 : O) (l0 l1 : L) (report : SyncReport) (text : List ℕ) (cause : Cause) → text ≡ synced_text report → EndsPrinting s o0 o1 text Done OutFault cause → SyncRuns m links server d0 d1 l0 l1 (Ok report) → SyncEndsRun m s links server d0 d1 o0 o1 l0 l1 cause
@@ -152,6 +162,7 @@ module _ {D O L : Type 0} (m : DiskModel D) (s : SinkModel O) (links : LinkModel
           grows = run.1.grows;
           link_kept = run.1.link_kept;
         },
+        at_end s o0 o1 text cause (λ of. NewAsks m links server d0 l0 begun l1 of) print (λ got. run.2) (λ part rose tells state opens fresh. asks_well l0 l1 OutFault (run.2 tells state opens fresh)),
       )
 
   -- it was not done
@@ -165,6 +176,7 @@ module _ {D O L : Type 0} (m : DiskModel D) (s : SinkModel O) (links : LinkModel
       grows = run.1.grows;
       link_kept = run.1.link_kept;
     },
+    subst (NewAsks m links server d0 l0 run.0.begun l1) (sym is) run.2,
   )
     where
       wants_or : (c : Cause) → IsWantOrTaken c → IsDoneOrTaken c

@@ -25,7 +25,7 @@ use Rattle.tw_sync.specs.End.{EndFrom, counts_of}
 use Rattle.tw_outcome.specs.Start.{starts_at}
 use Rattle.tw_sync.specs.Start.{Start, from_state, MayStart, IsSoundStart}
 use Rattle.tw_sync.proofs.ReplicaMoved.{starts_soundly}
-use Rattle.tw_sync.proofs.Beginnings.{ends_before}
+use Rattle.tw_sync.proofs.EndsSeen.{ends_before}
 use Rattle.tw_sync.proofs.Served.{grows_on}
 use Rattle.tw_cli.proofs.Starting.{if_sound}
 use Rattle.tw_sync.specs.Sync.{server_chain, IsEndIn, IsSyncOf}
@@ -284,7 +284,7 @@ module _ {D S O L P F J : Type 0} (m : Models D S O L P F J) (w : Outside D S O 
   pub is_event : ((disk : D) → Tells m.disk disk → m.disk.leaves disk (m.disk.seen disk)) → CountsNow m.disk → OnlyNow m.disk → ((link : L) → IsChainOf m.link link)
       → (asked : Result Job LineError) (old new : IdWords) (cause : Cause) → IsRun m asked old new w cause → IsEvent m.disk m.link asked w cause
   is_event seen_may_stay counts_now only_now tells_chain asked old new cause run chain now states tells honest sound stands same =
-      if_sound m.disk m.link w.d0 w.l0 w.l1 asked (λ start begun. IsRunFrom m start asked old (from_link w begun) cause) (RunsOn m.disk w.d0 w.d1 (OpensReplica asked) cause chain now states) tells honest sound
+      if_sound m.disk m.link w.d0 w.l0 w.l1 cause asked (λ start begun. IsRunFrom m start asked old (from_link w begun) cause) (RunsOn m.disk w.d0 w.d1 (OpensReplica asked) cause chain now states) tells honest sound
       (λ start begun at known.
       runs_on m (from_link w begun) states stands tells seen_may_stay counts_now cause only_now tells_chain start at.sound asked old known at.honest w.l0 at.grows chain now same)
       run.run

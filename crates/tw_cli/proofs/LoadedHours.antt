@@ -8,14 +8,11 @@ use Rattle.tw_world.specs.Turns.InTurns.{at_rest}
 use Rattle.tw_journal.specs.Record.{rows as row_of_records}
 use Rattle.tw_journal.specs.declared.error.JournalError.TheVariants as fault
 use Rattle.tw_journal.proofs.Offsets.{open_records}
-use Rattle.tw_journal.proofs.Unique.{one_records}
 use Rattle.tw_model.specs.Ops.{TasksValue}
 use Rattle.tw_state.specs.State.{State}
-use Rattle.timew_month.specs.Body.{FileChange}
 use Rattle.timew_month.specs.Changes.{changes_to}
 use Rattle.timew_interval.specs.Edit.{edited}
-use Rattle.timew_store.specs.History.{Stands}
-use Rattle.timew_store.specs.Held.{magic, Held, OpensTo, IfTheyOpen, IsAtRest, held_by, finished}
+use Rattle.timew_store.specs.Held.{magic, Held, OpensTo, IfTheyOpen, IsAtRest, held_by}
 use Rattle.timew_store.specs.Loading.{Stays, OpensAlike, LeavesAlike}
 use Rattle.timew_store.specs.Prepared.{IsPreparedChange, OnPrepared, PrepareRefused, WriteFailed}
 use Rattle.timew_month.specs.Rows.{rows_of}
@@ -29,13 +26,14 @@ use Rattle.timew_store.specs.declared.error.LoadError.TheVariants as load
 use Rattle.timew_store.specs.declared.error.PrepareError.TheVariants as prepares
 use Rattle.timew_store.specs.declared.error.WriteError.{WriteError}
 use Rattle.timew_store.specs.declared.error.WriteError.TheVariants as writes
-use Rattle.timew_store.proofs.AfterLoading.{same_last, all_finished}
+use Rattle.timew_store.proofs.AfterLoading.{all_finished}
+use Rattle.timew_store.proofs.LoadedStore.{loaded_on, loaded_files, loaded_held}
 use Rattle.timew_store.proofs.Prepares.{opens_here}
 use Rattle.timew_store.proofs.Stays.{MayStay, DiskMayStay}
 use Rattle.timew_bridge.specs.declared.drivers.Drivers.{Drivers}
 use Rattle.timew_bridge.specs.Known.{AreDrivers}
 use Rattle.tw_cli.specs.Cause.{load_cause}
-use Rattle.tw_cli.specs.Driving.{driven, Opens, MayBeLoaded, AreUnopened, HaveBecome, AreKept, AreLeft}
+use Rattle.tw_cli.specs.Driving.{driven, Opens, MayBeLoaded, AreUnopened, HaveBecome, AreKept, AreUndriven}
 use Rattle.tw_cli.specs.Ready.{CanBeWritten, AreReady, ChangeEnds, PassesHours, LeavesLoaded}
 use Rattle.tw_cli.specs.declared.hours.Before.{Before}
 use Rattle.tw_cli.specs.declared.cause.Cause.TheVariants as causes
@@ -75,7 +73,7 @@ module _ {F J : Type 0} (m : FolderModel F) (n : DiskModel J) where
   -- ---- where nothing was loaded
 
   module _ (f0 f1 : F) (j0 j1 : J) where
-    pub left_unloaded : (e : LoadError) → LoadRefused m n f0 f1 j0 j1 e → (LoadSparesDisk e → Stays m n f0 f1 j0 j1) → LeavesAlike m n f0 f1 j0 j1 → AreLeft m n f0 f1 j0 j1 (load_cause e)
+    pub left_unloaded : (e : LoadError) → LoadRefused m n f0 f1 j0 j1 e → (LoadSparesDisk e → Stays m n f0 f1 j0 j1) → LeavesAlike m n f0 f1 j0 j1 → AreUndriven m n f0 f1 j0 j1 (load_cause e)
     left_unloaded load.Folder r stays alike = (inl r, inl (record { stays = inr (stays tt); any_moment = alike }))
     left_unloaded (load.Journal fault.Disk) r stays alike = (inr r.1, inl (record { stays = inl r.0; any_moment = alike }))
     left_unloaded (load.Journal fault.Memory) r stays alike = record { stays = stays tt; any_moment = alike }
@@ -105,19 +103,14 @@ module _ {F J : Type 0} (m : FolderModel F) (n : DiskModel J) where
       abbrev is_loaded : IsLoadedStore m n f0 f1 j0 j1 store
       is_loaded = loads opens.tells
 
-      stands : Stands is_loaded.bodies opens.opens.history
-      stands = subst (λ (b : List (List ℕ)). Stands b opens.opens.history) (one_records magic (n.seen j0) opens.opens.bodies is_loaded.bodies opens.opens.records is_loaded.records) opens.opens.stands
-
       on : IsStoreOn m n store f1 j1 is_loaded.bodies opens.opens.history
-      on = is_loaded.on opens.told opens.settled opens.opens.history stands
+      on = loaded_on m n store f0 f1 j0 j1 is_loaded held opens.told opens.settled opens.opens
 
       files_same : m.seen f1 ≡ held.files
-      files_same = is_loaded.finished_now opens.told ∙ ap (finished (m.seen f0)) (sym (same_last is_loaded.bodies is_loaded.last opens.opens.history is_loaded.last_is stands)) ∙ opens.opens.files_are
+      files_same = loaded_files m n store f0 f1 j0 j1 is_loaded held opens.told opens.settled opens.opens
 
       held_same : held_by m f1 opens.opens.history ≡ held
-      held_same =
-          ap (λ (s : Files). let h : Held = record { files = s; undoable = opens.opens.history.undoable } in h) files_same
-          ∙ ap (λ (u : List (List FileChange)). let h : Held = record { files = held.files; undoable = u } in h) opens.opens.undoable_are
+      held_same = loaded_held m n store f0 f1 j0 j1 is_loaded held opens.told opens.settled opens.opens
 
       pub rows_read : rows_of held.files ≡ Ok (intervals_of store)
       rows_read = ap rows_of (sym files_same) ∙ on.months.rows_are

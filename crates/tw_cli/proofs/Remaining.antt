@@ -1,7 +1,7 @@
 -- What is left of operations as versions pass.
 use Rattle.std.proofs.Common.{◌≡◌, ◌∙◌, ◌⊎◌, inl, inr, refl, sym, ap, subst, Bool, true, false, cond, List, [], ◌∷◌, ◌++◌}
 use Rattle.std.specs.List.{AllByRecursion}
-use Rattle.tw_model.specs.Ops.{TasksValue, fits, apply, fit_part}
+use Rattle.tw_model.specs.Ops.{fit_part}
 use Rattle.tw_model.specs.declared.SyncOp.{SyncOp}
 use Rattle.tw_protocol.specs.Chain.{Version}
 use Rattle.tw_segment.specs.Segment.{IsSegment}
@@ -14,6 +14,7 @@ use Rattle.tw_groups.proofs.Cutting.{cut_is_first}
 use Rattle.tw_path.specs.Path.{Reached, Leg, passed, come, MayPass, IsPath, is_batch, version_on, versions_of}
 use Rattle.tw_path.specs.Path.Leg.{Pull, Push}
 use Rattle.tw_path.proofs.Lengths.{batch_is_limit}
+use Rattle.tw_cli.specs.Meeting.{MeetsOne, MeetsInGroup, MeetsIn}
 use Rattle.tw_cli.specs.Surviving.{IsIn, IsInVersion, IsGone, AreLeft}
 
 -- ---- lists
@@ -69,43 +70,27 @@ again gone ops mid left a b = left_then gone gone gone (λ op is. is) (λ op is.
 
 -- ---- a version crosses what is left
 
+-- an operation goes over others: those that it meets are gone, if they are not kept beside it
+module _ (gone : SyncOp → Type 0) where
+  carried_left : (s : SyncOp) (ls : List SyncOp) → ((l : SyncOp) → MeetsOne s ls l → (table s l).local ≡ false → gone l) → AreLeft gone ls (carry s ls).1
+  carried_left s [] f = refl
+  carried_left s (l ∷ ls) f = by (table s l).server (table s l).local refl refl (λ kept. carried_left s ls (λ k met lost. f k (inr (kept, met)) lost))
+    where
+      others : (server : Bool) → (table s l).server ≡ server → ((table s l).server ≡ true → AreLeft gone ls (carry s ls).1) → AreLeft gone ls (cond {A = Bool × List SyncOp} server (carry s ls) (false, ls)).1
+      others true kept more = more kept
+      others false kept more = left_all gone ls
+
+      by : (server local : Bool) → (table s l).server ≡ server → (table s l).local ≡ local → ((table s l).server ≡ true → AreLeft gone ls (carry s ls).1)
+          → AreLeft gone (l ∷ ls) (put_if local l (cond {A = Bool × List SyncOp} server (carry s ls) (false, ls)).1)
+      by server true kept e more = inl ((cond {A = Bool × List SyncOp} server (carry s ls) (false, ls)).1, refl, others server kept more)
+      by server false kept e more = inr (f l (inl refl) e, others server kept more)
+
+  grid_left : (ss ls : List SyncOp) → ((s l : SyncOp) → MeetsInGroup ss ls s l → (table s l).local ≡ false → gone l) → AreLeft gone ls (grid ss ls).1
+  grid_left [] ls f = left_all gone ls
+  grid_left (s ∷ ss) ls f =
+      again gone ls (carry s ls).1 (grid ss (carry s ls).1).1 (carried_left s ls (λ l met lost. f s l (inl (refl, met)) lost)) (grid_left ss (carry s ls).1 (λ t l met lost. f t l (inr met) lost))
+
 module _ (versions : List Version) where
-  carried_left : (s : SyncOp) (ls : List SyncOp) → IsInVersion versions s → AreLeft (IsGone versions) ls (carry s ls).1
-  carried_left s [] is = refl
-  carried_left s (l ∷ ls) is = by (table s l).server (table s l).local refl (carried_left s ls is)
-    where
-      others : (server : Bool) → AreLeft (IsGone versions) ls (carry s ls).1 → AreLeft (IsGone versions) ls (cond {A = Bool × List SyncOp} server (carry s ls) (false, ls)).1
-      others true more = more
-      others false more = left_all (IsGone versions) ls
-
-      by : (server local : Bool) → (table s l).local ≡ local → AreLeft (IsGone versions) ls (carry s ls).1
-          → AreLeft (IsGone versions) (l ∷ ls) (put_if local l (cond {A = Bool × List SyncOp} server (carry s ls) (false, ls)).1)
-      by server true e more = inl ((cond {A = Bool × List SyncOp} server (carry s ls) (false, ls)).1, refl, others server more)
-      by server false e more = inr (inr (s, is, e), others server more)
-
-  grid_left : (ss ls : List SyncOp) → AllByRecursion (IsInVersion versions) ss → AreLeft (IsGone versions) ls (grid ss ls).1
-  grid_left [] ls all = left_all (IsGone versions) ls
-  grid_left (s ∷ ss) ls all =
-      again (IsGone versions) ls (carry s ls).1 (grid ss (carry s ls).1).1 (carried_left s ls all.0) (grid_left ss (carry s ls).1 all.1)
-
-  -- the version's side
-  put_all : (kept : Bool) (s : SyncOp) (ss : List SyncOp) → IsInVersion versions s → AllByRecursion (IsInVersion versions) ss → AllByRecursion (IsInVersion versions) (put_if kept s ss)
-  put_all true s ss is all = (is, all)
-  put_all false s ss is all = all
-
-  grid_all : (ss ls : List SyncOp) → AllByRecursion (IsInVersion versions) ss → AllByRecursion (IsInVersion versions) (grid ss ls).0
-  grid_all [] ls all = tt
-  grid_all (s ∷ ss) ls all = put_all (carry s ls).0 s (grid ss (carry s ls).1).0 all.0 (grid_all ss (carry s ls).1 all.1)
-
-  fit_all : (tasks : TasksValue) (ops : List SyncOp) → AllByRecursion (IsInVersion versions) ops → AllByRecursion (IsInVersion versions) (fit_part tasks ops)
-  fit_all tasks [] all = tt
-  fit_all tasks (op ∷ ops) all = by (fits tasks op) (fit_all (apply tasks op) ops all.1) (fit_all tasks ops all.1)
-    where
-      by : (fit : Bool) → AllByRecursion (IsInVersion versions) (fit_part (apply tasks op) ops) → AllByRecursion (IsInVersion versions) (fit_part tasks ops)
-          → AllByRecursion (IsInVersion versions) (cond fit (op ∷ fit_part (apply tasks op) ops) (fit_part tasks ops))
-      by true one other = (all.0, one)
-      by false one other = other
-
   -- what is left of operations is one of the groups, unless nothing is left
   pub record LeftIn (ops : List SyncOp) (gs : Groups) : Type 0 where
     pub left : List SyncOp
@@ -119,14 +104,14 @@ module _ (versions : List Version) where
       by (inl none) = inl none
       by (inr is) = inr (inr is)
 
-  crossed : (ss : List SyncOp) (gs : Groups) (mine : List SyncOp) → AllByRecursion (IsInVersion versions) ss → IsIn gs mine → LeftIn mine (cross ss gs).1
-  crossed ss [] mine all is = absurd is
-  crossed ss (g ∷ gs) mine all (inl same) = record {
+  crossed : (ss : List SyncOp) (gs : Groups) (mine : List SyncOp) → ((s l : SyncOp) → MeetsIn ss gs s l → (table s l).local ≡ false → IsGone versions l) → IsIn gs mine → LeftIn mine (cross ss gs).1
+  crossed ss [] mine f is = absurd is
+  crossed ss (g ∷ gs) mine f (inl same) = record {
     left = (grid ss mine).1;
-    are = grid_left ss mine all;
+    are = grid_left (IsGone versions) ss mine (λ s l met lost. f s l (inl (subst (λ (ls : List SyncOp). MeetsInGroup ss ls s l) (sym same) met)) lost);
     among = inr (inl (ap (λ (ls : List SyncOp). (grid ss ls).1) same));
   }
-  crossed ss (g ∷ gs) mine all (inr later) = one_more mine (grid ss g).1 (cross (grid ss g).0 gs).1 (crossed (grid ss g).0 gs mine (grid_all ss g all) later)
+  crossed ss (g ∷ gs) mine f (inr later) = one_more mine (grid ss g).1 (cross (grid ss g).0 gs).1 (crossed (grid ss g).0 gs mine (λ s l met lost. f s l (inr met) lost) later)
 
   -- ---- a version is pushed
 
@@ -186,7 +171,8 @@ module _ (versions : List Version) where
   holds_ops v ops is reads op holds = record { version = v; there = is; ops = ops; reads = reads; holds = holds }
 
   passed_left : (r : Reached) (leg : Leg) (mine : List SyncOp) → MayPass r leg → IsIn versions (version_on leg) → IsIn r.left mine → LeftIn mine (passed r leg).left
-  passed_left r (Pull v ops) mine may is at = crossed (fit_part r.tasks ops) r.left mine (fit_all r.tasks ops (all_of (IsInVersion versions) ops (holds_ops v ops is may.1))) at
+  passed_left r (Pull v ops) mine may is at = crossed (fit_part r.tasks ops) r.left mine
+      (λ s l met lost. inr (record { place = r; version = v; there = is; ops = ops; may = may; other = s; met = met; lost = lost })) at
   passed_left r (Push v ops) mine may is at =
       first_sent (first is_batch r.left) (λ op holds. holds_ops v ops is may.reads op (subst (λ (ls : List SyncOp). IsIn ls op) (sym may.sent) holds)) r.left (rest is_batch r.left) mine
       (cut_is_first is_batch r.left batch_is_limit may.some) at

@@ -1,5 +1,5 @@
 -- All that is known of a run, by what it asks for.
-use Rattle.std.proofs.Common.{◌≡◌, ◌∙◌, ap, inl, inr, refl, sym, subst, List, None, Result, Ok, Err, arith}
+use Rattle.std.proofs.Common.{◌≡◌, ◌∙◌, ◌+◌, ◌^◌, ap, inl, inr, refl, sym, subst, List, None, Result, Ok, Err, arith}
 use Rattle.tw_world.specs.Disk.{FaultsRise, Rose}
 use Rattle.tw_world.specs.declared.ids.IdWords.{IdWords}
 use Rattle.tw_world.proofs.Moments.{OnlyNow}
@@ -19,15 +19,15 @@ use Rattle.tw_cli.specs.Run.{Gives, CanEnd, Draws, IsDoneOrWant}
 use Rattle.tw_sync.specs.Start.{Start}
 use Rattle.tw_sync.specs.Start.Start.{Base}
 use Rattle.tw_state.specs.State as states
-use Rattle.tw_cli.specs.Syncing.{SyncStart}
+use Rattle.tw_cli.specs.Syncing.{SyncStart, AsksInVain}
 use Rattle.tw_cli.specs.SyncRuns.{SyncEndsRun}
 use Rattle.tw_cli.specs.Generating.{GenerateGives}
 use Rattle.tw_cli.specs.Crash.{LeavesCommand}
-use Rattle.tw_cli.specs.Growth.{GrowsByRecord, CommandGrows}
+use Rattle.tw_cli.specs.Growth.{GrowsByRecord}
 use Rattle.tw_settings.specs.declared.server.ServerSettings.{ServerSettings}
 use Rattle.tw_cli.specs.Asked.{IsAsked}
 use Rattle.tw_cli.specs.Cause.{line_cause}
-use Rattle.tw_cli.specs.Whole.{Models, Outside, went, from_link, FromStart, GivesFrom, EndsWellFrom, LeavesFrom, IsRunFrom, RunGives, EndsWell, RunLeaves, RunGrows, RunDrives, RunDraws, RunSpares, RunKeepsInput, IsRun}
+use Rattle.tw_cli.specs.Whole.{Models, Outside, went, from_link, FromStart, GivesFrom, EndsWellFrom, LeavesFrom, IsRunFrom, RunGives, EndsWell, RunLeaves, RunDrives, RunDraws, RunSpares, RunKeepsInput, IsRun}
 use Rattle.tw_cli.specs.declared.carry.CarryError.TheVariants as carry
 use Rattle.tw_replica.specs.declared.error.OpenError.TheVariants as opening
 use Rattle.tw_replica.proofs.Replaying.{opens_as_before}
@@ -65,17 +65,24 @@ module _ {D S O L P F J : Type 0} (m : Models D S O L P F J) where
   abbrev unasked : (server : ServerSettings) (d : D) (l : L) → SyncStart m.disk m.link server d l l
   unasked server d l = record { start = Base; begun = l; state = states.start; begins = inl refl; of = λ tells other opens. inl refl; sound = λ tells given. tt }
 
+  -- a sync that asks for nothing does so for a cause
+  abbrev WhyUnasked : Result Job LineError → L → Cause → Type 0
+  WhyUnasked (Ok (Here request)) l cause = Unit {0}
+  WhyUnasked (Ok (Sync server)) l cause = AsksInVain l l cause
+  WhyUnasked (Ok (Generate line settings)) l cause = Unit {0}
+  WhyUnasked (Err error) l cause = Unit {0}
+
   -- it starts at once
-  at_once : (asked : Result Job LineError) (d : D) (l : L) (P : Start → L → Type 0) → P Base l → FromStart m.disk m.link asked d l l P
-  at_once (Ok (Here request)) d l P p = p
-  at_once (Ok (Sync server)) d l P p = (unasked server d l, p)
-  at_once (Ok (Generate line settings)) d l P p = p
-  at_once (Err error) d l P p = p
+  at_once : (asked : Result Job LineError) (d : D) (l : L) (cause : Cause) (P : Start → L → Type 0) → WhyUnasked asked l cause → P Base l → FromStart m.disk m.link asked d l l cause P
+  at_once (Ok (Here request)) d l cause P why p = p
+  at_once (Ok (Sync server)) d l cause P why p = (unasked server d l, p, λ tells state opens fresh. inr why)
+  at_once (Ok (Generate line settings)) d l cause P why p = p
+  at_once (Err error) d l cause P why p = p
 
   unchanged_is_run : (asked : Result Job LineError) (ids : IdWords) (d : D) (i : S) (o0 o1 : O) (l : L) (p : P) (f : F) (j : J) (cause : Cause) → GivesFrom m Base asked ids (still d i o0 o1 l p f j) cause → EndsWellFrom m Base asked ids (still d i o0 o1 l p f j) cause
-      → LeavesFrom m Base asked ids (still d i o0 o1 l p f j) cause → RunGrows m asked ids (still d i o0 o1 l p f j) cause → RunDraws m.disk m.source asked d i i ids ids cause → RunDrives m asked ids (still d i o0 o1 l p f j) cause → RunSpares asked (still d i o0 o1 l p f j) → RunKeepsInput m.source asked i i → IsRun m asked ids ids (still d i o0 o1 l p f j) cause
-  unchanged_is_run asked ids d i o0 o1 l p f j cause gives complete leaves grown draws hours spares input_kept = record {
-    run = at_once asked d l (λ start begun. IsRunFrom m start asked ids (from_link (still d i o0 o1 l p f j) begun) cause)
+      → LeavesFrom m Base asked ids (still d i o0 o1 l p f j) cause → GrowsByRecord m.disk d d → RunDraws m.disk m.source asked d i i ids ids cause → RunDrives m asked ids (still d i o0 o1 l p f j) cause → RunSpares asked (still d i o0 o1 l p f j) → RunKeepsInput m.source asked i i → WhyUnasked asked l cause → IsRun m asked ids ids (still d i o0 o1 l p f j) cause
+  unchanged_is_run asked ids d i o0 o1 l p f j cause gives complete leaves grown draws hours spares input_kept why = record {
+    run = at_once asked d l cause (λ start begun. IsRunFrom m start asked ids (from_link (still d i o0 o1 l p f j) begun) cause) why
         (record { gives = gives; complete = complete; any_moment = leaves; grows = λ honest. grows_same (m.link.chain l); link_kept = link_same l });
     growth = grown;
     grows = λ honest. grows_same (m.link.chain l);
@@ -89,40 +96,41 @@ module _ {D S O L P F J : Type 0} (m : Models D S O L P F J) where
   }
 
   -- the hours are as they were
-  hours_same : (request : Request) (ids : IdWords) (d : D) (i : S) (p : P) (f : F) (j : J) → DrivesHours m.disk m.source m.spawner m.folder m.track request ids d d i i p p f f j j Memory
-  hours_same request ids d i p f j = record {
+  hours_same : OnlyNow m.track → (request : Request) (ids : IdWords) (d : D) (i : S) (p : P) (f : F) (j : J) → DrivesHours m.disk m.source m.spawner m.folder m.track request ids d d i i p p f f j j Memory
+  hours_same track_now request ids d i p f j = record {
     gives = unopened_kept m.folder m.track f f j j (refl, refl);
     spares = λ off. (refl, refl);
     any_moment = inl (refl, refl);
+    growth = nothing_grown m.track track_now j (2 ^ 30 + 29);
     folder = record { faults = omega arith; tells = refl };
     track = record { faults = omega arith; tells = refl };
   }
 
   -- memory runs out before anything is asked for
-  pub want_is_run : OnlyNow m.disk → (asked : Result Job LineError) (ids : IdWords) (d : D) (i : S) (o : O) (l : L) (p : P) (f : F) (j : J) → IsRun m asked ids ids (still d i o o l p f j) Memory
-  want_is_run only_now (Ok (Here request)) ids d i o l p f j =
+  pub want_is_run : OnlyNow m.disk → OnlyNow m.track → (asked : Result Job LineError) (ids : IdWords) (d : D) (i : S) (o : O) (l : L) (p : P) (f : F) (j : J) → IsRun m asked ids ids (still d i o o l p f j) Memory
+  want_is_run only_now track_now (Ok (Here request)) ids d i o l p f j =
       unchanged_is_run (Ok (Here request)) ids d i o o l p f j Memory ((carry.Open opening.Memory, refl, ((λ tells. opens_as_before (m.disk.seen d) (m.disk.seen d) (inl refl)), refl, refl), refl), refl) (λ can well. inr refl)
-      (inl (leaves_as_it_was m.disk only_now d)) (inl (nothing_grown m.disk only_now d)) (inr (refl, inr (inl refl))) (hours_same request ids d i p f j) ((λ none. refl), λ off. (refl, refl)) (input_same m.source request.command i)
-  want_is_run only_now (Ok (Sync server)) ids d i o l p f j =
+      (inl (leaves_as_it_was m.disk only_now d)) (nothing_grown m.disk only_now d (2 ^ 31 + 24)) (inr (refl, inr (inl refl))) (hours_same track_now request ids d i p f j) ((λ none. refl), λ off. (refl, refl)) (input_same m.source request.command i) tt
+  want_is_run only_now track_now (Ok (Sync server)) ids d i o l p f j =
       unchanged_is_run (Ok (Sync server)) ids d i o o l p f j Memory (failure.Open opening.Memory, refl, ((λ tells. opens_as_before (m.disk.seen d) (m.disk.seen d) (inl refl)), refl), refl) (λ can well. inl (inr refl))
-      (λ tells. record { next = None; made = λ state opens. tt; end = λ honest state opens. tt; leaves = leaves_as_it_was m.disk only_now d }) (nothing_grown m.disk only_now d) refl (refl, refl) (refl, refl, refl) refl
-  want_is_run only_now (Ok (Generate line settings)) ids d i o l p f j = unchanged_is_run (Ok (Generate line settings)) ids d i o o l p f j Memory ((refl, refl), refl, refl, refl) (λ well. inr refl) (leaves_as_it_was m.disk only_now d) (nothing_grown m.disk only_now d) refl (refl, refl) (refl, refl, refl) refl
-  want_is_run only_now (Err error) ids d i o l p f j = unchanged_is_run (Err error) ids d i o o l p f j Memory (inr refl, refl, refl, refl, refl) tt (leaves_as_it_was m.disk only_now d) (nothing_grown m.disk only_now d) refl (refl, refl) (refl, refl, refl) refl
+      (λ tells. record { next = None; made = λ state opens. tt; end = λ honest state opens. tt; leaves = leaves_as_it_was m.disk only_now d }) (nothing_grown m.disk only_now d (2 ^ 31 + 24)) refl (refl, refl) (refl, refl, refl) refl (inr (inr refl))
+  want_is_run only_now track_now (Ok (Generate line settings)) ids d i o l p f j = unchanged_is_run (Ok (Generate line settings)) ids d i o o l p f j Memory ((refl, refl), refl, refl, refl) (λ well. inr refl) (leaves_as_it_was m.disk only_now d) (nothing_grown m.disk only_now d (2 ^ 31 + 24)) refl (refl, refl) (refl, refl, refl) refl tt
+  want_is_run only_now track_now (Err error) ids d i o l p f j = unchanged_is_run (Err error) ids d i o o l p f j Memory (inr refl, refl, refl, refl, refl) tt (leaves_as_it_was m.disk only_now d) (nothing_grown m.disk only_now d (2 ^ 31 + 24)) refl (refl, refl) (refl, refl, refl) refl tt
 
   -- nothing is done
-  pub error_is_run : OnlyNow m.disk → (asked : Result Job LineError) (error : LineError) (ids : IdWords) (d : D) (i : S) (o : O) (l : L) (p : P) (f : F) (j : J) (cause : Cause) → cause ≡ line_cause error → IsAsked asked (Err error)
+  pub error_is_run : OnlyNow m.disk → OnlyNow m.track → (asked : Result Job LineError) (error : LineError) (ids : IdWords) (d : D) (i : S) (o : O) (l : L) (p : P) (f : F) (j : J) (cause : Cause) → cause ≡ line_cause error → IsAsked asked (Err error)
       → IsRun m asked ids ids (still d i o o l p f j) cause
-  error_is_run only_now asked error ids d i o l p f j cause is (inl refused) = subst (λ (a : Result Job LineError). IsRun m a ids ids (still d i o o l p f j) cause) refused
-      (unchanged_is_run (Err error) ids d i o o l p f j cause (inl is, refl, refl, refl, refl) tt (leaves_as_it_was m.disk only_now d) (nothing_grown m.disk only_now d) refl (refl, refl) (refl, refl, refl) refl)
-  error_is_run only_now asked error ids d i o l p f j cause is (inr want) =
+  error_is_run only_now track_now asked error ids d i o l p f j cause is (inl refused) = subst (λ (a : Result Job LineError). IsRun m a ids ids (still d i o o l p f j) cause) refused
+      (unchanged_is_run (Err error) ids d i o o l p f j cause (inl is, refl, refl, refl, refl) tt (leaves_as_it_was m.disk only_now d) (nothing_grown m.disk only_now d (2 ^ 31 + 24)) refl (refl, refl) (refl, refl, refl) refl tt)
+  error_is_run only_now track_now asked error ids d i o l p f j cause is (inr want) =
       let same : error ≡ Words wrong.Memory = same_error (Err error) error (Words wrong.Memory) refl want in
-      subst (IsRun m asked ids ids (still d i o o l p f j)) (sym (is ∙ ap line_cause same)) (want_is_run only_now asked ids d i o l p f j)
+      subst (IsRun m asked ids ids (still d i o o l p f j)) (sym (is ∙ ap line_cause same)) (want_is_run only_now track_now asked ids d i o l p f j)
 
   -- a command is asked for
   pub command_is_run : (asked : Result Job LineError) (request : Request) (old new : IdWords) (d0 d1 : D) (i0 i1 : S) (o0 o1 : O) (l : L) (p0 p1 : P) (f0 f1 : F) (j0 j1 : J) (cause : Cause) → asked ≡ Ok (Here request)
       → Gives m.disk m.source m.spawner request old d0 d1 i0 i1 p0 p1 m.sink o0 o1 cause
       → ((can : CanEnd m.disk m.source m.spawner request old d0 d1 i0 i1 p0 p1 m.sink o0 o1) → HoursCan m.folder m.track can.can f0 f1 j0 j1 → IsDoneOrWant cause) → LeavesCommand m.disk m.source m.spawner request old d0 d1 i0 i1 p0 p1 cause
-      → CommandGrows m.disk m.source m.spawner request old d0 d1 i0 i1 p0 p1 cause
+      → GrowsByRecord m.disk d0 d1
       → DrivesHours m.disk m.source m.spawner m.folder m.track request old d0 d1 i0 i1 p0 p1 f0 f1 j0 j1 cause
       → Draws m.disk m.source request d0 i0 i1 old new cause → FaultsRise m.disk d0 d1 → IsInputKept m.source request.command i0 i1 → HooksKept m.spawner request p0 p1
       → IsRun m asked old new (went d0 d1 i0 i1 o0 o1 l l p0 p1 f0 f1 j0 j1) cause
@@ -144,7 +152,7 @@ module _ {D S O L P F J : Type 0} (m : Models D S O L P F J) where
       → SyncEndsRun m.disk m.sink m.link server d0 d1 o0 o1 l0 l1 cause → GrowsByRecord m.disk d0 d1 → (IsHonest m.link l0 server.client → Grows (m.link.chain l0) (m.link.chain l1)) → FaultsRise m.disk d0 d1 → IsLinkKept m.link l0 l1
       → IsRun m asked ids ids (went d0 d1 i i o0 o1 l0 l1 p p f f j j) cause
   sync_is_run asked server ids d0 d1 i o0 o1 l0 l1 p f j cause there run grown grows kept link_kept = subst (λ (a : Result Job LineError). IsRun m a ids ids (went d0 d1 i i o0 o1 l0 l1 p p f f j j) cause) (sym there) (record {
-    run = (run.0, record { gives = run.1.gives; complete = run.1.complete; any_moment = run.1.any_moment; grows = run.1.grows; link_kept = run.1.link_kept });
+    run = (run.0, record { gives = run.1.gives; complete = run.1.complete; any_moment = run.1.any_moment; grows = run.1.grows; link_kept = run.1.link_kept }, run.2);
     growth = grown;
     grows = grows;
     ids = refl;
@@ -161,7 +169,7 @@ module _ {D S O L P F J : Type 0} (m : Models D S O L P F J) where
       → GenerateGives m.sink line settings o0 o1 cause → ((Rose (m.sink.faults o0) (m.sink.faults o1) → ⊥) → IsDoneOrWant cause)
       → IsRun m asked ids ids (still d i o0 o1 l p f j) cause
   generate_is_run only_now asked line settings ids d i o0 o1 l p f j cause there gives complete = subst (λ (a : Result Job LineError). IsRun m a ids ids (still d i o0 o1 l p f j) cause) (sym there)
-      (unchanged_is_run (Ok (Generate line settings)) ids d i o0 o1 l p f j cause (gives, refl, refl, refl) complete (leaves_as_it_was m.disk only_now d) (nothing_grown m.disk only_now d) refl (refl, refl) (refl, refl, refl) refl)
+      (unchanged_is_run (Ok (Generate line settings)) ids d i o0 o1 l p f j cause (gives, refl, refl, refl) complete (leaves_as_it_was m.disk only_now d) (nothing_grown m.disk only_now d (2 ^ 31 + 24)) refl (refl, refl) (refl, refl, refl) refl tt)
 
 -- ---- what is known of a run from its start, as clauses
 
@@ -170,10 +178,10 @@ module _ {D S O L P F J : Type 0} (m : Models D S O L P F J) (w : Outside D S O 
   Known start begun = IsRunFrom m start asked old (from_link w begun) cause
 
   pub run_gives : RunGives m asked old w cause
-  run_gives = from_start m.disk m.link w.d0 w.l0 w.l1 asked Known (λ start begun. GivesFrom m start asked old (from_link w begun) cause) (λ start begun known. known.gives) run.run
+  run_gives = from_start m.disk m.link w.d0 w.l0 w.l1 cause asked Known (λ start begun. GivesFrom m start asked old (from_link w begun) cause) (λ start begun known. known.gives) run.run
 
   pub run_complete : EndsWell m asked old w cause
-  run_complete = from_start m.disk m.link w.d0 w.l0 w.l1 asked Known (λ start begun. EndsWellFrom m start asked old (from_link w begun) cause) (λ start begun known. known.complete) run.run
+  run_complete = from_start m.disk m.link w.d0 w.l0 w.l1 cause asked Known (λ start begun. EndsWellFrom m start asked old (from_link w begun) cause) (λ start begun known. known.complete) run.run
 
   pub run_leaves : RunLeaves m asked old w cause
-  run_leaves = from_start m.disk m.link w.d0 w.l0 w.l1 asked Known (λ start begun. LeavesFrom m start asked old (from_link w begun) cause) (λ start begun known. known.any_moment) run.run
+  run_leaves = from_start m.disk m.link w.d0 w.l0 w.l1 cause asked Known (λ start begun. LeavesFrom m start asked old (from_link w begun) cause) (λ start begun known. known.any_moment) run.run

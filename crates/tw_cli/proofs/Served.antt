@@ -1,5 +1,5 @@
 -- An exchange of a server is an event of a world.
-use Rattle.std.proofs.Common.{◌≡◌, ◌∙◌, ◌⊎◌, ap, sym, subst, inl, inr, refl, ℕ, ◌≤◌, List, length}
+use Rattle.std.proofs.Common.{◌≡◌, ◌∙◌, ◌⊎◌, ap, sym, subst, inl, inr, refl, ℕ, ◌≤◌, List, length, Ok}
 use Rattle.tw_world.specs.Disk.{DiskModel}
 use Rattle.tw_world.specs.Peer.{PeerModel}
 use Rattle.tw_world.proofs.Moments.{weaker}
@@ -8,15 +8,21 @@ use Rattle.tw_protocol.specs.Snapshots.{Account}
 use Rattle.tw_http.specs.Messages.{max_body, request_body}
 use Rattle.tw_http.specs.Serving.{client_of, account_after}
 use Rattle.tw_http.specs.declared.message.Request.{Request}
+use Rattle.tw_http.proofs.RequestFits.{asked_fits}
 use Rattle.tw_records.specs.Log.{Log, chain_of, account_of}
 use Rattle.tw_server.specs.Laws.{DrawnIsReal}
 use Rattle.tw_server.specs.Log.{log_after}
 use Rattle.tw_server.specs.Server.{HoldsLog, IsServerOn, drawn_id, LogOrAfter}
 use Rattle.tw_server.specs.Serve.{IsAsked, IsStep}
 use Rattle.tw_server.specs.declared.server.Server.{Server}
+use Rattle.tw_server.specs.Message.{IsMessage}
 use Rattle.tw_server.proofs.LogLaws.{own_account_is_answered}
 use Rattle.tw_sync.specs.World.{World}
 use Rattle.tw_cli.specs.Served.{HasEither, HoldsEither, IsAnswerIn, IsEvent, KeepsLog, ServedIsEvent}
+
+-- a request that was read has a body within its limit
+asked_within : {bytes : List ℕ} (request : Request) → IsMessage bytes (Ok request) → length (request_body request) ≤ max_body
+asked_within request message = asked_fits _ request message.read
 
 module _ {D P : Type 0} (m : DiskModel D) (p : PeerModel P) (start : ℕ) (real : DrawnIsReal start) where
   module _ (old new : Server) (d0 d1 : D) (peer : P) (log : Log) (taken : IsStep m old new d0 d1 log (IsAsked p peer) (drawn_id start)) where
@@ -66,7 +72,7 @@ module _ {D P : Type 0} (m : DiskModel D) (p : PeerModel P) (start : ℕ) (real 
     by_request : (taken.next ≡ log) ⊎ ((request : Request) × IsAsked p peer request × (taken.next ≡ log_after log request (drawn_id start)))
         → KeepsLog m new d0 d1 log ⊎ IsEvent m new d0 d1 p peer log (drawn_id start)
     by_request (inl same) = inl (kept same)
-    by_request (inr asked) = inr (record { request = asked.0; asked = asked.1; event = answered asked.0 asked.2 })
+    by_request (inr asked) = inr (record { request = asked.0; asked = asked.1; event = λ tells. answered asked.0 asked.2 (asked_within asked.0 (asked.1 tells)) })
 
   pub served_is_event : ServedIsEvent m p start
   served_is_event old new d0 d1 peer log on step = let taken = step log on in by_request old new d0 d1 peer log taken taken.by_request

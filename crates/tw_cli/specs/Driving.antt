@@ -104,11 +104,11 @@ module _ {F J : Type 0} (m : FolderModel F) (n : DiskModel J) (f0 f1 : F) (j0 j1
 
   -- The hours of a command that was not carried out, or of which they were not changed: they open to what they did, and most causes leave them unopened.
   -- A fault spares those that can't be loaded.
-  abbrev pub AreLeft : Cause → Type 0
-  AreLeft TrackFault = (Rose (m.faults f0) (m.faults f1) ⊎ Rose (n.faults j0) (n.faults j1)) × (AreSpared ⊎ MayBeLoaded m n f0 j0)
-  AreLeft (TrackBad file line) = FindsBadLine m n f0 j0 (file, line) × OnStable m n f0 j0 (IsBadLine m n f0 f1 j0 j1 (file, line)) × AreKept
-  AreLeft (TrackDamaged offset) = (f1 ≡ f0) × (disk.Tells n j0 → IsDamagedAt magic (n.seen j0) offset ⊎ HoldsNoStep (n.seen j0) offset) × AreKept
-  AreLeft DiskFault = AreKept
-  AreLeft (RecordTooLong bytes) = AreKept
-  AreLeft Memory = AreKept
-  AreLeft cause = AreUnopened
+  abbrev pub AreUndriven : Cause → Type 0
+  AreUndriven TrackFault = (Rose (m.faults f0) (m.faults f1) ⊎ Rose (n.faults j0) (n.faults j1)) × (AreSpared ⊎ MayBeLoaded m n f0 j0)
+  AreUndriven (TrackBad file line) = FindsBadLine m n f0 j0 (file, line) × OnStable m n f0 j0 (IsBadLine m n f0 f1 j0 j1 (file, line)) × AreKept
+  AreUndriven (TrackDamaged offset) = (f1 ≡ f0) × (disk.Tells n j0 → IsDamagedAt magic (n.seen j0) offset ⊎ HoldsNoStep (n.seen j0) offset) × AreKept
+  AreUndriven DiskFault = AreKept
+  AreUndriven (RecordTooLong bytes) = AreKept
+  AreUndriven Memory = AreKept
+  AreUndriven cause = AreUnopened

@@ -23,7 +23,8 @@ use Rattle.tw_ending.specs.Ending.{End}
 use Rattle.tw_ending.specs.Ending.End.{Well, Output, Failed}
 use Rattle.tw_cli.specs.Cause.{end_of}
 use Rattle.tw_cli.specs.Crash.{IsStepOf, next_of}
-use Rattle.tw_cli.specs.Driving.{driven, driven_size, is_driving, Opens, AreUnopened, AreDriven, AreLeft}
+use Rattle.tw_cli.specs.Driving.{driven, driven_size, is_driving, Opens, AreUnopened, AreDriven, AreUndriven}
+use Rattle.tw_cli.specs.Growth.{HoursGrow}
 use Rattle.tw_cli.specs.Hooks.{Answered}
 use Rattle.tw_cli.specs.Input.{WithInput}
 use Rattle.tw_cli.specs.Run.{CarriedOut, CanBeCarriedOut, CanCarryOut}
@@ -50,7 +51,8 @@ module _ {D P F J : Type 0} {m : DiskModel D} {hooks : SpawnerModel P} {request 
 
 -- the same of any request: one that does not drive them wants nothing
 abbrev pub HoursCan : {D S P F J : Type 0} {m : DiskModel D} {sources : SourceModel S} {hooks : SpawnerModel P} {request : Request} {ids : IdWords}
-    {d0 d1 : D} {i0 i1 : S} {p0 p1 : P} → FolderModel F → DiskModel J → CanCarryOut m sources hooks request ids d0 d1 i0 i1 p0 p1 → (f0 f1 : F) (j0 j1 : J) → Type 0
+    {d0 d1 : D} {i0 i1 : S} {p0 p1 : P} → FolderModel F → DiskModel J → CanCarryOut m sources hooks request ids d0 d1 i0 i1 p0 p1
+    → (f0 f1 : F) (j0 j1 : J) → Type 0
 HoursCan {request = request} folders tracks can f0 f1 j0 j1 = HoursCanIf folders tracks can.can f0 f1 j0 j1 (is_driving request)
 
 -- ---- a crash of both stores
@@ -109,7 +111,7 @@ module _ {D S P F J : Type 0} (m : DiskModel D) (sources : SourceModel S) (hooks
   abbrev pub HoursBy : Cause → End → Type 0
   HoursBy cause Well = HoursDone
   HoursBy cause Output = HoursDone
-  HoursBy cause Failed = AreLeft folders tracks f0 f1 j0 j1 cause
+  HoursBy cause Failed = AreUndriven folders tracks f0 f1 j0 j1 cause
 
   -- all that is known of the hours, by the cause that the command ends with
   pub record DrivesHours (cause : Cause) : Type 0 where
@@ -117,5 +119,6 @@ module _ {D S P F J : Type 0} (m : DiskModel D) (sources : SourceModel S) (hooks
     pub spares : is_driving request ≡ false → AreUnopened folders tracks f0 f1 j0 j1
     pub any_moment : AreUnopened folders tracks f0 f1 j0 j1
         ⊎ WithInput sources request i0 i1 (λ r. LeavesDriven m folders tracks hooks r ids d0 d1 p0 p1 f0 f1 j0 j1)
+    pub growth : HoursGrow tracks j0 j1
     pub folder : crash.FaultsRise folders f0 f1
     pub track : disk.FaultsRise tracks j0 j1

@@ -31,6 +31,7 @@ use Rattle.timew_bridge.specs.declared.drivers.Drivers.{Drivers}
 use Rattle.timew_bridge.specs.Known.{AreDrivers}
 use Rattle.tw_cli.specs.Deciding.{DecidedBy}
 use Rattle.tw_cli.specs.Crash.{LeavesRecords}
+use Rattle.tw_cli.specs.Growth.{LoadingGrows, ChangeGrows}
 use Rattle.tw_cli.specs.Driving.{driven, driven_size, is_driving, Opens, AreUnopened}
 use Rattle.tw_cli.specs.declared.hours.Before.{Before}
 use Rattle.tw_cli.specs.declared.carry.Made.{Made}
@@ -136,6 +137,7 @@ module _ {D F J : Type 0} (m : DiskModel D) (folders : FolderModel F) (tracks : 
   pub record WriteLeaves (hours : Option PreparedChange) : Type 0 where
     pub disk : LeavesAny m p.journal d0 d1 (λ bodies. RecordsOrAll bodies (prepared_bodies p))
     pub hours_after : AreUnopened folders tracks f0 f1 j0 j1 ⊎ (IsWritten m p d0 d1 × HoursLeave folders tracks f0 f1 j0 j1 hours)
+    pub growth : ChangeGrows tracks j0 j1 hours
 
 -- ---- a command that is made in memory
 
@@ -163,6 +165,7 @@ module _ {D F J : Type 0} (m : DiskModel D) (folders : FolderModel F) (tracks : 
   pub record EndsUnready (e : CarryError) : Type 0 where
     pub refused : HoursRefused folders tracks f0 f1 j0 j1 made.at.seconds made.before state_made.tasks e
     pub leaves : LeavesLoaded folders tracks f0 f1 j0 j1
+    pub growth : LoadingGrows tracks j0 j1
     pub disk : d1 ≡ d0
 
   -- they were ready, and the record was written, or refused
@@ -172,6 +175,7 @@ module _ {D F J : Type 0} (m : DiskModel D) (folders : FolderModel F) (tracks : 
     pub hours : Option PreparedChange
     pub ready : AreReady folders tracks made.at.seconds made.before state_made f0 mid j0 track hours
     pub loaded : LeavesLoaded folders tracks f0 mid j0 track
+    pub growth : LoadingGrows tracks j0 track
     pub folder_kept : crash.FaultsRise folders f0 mid
     pub track_kept : disk.FaultsRise tracks j0 track
     pub ends : WriteEnds m folders tracks made.ready.prepared d0 d1 mid f1 track j1 hours error

@@ -1,9 +1,8 @@
 -- An exchange of a server as an event of a world.
-use Rattle.std.specs.Prelude.{◌≡◌, ◌⊎◌, ℕ, ◌≤◌, false, List, length}
+use Rattle.std.specs.Prelude.{◌≡◌, ◌⊎◌, ℕ, IsTrue, false, List}
 use Rattle.tw_world.specs.Disk.{DiskModel, LeavesOnly}
 use Rattle.tw_world.specs.Peer.{PeerModel}
 use Rattle.tw_protocol.specs.Chain.{Version}
-use Rattle.tw_http.specs.Messages.{max_body, request_body}
 use Rattle.tw_http.specs.Serving.{client_of}
 use Rattle.tw_http.specs.declared.message.Request.{Request}
 use Rattle.tw_records.specs.Log.{Log, chain_of}
@@ -29,12 +28,11 @@ module _ {D : Type 0} (m : DiskModel D) (new : Server) (d0 d1 : D) where
     pub moments : LeavesOnly m d0 d1 (HoldsEither (client_of request) world.chain after.chain)
     pub stands : is_closed new ≡ false → (log : Log) × IsServerOn m new d1 log × HasEither (client_of request) world.chain after.chain log
 
-  -- the peer asked this, which is an event of each world whose chain is that of the request's client
+  -- the peer asked this, if it tells its bytes, which is an event of each world whose chain is that of the request's client
   pub record IsEvent {P : Type 0} (p : PeerModel P) (peer : P) (log : Log) (id : List ℕ) : Type 0 where
     pub request : Request
     pub asked : IsAsked p peer request
-    pub event : length (request_body request) ≤ max_body → (world : World) → world.chain ≡ chain_of (client_of request) log.versions
-        → IsAnswerIn request id world
+    pub event : IsTrue (p.tells peer) → (world : World) → world.chain ≡ chain_of (client_of request) log.versions → IsAnswerIn request id world
 
   -- all that a crash leaves has this log, and so has the server after the exchange
   pub record KeepsLog (log : Log) : Type 0 where

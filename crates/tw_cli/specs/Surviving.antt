@@ -3,13 +3,15 @@ use Rattle.std.specs.Prelude.{◌≡◌, ◌⊎◌, ℕ, false, List, [], ◌∷
 use Rattle.tw_world.specs.Disk.{DiskModel, Tells, FaultsRise}
 use Rattle.tw_world.specs.declared.ids.IdWords.{IdWords}
 use Rattle.tw_spawn.specs.Spawner.{SpawnerModel}
-use Rattle.tw_model.specs.Ops.{TaskValue}
+use Rattle.tw_model.specs.Ops.{TaskValue, fit_part}
 use Rattle.tw_model.specs.LocalOps.{plain}
 use Rattle.tw_model.specs.declared.SyncOp.{SyncOp}
 use Rattle.tw_protocol.specs.Chain.{Version, IsBetween, Grows}
 use Rattle.tw_segment.specs.Segment.{IsSegment}
 use Rattle.tw_transform.specs.Table.{table}
 use Rattle.tw_groups.specs.Groups.{Groups, groups_of}
+use Rattle.tw_path.specs.Path.{Reached, MayPass}
+use Rattle.tw_path.specs.Path.Leg.{Pull}
 use Rattle.tw_bodies.specs.Body.{Step}
 use Rattle.tw_bodies.specs.Body.Step.{Commit}
 use Rattle.tw_state.specs.State.{State, undone}
@@ -17,6 +19,7 @@ use Rattle.tw_sync.specs.World.{World, Event, IsAmong, Makes, Leads, Reach}
 use Rattle.tw_commands.specs.Carried.{Carried, carried_out}
 use Rattle.tw_changes.specs.declared.request.Request.{Request}
 use Rattle.tw_cli.specs.Events.{OpensReplica, RunsOn}
+use Rattle.tw_cli.specs.Meeting.{MeetsIn}
 use Rattle.tw_cli.specs.Run.{CarriedOut}
 use Rattle.tw_cli.specs.declared.asked.Job.{Job}
 use Rattle.tw_cli.specs.declared.asked.LineError.{LineError}
@@ -65,17 +68,29 @@ pub record IsInVersion (versions : List Version) (op : SyncOp) : Type 0 where
   pub reads : IsSegment version.segment ops
   pub holds : IsIn ops op
 
--- one of the versions holds the operation, or another one over which it is dropped
+-- the operation was pending at a place of a path from which one of the versions was pulled: an operation of that, which fits there, met it, and it is
+-- not kept beside that one
+pub record WasDropped (versions : List Version) (op : SyncOp) : Type 0 where
+  pub place : Reached
+  pub version : Version
+  pub there : IsIn versions version
+  pub ops : List SyncOp
+  pub may : MayPass place (Pull version ops)
+  pub other : SyncOp
+  pub met : MeetsIn (fit_part place.tasks ops) place.left other op
+  pub lost : (table other op).local ≡ false
+
+-- one of the versions holds the operation, or it was dropped as one of them was pulled
 abbrev pub IsGone : List Version → SyncOp → Type 0
-IsGone versions op = IsInVersion versions op ⊎ ((other : SyncOp) × IsInVersion versions other × ((table other op).local ≡ false))
+IsGone versions op = IsInVersion versions op ⊎ WasDropped versions op
 
 -- these are left of operations, in their order: each of the others is gone
 abbrev pub AreLeft : (SyncOp → Type 0) → (ops left : List SyncOp) → Type 0
 AreLeft gone [] left = left ≡ []
 AreLeft gone (op ∷ ops) left = ((more : List SyncOp) × (left ≡ op ∷ more) × AreLeft gone ops more) ⊎ (gone op × AreLeft gone ops left)
 
--- these are left of operations, once the chain was followed from one version to another: the others are in the versions between, or are dropped over
--- them
+-- these are left of operations, once the chain was followed from one version to another: the others are in the versions between, or were dropped as
+-- these were pulled
 pub record Remain (chain : List Version) (base at : List ℕ) (ops left : List SyncOp) : Type 0 where
   pub versions : List Version
   pub between : IsBetween chain base at versions

@@ -12,7 +12,7 @@ use Rattle.tw_ending.specs.Ending.{HasNotFailed}
 use Rattle.tw_cli.specs.Cause.{failure_cause, ended}
 use Rattle.tw_cli.specs.Run.{IsDoneOrTaken, IsWantOrTaken}
 use Rattle.tw_cli.specs.Crash.{LeavesSync}
-use Rattle.tw_cli.specs.Syncing.{SyncStart, Synced, NotSynced, SyncGives, CanBeSynced}
+use Rattle.tw_cli.specs.Syncing.{SyncStart, NewAsks, Synced, NotSynced, SyncGives, CanBeSynced}
 use Rattle.tw_cli.specs.declared.syncing.SyncFailure.{SyncFailure}
 use Rattle.tw_cli.specs.declared.cause.Cause.{Cause}
 
@@ -28,6 +28,7 @@ module _ {D L : Type 0} (m : DiskModel D) (links : LinkModel L) (server : Server
 
   abbrev pub SyncRuns : (d0 d1 : D) (l0 l1 : L) → Result SyncReport SyncFailure → Type 0
   SyncRuns d0 d1 l0 l1 result = (s : SyncStart m links server d0 l0 l1) × SyncRunsFrom s.start d0 d1 s.begun l1 result
+      × NewAsks m links server d0 l0 s.begun l1 (ended failure_cause result)
 
 module _ {D O L : Type 0} (m : DiskModel D) (sinks : SinkModel O) (links : LinkModel L) (server : ServerSettings) where
   -- and what it prints
@@ -40,3 +41,4 @@ module _ {D O L : Type 0} (m : DiskModel D) (sinks : SinkModel O) (links : LinkM
 
   abbrev pub SyncEndsRun : (d0 d1 : D) (o0 o1 : O) (l0 l1 : L) → Cause → Type 0
   SyncEndsRun d0 d1 o0 o1 l0 l1 cause = (s : SyncStart m links server d0 l0 l1) × SyncEndsFrom s.start d0 d1 o0 o1 s.begun l1 cause
+      × NewAsks m links server d0 l0 s.begun l1 cause

@@ -1,5 +1,5 @@
 // Carrying a command out: the engine that all commands share.
-ghost use Rattle.std.specs.Prelude.{◌≡◌, false, length, IfOk, IfErr};
+ghost use Rattle.std.specs.Prelude.{◌≡◌, ◌^◌, min, false, length, IfOk, IfErr};
 ghost use Rattle.tw_world.specs.Disk.{FaultsRise};
 ghost use Rattle.tw_world.specs.Crash as crash;
 ghost use Rattle.tw_journal.specs.Journal.{is_closed};
@@ -11,7 +11,7 @@ ghost use Rattle.tw_cli.specs.Hooks.{HooksKept};
 ghost use Rattle.tw_cli.specs.Input.{IsInputKept, WithInput};
 ghost use Rattle.tw_cli.specs.Run.{NotCarried, Shows, CanCarryOut, Gives, CanEnd, Draws, IsDoneOrWant};
 ghost use Rattle.tw_cli.specs.Crash.{LeavesRecords, LeavesCommand};
-ghost use Rattle.tw_cli.specs.Growth.{OpeningGrows, CommandGrows};
+ghost use Rattle.tw_cli.specs.Growth.{OpeningGrows, GrowsByRecord};
 ghost use Rattle.tw_cli.specs.Ready.{KnowsTasks, CanBeWritten, SparesHours, WriteEnds, WriteLeaves, IsMade, MadeEnds};
 ghost use Rattle.tw_cli.specs.Hours.{HoursCan, DrivesHours};
 
@@ -124,7 +124,7 @@ fn write_both<D: Disk, F: Folder, J: Disk>(
     requires hours { CanBeWritten J.model track.old hours }
     ensures ends { WriteEnds D.model F.model J.model prepared disk.old disk.new folder.old folder.new track.old track.new hours result }
     ensures any_moment { WriteLeaves D.model F.model J.model prepared disk.old disk.new folder.old folder.new track.old track.new hours }
-    ensures growth { JournalGrowsBy D.model prepared.journal disk.old disk.new (length (rows (prepared_bodies prepared))) }
+    ensures growth { JournalGrowsBy D.model prepared.journal disk.old disk.new (min (length (rows (prepared_bodies prepared))) (2 ^ 30)) }
     ensures kept { FaultsRise D.model disk.old disk.new }
     ensures folder { crash.FaultsRise F.model folder.old folder.new }
     ensures track { FaultsRise J.model track.old track.new }
@@ -156,7 +156,8 @@ fn write_made<D: Disk, F: Folder, J: Disk>(
     requires live { is_closed made.ready.prepared.journal ≡ false }
     requires before { KnowsTasks made.at.seconds made.before }
     ensures ends { MadeEnds D.model F.model J.model made disk.old disk.new folder.old folder.new track.old track.new result }
-    ensures growth { JournalGrowsBy D.model made.ready.prepared.journal disk.old disk.new (length (rows (prepared_bodies made.ready.prepared))) }
+    ensures growth { JournalGrowsBy D.model made.ready.prepared.journal disk.old disk.new
+        (min (length (rows (prepared_bodies made.ready.prepared))) (2 ^ 30)) }
     ensures kept { FaultsRise D.model disk.old disk.new }
     ensures folder { crash.FaultsRise F.model folder.old folder.new }
     ensures track { FaultsRise J.model track.old track.new }
@@ -194,8 +195,7 @@ fn carry_out<D: Disk, S: Source, P: Spawner, F: Folder, J: Disk>(
         spawner.old spawner.new) → HoursCan F.model J.model can folder.old folder.new track.old track.new → carry_cause e ≡ Cause.Memory) }
     ensures any_moment { LeavesCommand D.model S.model P.model request.entry ids.old disk.old disk.new input.old input.new
         spawner.old spawner.new (ended carry_cause result) }
-    ensures growth { CommandGrows D.model S.model P.model request.entry ids.old disk.old disk.new input.old input.new
-        spawner.old spawner.new (ended carry_cause result) }
+    ensures growth { GrowsByRecord D.model disk.old disk.new }
     ensures hours { DrivesHours D.model S.model P.model F.model J.model request.entry ids.old disk.old disk.new input.old input.new
         spawner.old spawner.new folder.old folder.new track.old track.new (ended carry_cause result) }
     ensures ids { Draws D.model S.model request.entry disk.old input.old input.new ids.old ids.new (ended carry_cause result) }
@@ -228,8 +228,7 @@ pub(crate) fn run_command<D: Disk, S: Source, O: Sink, P: Spawner, F: Folder, J:
         → IsDoneOrWant result }
     ensures any_moment { LeavesCommand D.model S.model P.model request.entry ids.old disk.old disk.new input.old input.new
         spawner.old spawner.new result }
-    ensures growth { CommandGrows D.model S.model P.model request.entry ids.old disk.old disk.new input.old input.new
-        spawner.old spawner.new result }
+    ensures growth { GrowsByRecord D.model disk.old disk.new }
     ensures hours { DrivesHours D.model S.model P.model F.model J.model request.entry ids.old disk.old disk.new input.old input.new
         spawner.old spawner.new folder.old folder.new track.old track.new result }
     ensures ids { Draws D.model S.model request.entry disk.old input.old input.new ids.old ids.new result }

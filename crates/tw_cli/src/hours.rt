@@ -9,6 +9,7 @@ ghost use Rattle.timew_interval.specs.Edit.{edited, IsEditOf};
 ghost use Rattle.timew_store.specs.Loading.{LeavesAlike};
 ghost use Rattle.timew_bridge.specs.Known.{AreDrivers};
 ghost use Rattle.tw_cli.specs.Driving.{driven, is_driving};
+ghost use Rattle.tw_cli.specs.Growth.{LoadingGrows, ChangeGrows};
 ghost use Rattle.tw_cli.specs.Ready.{IsBefore, KnowsTasks, IsReadyChange, AreReady, ChangeRefused, HoursRefused, LeavesLoaded};
 ghost use Rattle.tw_cli.specs.Ready.{CanBeWritten, HoursEnd, HoursLeave};
 
@@ -95,6 +96,7 @@ fn load_change<F: Folder, J: Disk>(
     ensures ready { IfOk result (IsReadyChange F.model J.model now.seconds before.now after.now folder.old folder.new track.old track.new) }
     ensures refused { IfErr result (ChangeRefused F.model J.model folder.old folder.new track.old track.new now.seconds before.now after.now) }
     ensures any_moment { LeavesAlike F.model J.model folder.old folder.new track.old track.new }
+    ensures growth { LoadingGrows J.model track.old track.new }
     ensures folder { FaultsRise F.model folder.old folder.new }
     ensures track { tells.FaultsRise J.model track.old track.new }
 {
@@ -128,6 +130,7 @@ pub(crate) fn ready_hours<F: Folder, J: Disk>(
     ensures refused { IfErr result (HoursRefused F.model J.model folder.old folder.new track.old track.new
         now.seconds before.now (prepared_state prepared.now).tasks) }
     ensures any_moment { LeavesLoaded F.model J.model folder.old folder.new track.old track.new }
+    ensures growth { LoadingGrows J.model track.old track.new }
     ensures folder { FaultsRise F.model folder.old folder.new }
     ensures track { tells.FaultsRise J.model track.old track.new }
 {
@@ -152,6 +155,7 @@ pub(crate) fn write_hours<F: Folder, J: Disk>(
     requires { CanBeWritten J.model track.old change }
     ensures ended { HoursEnd F.model J.model folder.old folder.new track.old track.new change result }
     ensures any_moment { HoursLeave F.model J.model folder.old folder.new track.old track.new change }
+    ensures growth { ChangeGrows J.model track.old track.new change }
     ensures folder { FaultsRise F.model folder.old folder.new }
     ensures track { tells.FaultsRise J.model track.old track.new }
 {

@@ -35,15 +35,15 @@ pub fn what_was_done_is_all_that_is_left<D: Disk, P: Spawner>()
 {}
 
 /// An acknowledged command survives: after every list of runs, crashes, lost and repeated requests and other clients, what is left of its
-/// operations is pending, or a sync has put it into the chain, or an undo has taken it back. Only an operation over which one of the
-/// versions that were pulled since is kept is dropped.
+/// operations is pending, or a sync has put it into the chain, or an undo has taken it back. Only an operation that met one of a version that
+/// was pulled since, and is not kept beside it, is dropped.
 pub fn an_acknowledged_command_survives()
     ensures { AcknowledgedSurvives }
 {}
 
 /// An exchange of a server changed nothing, or what the peer asked is an event of each world whose chain is that of the request's client: the
-/// world's `Answer` with the id that is drawn. What a crash leaves of it at any moment has the chain of before or that of the answer. The premise
-/// is `serve_one`'s clause `step`.
+/// world's `Answer` with the id that is drawn. What a crash leaves of it at any moment has the chain of before or that of the answer. The premises
+/// are `serve_one`'s clause `step`, and that the peer tells what it asks.
 pub fn an_exchange_is_an_event<D: Disk, P: Peer>(start: u128)
     ensures { ServedIsEvent D.model P.model start }
 {

@@ -6,9 +6,10 @@ ghost use Rattle.tw_sync.specs.Answers.{IsLinkKept};
 ghost use Rattle.tw_cli.specs.Opening.{KeepsState};
 ghost use Rattle.tw_cli.specs.Fault.{GotFault, status_of};
 ghost use Rattle.tw_cli.specs.Asked.{asked_by};
-ghost use Rattle.tw_cli.specs.Whole.{models, went, RunGives, EndsWell, RunLeaves, RunGrows, RunDrives, RunSpares, ChainGrows};
+ghost use Rattle.tw_cli.specs.Whole.{models, went, RunGives, EndsWell, RunLeaves, RunDrives, RunSpares, ChainGrows};
 ghost use Rattle.tw_cli.specs.Whole.{IsHonestFor, IsSoundFor, RunDraws, RunKeepsInput, IsRun};
 ghost use Rattle.tw_cli.specs.Agreement.{AgreementStays};
+ghost use Rattle.tw_cli.specs.Growth.{GrowsByRecord};
 ghost use Rattle.tw_cli.specs.Events.{IsEvent};
 ghost use Rattle.tw_cli.specs.Headline.{Headline};
 
@@ -88,9 +89,7 @@ pub fn task_run<D: Disk, L: Link, S: Source, O: Sink, E: Sink, P: Spawner, F: Fo
     ensures any_moment { RunLeaves (models D.model S.model O.model L.model P.model F.model J.model) (asked_by words.now settings.now now zone.entry) ids.old
         (went disk.old disk.new input.old input.new out.old out.new link.old link.new
         spawner.old spawner.new folder.old folder.new track.old track.new) result.cause }
-    ensures growth { RunGrows (models D.model S.model O.model L.model P.model F.model J.model) (asked_by words.now settings.now now zone.entry) ids.old
-        (went disk.old disk.new input.old input.new out.old out.new link.old link.new
-        spawner.old spawner.new folder.old folder.new track.old track.new) result.cause }
+    ensures growth { GrowsByRecord D.model disk.old disk.new }
 
     // A command that drives intervals changes the hours once its record is written, and no other uses them.
     ensures hours { RunDrives (models D.model S.model O.model L.model P.model F.model J.model) (asked_by words.now settings.now now zone.entry) ids.old

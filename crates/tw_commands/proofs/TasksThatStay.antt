@@ -1,34 +1,27 @@
 -- The tasks that were there before a command that acts on no selected ones.
-use Rattle.std.proofs.Common.{◌≡◌, ◌∙◌, ap, sym, refl, subst, ℕ, ◌||◌, Bool, true, false, cond, List, [], ◌∷◌, ◌++◌, map, length, Option, Some, None, Result, Ok, Err, codes, is_some}
-use Rattle.std.specs.Prelude.{nat_lt, chars}
-use Rattle.std.proofs.lemmas.List.{nil_from_length}
-use Rattle.std.proofs.lemmas.Option.{same_Some}
+use Rattle.std.proofs.Common.{◌≡◌, ◌∙◌, ap, sym, refl, subst, ℕ, ◌||◌, Bool, true, false, cond, List, [], ◌∷◌, ◌++◌, map, Option, Some, None, Result, Ok, Err, codes, is_some}
 use Rattle.std.specs.Fmt.{decimal}
-use Rattle.std.specs.FinMap.{get, insert, empty, entries, len-entries, len-empty}
-use Rattle.tw_world.specs.declared.Moment.{Moment}
+use Rattle.std.specs.FinMap.{get, insert, empty, entries}
 use Rattle.tw_world.specs.declared.ids.IdWords.{IdWords}
-use Rattle.tw_model.specs.Maps.{bytes_cmp, same_bytes}
+use Rattle.tw_model.specs.Maps.{same_bytes}
 use Rattle.tw_model.specs.Ops.{TaskValue, TasksValue}
 use Rattle.tw_model.specs.Places.{has_uuid}
-use Rattle.tw_model.specs.Changes.{changed, changed_all}
+use Rattle.tw_model.specs.Changes.{changed_all}
 use Rattle.tw_model.specs.declared.Change.{Change}
-use Rattle.tw_model.proofs.Maps.{same_bytes_exact, same_bytes_itself, get-set_at, get-set_at_apart}
-use Rattle.tw_numbers.proofs.FirstPlaces.{AreFound, entries_found}
+use Rattle.tw_model.proofs.Maps.{same_bytes_itself, get-set_at_apart}
+use Rattle.tw_numbers.proofs.FirstPlaces.{entries_found}
 use Rattle.tw_import.specs.Import.{import_of}
 use Rattle.tw_import.specs.declared.import.Imported.{Imported}
 use Rattle.tw_import.specs.declared.import.ImportError.{ImportError}
-use Rattle.tw_recur.specs.Recurrence.{recurrence_of, mask_of}
-use Rattle.tw_recur.specs.Instances.{Asked, Making, grown, with_mask, mask_change as grown_change, with_recurrence, with_parent, with_parents, made_changes, instance_changes}
-use Rattle.tw_recur.proofs.Once.{IsNew, making_step}
+use Rattle.tw_recur.specs.Instances.{with_mask}
 use Rattle.tw_state.specs.State.{State, applied}
 use Rattle.tw_terms.specs.declared.bad_word.BadWord.{BadWord}
 use Rattle.tw_report.specs.declared.report.Report.{Report as AnyReport}
 use Rattle.tw_report.specs.declared.report.Report.TheVariants as report
-use Rattle.tw_settings.specs.Switches.{is_set_on, recurrence_limit}
 use Rattle.tw_words.specs.Unnamed.{first_unnamed}
 use Rattle.tw_words.specs.declared.command.Command.{Command}
 use Rattle.tw_words.specs.declared.command.Command.TheVariants as command
-use Rattle.tw_changes.specs.Marks.{mask_change, mask_changes}
+use Rattle.tw_changes.specs.Marks.{mask_changes}
 use Rattle.tw_commands.specs.Plan.{Plan, Work, Show, step_in}
 use Rattle.tw_commands.specs.Plan.Show.{Created, Logged}
 use Rattle.tw_commands.specs.Plan.Work.{Changes, TakeBack}
@@ -49,40 +42,13 @@ use Rattle.tw_changes.specs.declared.request.Request.{Request}
 use Rattle.tw_changes.specs.declared.refusal.Refusal.{Refusal}
 use Rattle.tw_commands.proofs.Applied.{by_plan}
 use Rattle.tw_commands.proofs.OtherTasks.{tasks_are}
-use Rattle.tw_commands.proofs.ExactMoments.{AreNew, copies_new, nothing_new}
-
--- ---- what changes leave at one uuid
-
--- each change of this uuid leaves such a task, or none
-abbrev EachLeaves : (Option TaskValue → Type 0) → List ℕ → List Change → Type 0
-EachLeaves P u [] = Unit {0}
-EachLeaves P u (c ∷ cs) = (u ≡ c.uuid → P c.task) × EachLeaves P u cs
-
-both_leave : (P : Option TaskValue → Type 0) (u : List ℕ) (xs ys : List Change) → EachLeaves P u xs → EachLeaves P u ys → EachLeaves P u (xs ++ ys)
-both_leave P u [] ys a b = b
-both_leave P u (x ∷ xs) ys a b = (a.0, both_leave P u xs ys a.1 b)
-
-left_so : (P : Option TaskValue → Type 0) (u : List ℕ) (cs : List Change) (tasks : TasksValue) → EachLeaves P u cs → P (get tasks u) → P (get (changed_all tasks cs) u)
-left_so P u [] tasks each so_far = so_far
-left_so P u (c ∷ cs) tasks each so_far = left_so P u cs (changed tasks c) each.1 (subst P (sym (get-set_at tasks c.uuid c.task u)) (by (same_bytes u c.uuid) refl))
-  where
-    by : (b : Bool) → same_bytes u c.uuid ≡ b → P (cond b c.task (get tasks u))
-    by true same = each.0 (same_bytes_exact u c.uuid same)
-    by false apart = so_far
-
-no_entries : entries {X = TaskValue} {R = bytes_cmp} empty ≡ []
-no_entries = nil_from_length (entries {X = TaskValue} {R = bytes_cmp} empty) (sym (len-entries {X = TaskValue} {R = bytes_cmp} empty) ∙ len-empty bytes_cmp TaskValue)
-
-no_masks : (P : Option TaskValue → Type 0) (u : List ℕ) (now : Moment) (tasks : TasksValue) → EachLeaves P u (mask_changes now tasks [])
-no_masks P u now tasks = subst (λ (es : List (List ℕ × TaskValue)). EachLeaves P u (map (mask_change now tasks) es)) (sym no_entries) tt
+use Rattle.tw_commands.proofs.WhatChangesLeave.{EachLeaves, both_leave, left_so, no_masks, no_task, not_new, new_leave}
+use Rattle.tw_commands.proofs.CopiesAreNew.{AreNew, copies_new, nothing_new}
+use Rattle.tw_commands.proofs.GrownTasks.{reporting_leaves}
 
 neither : (a b : Bool) → (a || b) ≡ false → (a ≡ false) × (b ≡ false)
 neither true b e = absurd cc
 neither false b e = (refl, e)
-
-no_task : (o : Option TaskValue) → is_some o ≡ false → o ≡ None
-no_task None e = refl
-no_task (Some x) e = absurd cc
 
 -- ---- the plan of each command
 
@@ -95,31 +61,22 @@ module _ (request : Request) (old : State) (u : List ℕ) (before : TaskValue) (
   PlanLeaves (Err refusal) = Unit {0}
   PlanLeaves (Ok plan) = WorkLeaves plan.work
 
-  -- it has no task, but this one is there
-  not_new : (v : List ℕ) → get old.tasks v ≡ None → u ≡ v → ⊥
-  not_new v none same = let e : Some before ≡ None = sym there ∙ ap (get old.tasks) same ∙ none in absurd cc
-
   alone : (changes : List Change) → EachLeaves P u changes → EachLeaves P u (changes ++ mask_changes request.at (changed_all old.tasks changes) [])
   alone changes each = both_leave P u changes (mask_changes request.at (changed_all old.tasks changes) []) each (no_masks P u request.at (changed_all old.tasks changes))
 
   -- ---- commands that make tasks
 
   making_leaves : (show : Show) (v : List ℕ) (task : TaskValue) (o : Option TaskValue) → get old.tasks v ≡ o → PlanLeaves (making show v task o)
-  making_leaves show v task None none = alone (record { uuid = v; task = Some task } ∷ []) (λ same. absurd (not_new v none same), tt)
+  making_leaves show v task None none = alone (record { uuid = v; task = Some task } ∷ []) (λ same. absurd (not_new old.tasks u before there v none same), tt)
   making_leaves show v task (Some x) found = tt
-
-  -- what is made of uuids without a task
-  new_leave : (made : TasksValue) (es : List (List ℕ × TaskValue)) → IsNew old.tasks made → AreFound made es → EachLeaves P u (map change_of es)
-  new_leave made [] new found = tt
-  new_leave made (e ∷ es) new found = (λ same. absurd (not_new e.0 (new e.0 (ap is_some found.0)) same), new_leave made es new found.1)
 
   duplicating_leaves : (es : List (List ℕ × TaskValue)) → EachLeaves P u (map change_of es) → PlanLeaves (duplicating es)
   duplicating_leaves [] each = tt
   duplicating_leaves (e ∷ es) each = alone (map change_of (e ∷ es)) each
 
-  duplicated_leaves : (made : Result TasksValue Refusal) → AreNew request old u before there made → PlanLeaves (duplicated made)
+  duplicated_leaves : (made : Result TasksValue Refusal) → AreNew old made → PlanLeaves (duplicated made)
   duplicated_leaves (Err refusal) new = tt
-  duplicated_leaves (Ok made) new = duplicating_leaves (entries made) (new_leave made (entries made) new (entries_found made))
+  duplicated_leaves (Ok made) new = duplicating_leaves (entries made) (new_leave old.tasks u before there P made (entries made) new (entries_found made))
 
   makers_leave : (c : Command) (ids : IdWords) → makes c ≡ true → PlanLeaves (plan_by c request ids old)
   makers_leave command.Add ids is =
@@ -127,7 +84,7 @@ module _ (request : Request) (old : State) (u : List ℕ) (before : TaskValue) (
   makers_leave command.Log ids is = making_leaves Logged (drawn ids) (logged (scene_in request old) request.line request.at) (get old.tasks (drawn ids)) refl
   makers_leave command.Duplicate ids is =
       duplicated_leaves (copies_in request ids old).made
-      (copies_new request old u before there (copied (scene_in request old) request.line request.at) (selected_in request old) ids empty (nothing_new request old u before there))
+      (copies_new old (copied (scene_in request old) request.line request.at) (selected_in request old) ids empty (nothing_new old))
   makers_leave command.Modify ids is = absurd cc
   makers_leave command.Append ids is = absurd cc
   makers_leave command.Prepend ids is = absurd cc
@@ -171,7 +128,7 @@ module _ (request : Request) (old : State) (u : List ℕ) (before : TaskValue) (
   drawn_leaves ids done task next true taken so_far on = tt
   drawn_leaves ids done task next false free so_far on =
       let none : get old.tasks (drawn ids) ≡ None = no_task (get old.tasks (drawn ids)) (neither (is_some (get old.tasks (drawn ids))) (is_changed done (drawn ids)) free).0 in
-      on (after_draw ids) (done ++ change_to (drawn ids) task ∷ []) (one_more done (drawn ids) task so_far (not_new (drawn ids) none))
+      on (after_draw ids) (done ++ change_to (drawn ids) task ∷ []) (one_more done (drawn ids) task so_far (not_new old.tasks u before there (drawn ids) none))
 
   one_import : (o : Option (List ℕ)) (ids : IdWords) (done : List Change) (task : TaskValue) (next : IdWords → List Change → Imports) → has_uuid u o ≡ false
       → EachLeaves P u done → ((left : IdWords) (more : List Change) → EachLeaves P u more → ImportsLeave (next left more)) → ImportsLeave (import_as o task ids old.tasks done next)
@@ -189,60 +146,17 @@ module _ (request : Request) (old : State) (u : List ℕ) (before : TaskValue) (
 
   -- ---- reports
 
-  instances_leave : (made : TasksValue) (es : List (List ℕ × TaskValue)) → IsNew old.tasks made → AreFound made es → EachLeaves P u (made_changes es)
-  instances_leave made [] new found = tt
-  instances_leave made (e ∷ es) new found = (λ same. absurd (not_new e.0 (new e.0 (ap is_some found.0)) same), instances_leave made es new found.1)
-
   module _ (masked : (mask : List ℕ) (now : ℕ) → P (Some (with_mask before mask now))) where
-    parent_leaves : (e : List ℕ × TaskValue) → get old.tasks e.0 ≡ Some e.1 → (mask : List ℕ) (now : ℕ) (parents : List Change) → EachLeaves P u parents → EachLeaves P u (parents ++ grown_change e.0 e.1 now mask)
-    parent_leaves e found mask now parents so_far = both_leave P u parents (grown_change e.0 e.1 now mask) so_far (by (nat_lt (length (mask_of e.1)) (length mask)))
-      where
-        by : (longer : Bool) → EachLeaves P u (cond longer (record { uuid = e.0; task = Some (with_mask e.1 mask now) } ∷ []) [])
-        by false = tt
-        by true = (
-          λ same.
-              let one : before ≡ e.1 = same_Some before e.1 (sym there ∙ ap (get old.tasks) same ∙ found) in
-              subst (λ (t : TaskValue). P (Some (with_mask t mask now))) one (masked mask now),
-          tt,
-        )
-
-    grown_leaves : (a : Asked) (e : List ℕ × TaskValue) → get old.tasks e.0 ≡ Some e.1 → (m : Making) → EachLeaves P u m.parents → EachLeaves P u (with_parent a e.0 e.1 m).parents
-    unfolding with_parent
-    grown_leaves a e found m so_far =
-        elim (recurrence_of e.1) as (λ r. EachLeaves P u (with_recurrence a e.0 e.1 m r).parents) [
-          | None ↦ so_far
-          | Some r ↦ parent_leaves e found (grown a e.0 e.1 r (length (chars (mask_of e.1))) 1000 (record { made = m.made; mask = mask_of e.1 })).mask a.now m.parents so_far
-        ]
-
-    parents_leave : (a : Asked) (es : List (List ℕ × TaskValue)) (m : Making) → AreFound old.tasks es → EachLeaves P u m.parents → EachLeaves P u (with_parents a m es).parents
-    parents_leave a [] m found so_far = so_far
-    parents_leave a (e ∷ es) m found so_far = parents_leave a es (with_parent a e.0 e.1 m) found.1 (grown_leaves a e found.0 m so_far)
-
-    abbrev asking : Asked
-    asking = record { tasks = old.tasks; zone = request.zone.now; now = request.at.seconds; limit = recurrence_limit request.settings }
-
-    grows_leave : EachLeaves P u (instance_changes old.tasks request.at.seconds request.zone.now (recurrence_limit request.settings))
-    unfolding instance_changes
-    grows_leave =
-        let grows : Making = with_parents asking (record { made = empty; parents = [] }) (entries old.tasks) in
-        both_leave P u (made_changes (entries grows.made)) grows.parents
-        (instances_leave grows.made (entries grows.made) (making_step asking).new (entries_found grows.made))
-        (parents_leave asking (entries old.tasks) (record { made = empty; parents = [] }) (entries_found old.tasks) tt)
-
-    reporting_leaves : (r : AnyReport) → PlanLeaves (Ok (reporting r request old))
-    reporting_leaves r = alone (instances_in request old) (by (is_set_on (codes "recurrence") request.settings))
-      where
-        by : (on : Bool) → EachLeaves P u (cond on (instance_changes old.tasks request.at.seconds request.zone.now (recurrence_limit request.settings)) [])
-        by true = grows_leave
-        by false = tt
+    report_leaves : (r : AnyReport) → PlanLeaves (Ok (reporting r request old))
+    report_leaves r = alone (instances_in request old) (reporting_leaves request old u before there P (λ mask longer. masked mask request.at.seconds))
 
     reports_leave : (c : Command) (ids : IdWords) → is_report c ≡ true → PlanLeaves (plan_by c request ids old)
-    reports_leave command.List ids is = reporting_leaves report.List
-    reports_leave command.Next ids is = reporting_leaves report.Next
-    reports_leave command.All ids is = reporting_leaves report.All
-    reports_leave command.Completed ids is = reporting_leaves report.Completed
-    reports_leave command.Waiting ids is = reporting_leaves report.Waiting
-    reports_leave command.Blocked ids is = reporting_leaves report.Blocked
+    reports_leave command.List ids is = report_leaves report.List
+    reports_leave command.Next ids is = report_leaves report.Next
+    reports_leave command.All ids is = report_leaves report.All
+    reports_leave command.Completed ids is = report_leaves report.Completed
+    reports_leave command.Waiting ids is = report_leaves report.Waiting
+    reports_leave command.Blocked ids is = report_leaves report.Blocked
     reports_leave command.Add ids is = absurd cc
     reports_leave command.Log ids is = absurd cc
     reports_leave command.Modify ids is = absurd cc

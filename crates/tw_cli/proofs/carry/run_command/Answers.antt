@@ -4,13 +4,11 @@ use Rattle.tw_world.specs.Sink.{Got, GotPart}
 use Rattle.tw_cli.specs.Cause.{carry_cause, ended}
 use Rattle.tw_cli.specs.Run.{Gives, Draws}
 use Rattle.tw_cli.specs.Crash.{LeavesCommand}
-use Rattle.tw_cli.specs.Growth.{CommandGrows}
 use Rattle.tw_cli.specs.Hours.{DrivesHours}
 use Rattle.tw_cli.specs.declared.carry.CarryError.{CarryError}
 use Rattle.tw_cli.specs.declared.cause.Cause.TheVariants.{Done}
 use Rattle.tw_cli.proofs.Endings.{at_end, ends_well, failed_gives}
 use Rattle.tw_cli.proofs.Carrying.{done_drew, leaves_unprinted}
-use Rattle.tw_cli.proofs.Growth.{done_grows}
 use Rattle.tw_cli.proofs.carry.run_command.Goals as goal
 
 pub returns-in-Ok-clause-gives : goal.returns-in-Ok-clause-gives
@@ -59,17 +57,8 @@ returns-in-Ok-clause-hours g c =
     subst (λ (r : Result (Vec ℕ) CarryError). DrivesHours g.D.Disk.model g.S.Source.model g.P.Spawner.model g.F.Folder.model g.J.Disk.model c.args.request c.args.ids.now c.args.disk.now c.carry_out.new.disk c.args.input.now c.carry_out.new.input c.args.spawner.now c.carry_out.new.spawner c.args.folder.now c.carry_out.new.folder c.args.track.now c.carry_out.new.track (ended carry_cause r)) c.in-Ok.is c.carry_out.ensures.hours in
     at_end g.O.Sink.model c.args.out.now c.print.new.out c.as_slice.result.now c.print.result (DrivesHours g.D.Disk.model g.S.Source.model g.P.Spawner.model g.F.Folder.model g.J.Disk.model c.args.request c.args.ids.now c.args.disk.now c.carry_out.new.disk c.args.input.now c.carry_out.new.input c.args.spawner.now c.carry_out.new.spawner c.args.folder.now c.carry_out.new.folder c.args.track.now c.carry_out.new.track) c.print.ensures
     (λ got. left)
-    (λ part rose. record { gives = left.gives; spares = left.spares; any_moment = left.any_moment; folder = left.folder; track = left.track })
+    (λ part rose. record { gives = left.gives; spares = left.spares; any_moment = left.any_moment; growth = left.growth; folder = left.folder; track = left.track })
 
 pub returns-in-Err-clause-hours : goal.returns-in-Err-clause-hours
 returns-in-Err-clause-hours g c =
     subst (DrivesHours g.D.Disk.model g.S.Source.model g.P.Spawner.model g.F.Folder.model g.J.Disk.model c.args.request c.args.ids.now c.args.disk.now c.carry_out.new.disk c.args.input.now c.carry_out.new.input c.args.spawner.now c.carry_out.new.spawner c.args.folder.now c.carry_out.new.folder c.args.track.now c.carry_out.new.track) (sym c.from.ensures) c.in-Err.ensures.hours
-
-pub returns-in-Ok-clause-growth : goal.returns-in-Ok-clause-growth
-returns-in-Ok-clause-growth g c =
-    done_grows g.D.Disk.model g.S.Source.model g.P.Spawner.model c.args.request c.args.ids.now c.args.disk.now c.carry_out.new.disk c.args.input.now c.carry_out.new.input c.args.spawner.now c.carry_out.new.spawner c.print.result
-    (subst (λ (r : Result (Vec ℕ) CarryError). CommandGrows g.D.Disk.model g.S.Source.model g.P.Spawner.model c.args.request c.args.ids.now c.args.disk.now c.carry_out.new.disk c.args.input.now c.carry_out.new.input c.args.spawner.now c.carry_out.new.spawner (ended carry_cause r)) c.in-Ok.is c.carry_out.ensures.growth)
-
-pub returns-in-Err-clause-growth : goal.returns-in-Err-clause-growth
-returns-in-Err-clause-growth g c =
-    subst (CommandGrows g.D.Disk.model g.S.Source.model g.P.Spawner.model c.args.request c.args.ids.now c.args.disk.now c.carry_out.new.disk c.args.input.now c.carry_out.new.input c.args.spawner.now c.carry_out.new.spawner) (sym c.from.ensures) (subst (λ (r : Result (Vec ℕ) CarryError). CommandGrows g.D.Disk.model g.S.Source.model g.P.Spawner.model c.args.request c.args.ids.now c.args.disk.now c.carry_out.new.disk c.args.input.now c.carry_out.new.input c.args.spawner.now c.carry_out.new.spawner (ended carry_cause r)) c.in-Err.is c.carry_out.ensures.growth)

@@ -1,5 +1,5 @@
 use Rattle.std.proofs.Common.{◌∙◌, inl, inr, refl, subst, arith}
-use Rattle.std.specs.Prelude.{length}
+use Rattle.std.specs.Prelude.{length, min, ◌^◌}
 use Rattle.tw_journal.specs.Record.{rows}
 use Rattle.tw_replica.specs.Prepared.{prepared_state, prepared_bodies}
 use Rattle.tw_cli.specs.Ready.{WriteEnds}
@@ -16,7 +16,7 @@ write_both-requires g c = record {
 
 -- the hours are not ready
 pub returns-in-Err-clause-ends : goal.returns-in-Err-clause-ends
-returns-in-Err-clause-ends g c = inl (record { refused = c.in-Err.ensures.refused; leaves = c.ready_hours.ensures.any_moment; disk = refl })
+returns-in-Err-clause-ends g c = inl (record { refused = c.in-Err.ensures.refused; leaves = c.ready_hours.ensures.any_moment; growth = c.ready_hours.ensures.growth; disk = refl })
 
 -- the record is written
 pub returns-in-None-clause-ends : goal.returns-in-None-clause-ends
@@ -28,6 +28,7 @@ returns-in-None-clause-ends g c = (
     hours = c.in-Ok.hours;
     ready = c.in-Ok.ensures.ready;
     loaded = c.ready_hours.ensures.any_moment;
+    growth = c.ready_hours.ensures.growth;
     folder_kept = c.ready_hours.ensures.folder;
     track_kept = c.ready_hours.ensures.track;
     ends = subst (WriteEnds g.D.Disk.model g.F.Folder.model g.J.Disk.model c.args.made.ready.prepared c.args.disk.now c.write_both.new.disk c.ready_hours.new.folder c.write_both.new.folder c.ready_hours.new.track c.write_both.new.track c.in-Ok.hours) c.in-None.is c.write_both.ensures.ends;
@@ -43,6 +44,7 @@ returns-clause-ends g c = inr (record {
   hours = c.in-Ok.hours;
   ready = c.in-Ok.ensures.ready;
   loaded = c.ready_hours.ensures.any_moment;
+  growth = c.ready_hours.ensures.growth;
   folder_kept = c.ready_hours.ensures.folder;
   track_kept = c.ready_hours.ensures.track;
   ends = subst (WriteEnds g.D.Disk.model g.F.Folder.model g.J.Disk.model c.args.made.ready.prepared c.args.disk.now c.write_both.new.disk c.ready_hours.new.folder c.write_both.new.folder c.ready_hours.new.track c.write_both.new.track c.in-Ok.hours) c.in-Some.is c.write_both.ensures.ends;
@@ -64,4 +66,4 @@ returns-clause-track g c = record { faults = omega (arith, c.ready_hours.ensures
 
 -- nothing is written
 pub returns-in-Err-clause-growth : goal.returns-in-Err-clause-growth
-returns-in-Err-clause-growth g c = λ bodies on. nothing_longer g.D.Disk.model g.met.D.Disk.only_now c.args.disk.now (length (rows (prepared_bodies c.args.made.ready.prepared)))
+returns-in-Err-clause-growth g c = λ bodies on. nothing_longer g.D.Disk.model g.met.D.Disk.only_now c.args.disk.now (min (length (rows (prepared_bodies c.args.made.ready.prepared))) (2 ^ 30))

@@ -4,6 +4,7 @@ use Rattle.tw_model.specs.declared.Op.{Op}
 use Rattle.tw_replica.specs.Prepared.{prepared_state}
 use Rattle.tw_cli.specs.Ready.{KnowsTasks, IsReadyChange, AreReady, ChangeRefused, HoursRefused}
 use Rattle.tw_cli.specs.declared.hours.Before.{Before}
+use Rattle.tw_cli.proofs.Growth.{nothing_longer}
 use Rattle.tw_cli.proofs.hours.ready_hours.Goals as goal
 
 pub load_change-requires : goal.load_change-requires
@@ -45,3 +46,10 @@ returns-in-Err-clause-refused g c =
 
 pub returns-in-Err-clause-any_moment : goal.returns-in-Err-clause-any_moment
 returns-in-Err-clause-any_moment g c = inr c.load_change.ensures.any_moment
+
+-- nothing is loaded
+pub returns-in_default-clause-growth : goal.returns-in_default-clause-growth
+returns-in_default-clause-growth g c = λ tells. nothing_longer g.J.Disk.model g.met.J.Disk.only_now c.args.track.now 29
+
+pub returns-then-before-len-clause-growth : goal.returns-then-before-len-clause-growth
+returns-then-before-len-clause-growth g c = λ tells. nothing_longer g.J.Disk.model g.met.J.Disk.only_now c.args.track.now 29

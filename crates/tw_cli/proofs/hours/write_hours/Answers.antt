@@ -1,5 +1,6 @@
 use Rattle.std.proofs.Common.{sym, subst, refl, true, false, Option}
 use Rattle.timew_store.specs.declared.prepare.PreparedChange.{PreparedChange}
+use Rattle.tw_cli.specs.Growth.{ChangeGrows}
 use Rattle.tw_cli.specs.Ready.{CanBeWritten, HoursEnd, HoursLeave}
 use Rattle.tw_cli.proofs.LoadedHours.{change_failed}
 use Rattle.tw_cli.proofs.hours.write_hours.Goals as goal
@@ -38,3 +39,13 @@ returns-in-Err-clause-ended g c =
 pub returns-in-Err-clause-any_moment : goal.returns-in-Err-clause-any_moment
 returns-in-Err-clause-any_moment g c =
     subst (HoursLeave g.F.Folder.model g.J.Disk.model c.args.folder.now c.write.new.folder c.args.track.now c.write.new.disk) (sym c.in-Some.is) c.write.ensures.any_moment
+
+-- how much longer it makes the journal
+pub returns-in_default-clause-growth : goal.returns-in_default-clause-growth
+returns-in_default-clause-growth g c = subst (ChangeGrows g.J.Disk.model c.args.track.now c.args.track.now) (sym c.in_default.is) refl
+
+pub returns-in-Ok-clause-growth : goal.returns-in-Ok-clause-growth
+returns-in-Ok-clause-growth g c = subst (ChangeGrows g.J.Disk.model c.args.track.now c.write.new.disk) (sym c.in-Some.is) (λ store edit prepared. (c.write.ensures.growth store edit prepared).0)
+
+pub returns-in-Err-clause-growth : goal.returns-in-Err-clause-growth
+returns-in-Err-clause-growth g c = subst (ChangeGrows g.J.Disk.model c.args.track.now c.write.new.disk) (sym c.in-Some.is) (λ store edit prepared. (c.write.ensures.growth store edit prepared).0)
