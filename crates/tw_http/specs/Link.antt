@@ -1,5 +1,6 @@
 -- What a link means, and what an exchange does to it.
-use Rattle.std.specs.Prelude.{◌≡◌, ◌⊎◌, ℕ, ◌+◌, ◌-◌, ◌^◌, ◌≤◌, min, Bool, true, false, IsTrue, IfSome, length, drop, List, [], ◌∷◌, ◌++◌, Result, Ok, Err, OnOk, All, Contains}
+use Rattle.std.specs.Prelude.{◌≡◌, ◌⊎◌, ℕ, ◌+◌, ◌-◌, ◌^◌, ◌≤◌, min, Bool, true, false, IsTrue, IfSome, Result, Ok, Err, OnOk}
+use Rattle.std.specs.Prelude.{List, [], ◌∷◌, ◌++◌, length, drop, All, Contains}
 use Rattle.uuid.specs.Parts.{zero_bytes}
 use Rattle.tw_protocol.specs.Chain.{Version, IsUuid, IsChain, Grows, same_id, has_id}
 use Rattle.tw_protocol.specs.Snapshots.{Account}

@@ -1,5 +1,6 @@
 -- The texts of requests and responses.
-use Rattle.std.specs.Prelude.{◌≡◌, ℕ, ◌≤◌, ◌&&◌, nat_le, Bool, true, false, List, [], ◌∷◌, ◌++◌, Option, Some, None, codes, length, decimal, unwrap_or, All, IsTrue}
+use Rattle.std.specs.Prelude.{◌≡◌, ℕ, ◌≤◌, ◌&&◌, nat_le, Bool, true, false, IsTrue, Option, Some, None, unwrap_or}
+use Rattle.std.specs.Prelude.{List, [], ◌∷◌, ◌++◌, codes, length, decimal, All}
 use Rattle.http.specs.StatusCode.{reason_phrase, code_digits}
 use Rattle.uuid.specs.Text.{hyphenated_text, lower, parsed_hyphenated}
 use Rattle.tw_http.specs.declared.message.Request.{Request}

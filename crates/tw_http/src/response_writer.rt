@@ -32,14 +32,8 @@ fn parts(alloc: Global, response: &Response) -> Result<Vec<u8>, AllocError>
             write_parts(alloc, StatusCode::OK, None, Some(*id), None, *wanted)
         }
         Response::Conflict { latest } => {
-            write_parts(
-                alloc,
-                StatusCode::CONFLICT,
-                None,
-                None,
-                Some(*latest),
-                false,
-            )
+            let parent = Some(*latest);
+            write_parts(alloc, StatusCode::CONFLICT, None, None, parent, false)
         }
         Response::Child {
             id,
