@@ -94,6 +94,8 @@ fn file(alloc: Global, front: &[u8], blocked: bool) -> Result<Vec<u8>, Fail> {
 enum Ending {
     /// On the whole chain. The file is longer by so many bytes.
     Whole { longer: usize },
+    /// On no version.
+    Empty,
     Damaged,
     Otherwise,
 }
@@ -106,12 +108,15 @@ fn open_and_compare(alloc: Global, file: Vec<u8>) -> Result<Ending, Fail> {
     let mut disk = MemoryDisk::new(alloc, file, Vec::new(alloc))?;
     match Server::open(alloc, &mut disk) {
         Ok(server) => {
-            if server.latest(Uuid::from_bytes(CLIENT)) != Uuid::from_bytes(id(257)) {
-                return Ok(Ending::Otherwise);
+            let latest = server.latest(Uuid::from_bytes(CLIENT));
+            if latest == Uuid::from_bytes(id(257)) {
+                let longer = disk.bytes().len().saturating_sub(len);
+                return Ok(Ending::Whole { longer });
             }
-            Ok(Ending::Whole {
-                longer: disk.bytes().len().saturating_sub(len),
-            })
+            if latest == Uuid::from_bytes(id(0)) {
+                return Ok(Ending::Empty);
+            }
+            Ok(Ending::Otherwise)
         }
         Err(ServerOpenError::Damaged { .. }) => Ok(Ending::Damaged),
         Err(_) => Ok(Ending::Otherwise),
@@ -135,21 +140,28 @@ fn files_of_every_form_are_opened(rt: HostRuntime) -> Result<(), Fail> {
     Ok(())
 }
 
-/// Whether a file with this byte set to 255 is damaged, or opens to the whole chain.
+/// The last byte of the slot that counts. If it is 255 the records begin there, at a 0 of the fifth version, which closes the gate.
+const SLOT: usize = 20;
+
+/// Whether a file with this byte set to 255 is damaged, or opens to the whole chain. If the byte is that of the slot, it opens to none.
 fn is_found(alloc: Global, whole: &[u8], at: usize) -> Result<bool, Fail> {
     let mut changed = whole.to_vec(alloc)?;
     if at < changed.len() {
         changed[at] = 255;
     }
-    Ok(open_and_compare(alloc, changed)? != Ending::Otherwise)
+    let ending = open_and_compare(alloc, changed)?;
+    if at == SLOT {
+        return Ok(ending == Ending::Empty);
+    }
+    Ok(ending != Ending::Otherwise && ending != Ending::Empty)
 }
 
-/// The first of each 401st byte that may be set to 255 so that something else is opened, or else the file's length, and that length.
+/// The first byte that may be set to 255 so that something else is opened, or else the file's length, and that length.
 fn lost_at(alloc: Global) -> Result<(usize, usize), Fail> {
     let whole = file(alloc, &AREAS, true)?;
     let len = whole.len();
     for at in 0..len {
-        if at % 401 == 0 && !is_found(alloc, whole.as_slice(), at)? {
+        if !is_found(alloc, whole.as_slice(), at)? {
             return Ok((at, len));
         }
     }

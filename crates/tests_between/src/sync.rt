@@ -3,9 +3,9 @@ mod script;
 mod snapshots;
 mod stops;
 
+use self::script::always;
 use std::alloc::Global;
 use std::test::Fail;
-use tw_http::{Link, LinkError};
 use tw_replica::Replica;
 use tw_sync::{ReplyKind, SyncError, SyncReport, sync};
 use tw_world::MemoryDisk;
@@ -13,63 +13,13 @@ use uuid::Uuid;
 
 const HOST: &str = "localhost:8080";
 
-/// A link that brings the same reply each time, or fails.
-#[derive(Drop)]
-struct OneReply {
-    reply: Option<&'static str>,
-    exchanges: u64,
-    faults: u64,
-}
-
-impl Link for OneReply {
-    ghost use Rattle.std.specs.Prelude.{false, []};
-    ghost use Rattle.std.proofs.lemmas.Bool.{true≢false};
-    ghost use Rattle.std.proofs.Common.{sym};
-
-    ghost model = { record {
-      faults = λ l. l.faults;
-      exchanges = λ l. l.exchanges;
-      tells_list = λ l. false;
-      list = λ l. [];
-      tells_chain = λ l. false;
-      client = λ l. [];
-      chain = λ l. [];
-      own = λ l. [];
-      honest = λ l. false;
-    } };
-
-    ghost tells_chain = { λ link truly. absurd (true≢false (sym truly.honest)) };
-
-    ghost own_stand = { λ link tells. absurd (true≢false (sym tells)) };
-
-    fn exchange(&mut self, _request: &[u8], reply: &mut Vec<u8>) -> Result<(), LinkError> {
-        self.exchanges = self.exchanges.saturating_add(1);
-        let Some(text) = self.reply else {
-            self.faults = self.faults.saturating_add(1);
-            return Err(LinkError::Failed);
-        };
-        reply.clear();
-        if reply.extend_from_slice(text.as_bytes()).is_err() {
-            return Err(LinkError::Memory);
-        }
-        Ok(())
-    }
-}
-
 // What a sync of a new replica comes to where each reply of the server is this one.
-fn ended(
-    alloc: Global,
-    reply: Option<&'static str>,
-) -> Result<Result<SyncReport, SyncError>, Fail> {
+fn ended(alloc: Global, reply: &'static str) -> Result<Result<SyncReport, SyncError>, Fail> {
     let mut disk = MemoryDisk::new(alloc, Vec::new(alloc), Vec::new(alloc))?;
     let Ok(mut replica) = Replica::open(alloc, &mut disk) else {
         return Err(Fail::from("no replica"));
     };
-    let mut link = OneReply {
-        reply,
-        exchanges: 0,
-        faults: 0,
-    };
+    let mut link = always(reply);
     let client = Uuid::from_bytes([9; 16]);
     Ok(sync(alloc, &mut replica, &mut disk, &mut link, client, HOST))
 }
@@ -115,7 +65,7 @@ const REFUSED: [(&str, ReplyKind); 11] = [
 ];
 
 fn is_refused(alloc: Global, reply: &'static str, kind: ReplyKind) -> Result<bool, Fail> {
-    Ok(ended(alloc, Some(reply))? == Err(SyncError::Reply { kind }))
+    Ok(ended(alloc, reply)? == Err(SyncError::Reply { kind }))
 }
 
 // How many of the replies are refused as wanted, up to the first that is not.
@@ -146,11 +96,11 @@ fn reports_nothing(alloc: Global) -> Result<bool, Fail> {
         pushed: 0,
         base: Uuid::nil(),
     };
-    Ok(ended(alloc, Some(NONE))? == Ok(report))
+    Ok(ended(alloc, NONE)? == Ok(report))
 }
 
-// Whether a sync with this reply, or without one, is refused for this.
-fn ends_with(alloc: Global, reply: Option<&'static str>, why: SyncError) -> Result<bool, Fail> {
+// Whether a sync with this reply, which is empty if the way fails, is refused for this.
+fn ends_with(alloc: Global, reply: &'static str, why: SyncError) -> Result<bool, Fail> {
     Ok(ended(alloc, reply)? == Err(why))
 }
 
@@ -158,7 +108,7 @@ fn ends_with(alloc: Global, reply: Option<&'static str>, why: SyncError) -> Resu
 fn each_reply_that_is_no_version_ends_a_sync(rt: HostRuntime) -> Result<(), Fail> {
     let gone = SyncError::Gone { base: Uuid::nil() };
     assert!(rt; reports_nothing(rt.alloc())?);
-    assert!(rt; ends_with(rt.alloc(), Some(GONE), gone)?);
-    assert!(rt; ends_with(rt.alloc(), None, SyncError::Link)?);
+    assert!(rt; ends_with(rt.alloc(), GONE, gone)?);
+    assert!(rt; ends_with(rt.alloc(), "", SyncError::Link)?);
     Ok(())
 }

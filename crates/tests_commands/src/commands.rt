@@ -2,8 +2,10 @@
 ghost use Rattle.std.specs.Prelude.{◌≡◌, IfOk};
 
 mod circles;
+mod day;
 mod imports;
 mod recurrence;
+mod refusals;
 mod reports;
 mod sizes;
 mod statuses;
@@ -227,38 +229,6 @@ fn carried(
     carried_with(alloc, line, "", second, ids, disk)
 }
 
-const BOUGHT: &str =
-    "[\n{\"annotations\":[{\"description\":\"two\",\"entry\":\"20231114T221321Z\"}],\"description\":\"Buy milk\",\
-    \"entry\":\"20231114T221320Z\",\"modified\":\"20231114T221320Z\",\"status\":\"pending\",\"urgency\":1.600,\
-    \"uuid\":\"00000000-0000-4000-8000-000000000001\"}\n]\n";
-
-const DAY: [(&str, &str); 24] = [
-    ("add Buy milk", "Created task 1.\n"),
-    ("1 annotate one", "Annotated 1 task.\n"),
-    ("1 annotate two", "Annotated 1 task.\n"),
-    ("1 denotate o", "Denotated 1 task.\n"),
-    ("rc.urgency.annotations.coefficient:2 export", BOUGHT),
-    ("undo", "Undone 1 operation.\n"),
-    ("1 denotate three", "NoMatch"),
-    ("log Call Ann project:Home", "Logged task.\n"),
-    ("add Rent due:2023-12-01 +flat", "Created task 2.\n"),
-    ("1 2 modify project:Home", "Modified 2 tasks.\n"),
-    ("project:Home count", "3\n"),
-    ("project:Home ids", "1 2\n"),
-    ("+flat uuids", "00000000-0000-4000-8000-000000000003\n"),
-    ("+nothing ids", "\n"),
-    ("1 append and tea", "Modified 1 task.\n"),
-    ("1 prepend please", "Modified 1 task.\n"),
-    ("description.is:nothing done", "NoMatch"),
-    ("9 done", "NoMatch"),
-    ("1 start", "Started 1 task.\n"),
-    ("1 stop", "Stopped 1 task.\n"),
-    ("1 2 duplicate due:", "Duplicated 2 tasks.\n"),
-    ("2 done", "Completed 1 task.\n"),
-    ("1 delete", "Deleted 1 task.\n"),
-    ("status:deleted purge", "Purged 1 task.\n"),
-];
-
 // Whether a line prints this.
 fn prints(
     alloc: Global,
@@ -268,27 +238,6 @@ fn prints(
     disk: &mut MemoryDisk,
 ) -> Result<bool, Fail> {
     Ok(carried(alloc, line, NOW, ids, disk)?.as_str() == wanted)
-}
-
-// How many lines of the day print what is wanted, up to the first that does not.
-fn day_so_far(alloc: Global, ids: &mut IdWords, disk: &mut MemoryDisk) -> Result<usize, Fail> {
-    for (number, (line, wanted)) in DAY.iter().enumerate() {
-        if !prints(alloc, line, wanted, ids, disk)? {
-            return Ok(number);
-        }
-    }
-    Ok(DAY.len())
-}
-
-#[test]
-fn each_command_has_its_text(rt: HostRuntime) -> Result<(), Fail> {
-    let alloc = rt.alloc();
-    let mut disk = empty_disk(alloc)?;
-    let mut ids = ids_from(1);
-    assert_eq!(rt; day_so_far(alloc, &mut ids, &mut disk)?, DAY.len());
-    // one for each task that was made
-    assert_eq!(rt; ids.start, 6);
-    Ok(())
 }
 
 fn carry_all(
@@ -310,14 +259,6 @@ fn with_adds(alloc: Global, lines: &[&str]) -> Result<MemoryDisk, Fail> {
     Ok(disk)
 }
 
-// Lines, the start and the step of the identifiers, the number that is taken, and the start that is left.
-const TAKEN: [(&str, u128, u128, u128, u128); 4] = [
-    ("log c", 2, 1, 2, 3),
-    ("1 2 duplicate", 1, 1, 1, 2),
-    ("1 2 duplicate", 0, 1, 1, 2),
-    ("1 2 duplicate", 9, 0, 9, 9),
-];
-
 // Whether a line is refused for the number that is taken.
 fn is_taken(
     alloc: Global,
@@ -329,27 +270,6 @@ fn is_taken(
 ) -> Result<bool, Fail> {
     let uuid = uuid_of(number);
     Ok(refusal(alloc, line, input, ids, disk)? == Some(Refusal::IdTaken { uuid }))
-}
-
-fn taken_so_far(alloc: Global, disk: &mut MemoryDisk) -> Result<usize, Fail> {
-    for (number, (line, start, step, taken, left)) in TAKEN.iter().enumerate() {
-        let mut ids = IdWords {
-            start: *start,
-            step: *step,
-        };
-        if !is_taken(alloc, line, "", *taken, &mut ids, disk)? || ids.start != *left {
-            return Ok(number);
-        }
-    }
-    Ok(TAKEN.len())
-}
-
-#[test]
-fn a_uuid_that_is_taken_is_named(rt: HostRuntime) -> Result<(), Fail> {
-    let alloc = rt.alloc();
-    let mut disk = with_adds(alloc, &["add a", "add b"])?;
-    assert_eq!(rt; taken_so_far(alloc, &mut disk)?, TAKEN.len());
-    Ok(())
 }
 
 // Whether a line leaves the disk as long as it was.
@@ -364,45 +284,7 @@ fn writes_nothing(
     Ok(disk.bytes().len() == before)
 }
 
-const IDLE: [&str; 4] = ["1 modify project:Home", "1 modify -flat", "count", "ids"];
-
-fn idle_so_far(alloc: Global, disk: &mut MemoryDisk) -> Result<usize, Fail> {
-    for (number, line) in IDLE.iter().enumerate() {
-        if !writes_nothing(alloc, line, &mut ids_from(2), disk)? {
-            return Ok(number);
-        }
-    }
-    Ok(IDLE.len())
-}
-
-#[test]
-fn what_changes_nothing_writes_no_record(rt: HostRuntime) -> Result<(), Fail> {
-    let alloc = rt.alloc();
-    let mut disk = with_adds(alloc, &["add a project:Home"])?;
-    assert_eq!(rt; idle_so_far(alloc, &mut disk)?, IDLE.len());
-    Ok(())
-}
-
 // A property of the first task.
 fn property_of<'a>(tasks: &'a Tasks, property: &str) -> Option<&'a str> {
     tasks.get(uuid_of(1))?.get(property)
-}
-
-// How long the description of the first task is.
-fn description_len(alloc: Global, disk: &mut MemoryDisk) -> Result<usize, Fail> {
-    let replica = opened(alloc, disk)?;
-    match property_of(replica.tasks(), "description") {
-        Some(text) => Ok(text.len()),
-        None => Err(Fail::new("no description")),
-    }
-}
-
-#[test]
-fn a_line_of_a_hundred_words_is_one_description(rt: HostRuntime) -> Result<(), Fail> {
-    let alloc = rt.alloc();
-    let words = "w ".repeat(alloc, 98)?;
-    let line = format!(in alloc; "add {}w", words)?;
-    let mut disk = with_adds(alloc, &[line.as_str()])?;
-    assert_eq!(rt; description_len(alloc, &mut disk)?, 2 * 98 + 1);
-    Ok(())
 }

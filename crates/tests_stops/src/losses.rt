@@ -204,3 +204,45 @@ fn three_machines_agree_whatever_was_lost(rt: HostRuntime) -> Result<(), Fail> {
     assert_eq!(rt; losses_so_far(rt.alloc())?, LOSSES.len());
     Ok(())
 }
+
+// Both change the task, the lap before the desk, whose version the sync of the lap pulls by the exchanges 7 and 8.
+const OVERTAKEN: [Row; 4] = [
+    (On::Desk, 100, "1|modify|project:Home", MODIFIED),
+    (On::Lap, 50, "1|modify|project:Work", MODIFIED),
+    (On::Desk, 1_000, "sync", TWO_PUSHED),
+    (On::Lap, 1_000, "sync", Then::LinkFault),
+];
+
+const ALL_DROPPED: &str = "Synced: 1 pulled, 2 dropped, 0 pushed.\n";
+
+const NONE_LEFT: &str = "Synced: 0 pulled, 0 dropped, 0 pushed.\n";
+
+// What is lost of these exchanges, and what the next sync of the lap prints.
+const DROPS: [(u8, Fate, &str); 4] = [
+    (7, Fate::LoseRequest, ALL_DROPPED),
+    (7, Fate::LoseReply, ALL_DROPPED),
+    (8, Fate::LoseRequest, NONE_LEFT),
+    (8, Fate::LoseReply, NONE_LEFT),
+];
+
+// Whether the sync of the lap goes on so, and both hold the latest change.
+fn is_dropped(alloc: Global, number: u8, fate: Fate, text: &'static str) -> Result<bool, Fail> {
+    let mut world = world_with(alloc, number, &[], fate)?;
+    world.follow_all(&[&SHARED, &OVERTAKEN, &[synced(On::Lap, text)]])?;
+    Ok(world.agrees(1_000)? && world.has_at_lap("project", "Home")?)
+}
+
+fn drops_so_far(alloc: Global) -> Result<usize, Fail> {
+    for (place, (number, fate, text)) in DROPS.iter().enumerate() {
+        if !is_dropped(alloc, *number, *fate, text)? {
+            return Ok(place);
+        }
+    }
+    Ok(DROPS.len())
+}
+
+#[test]
+fn a_change_that_is_overtaken_is_dropped_whatever_was_lost(rt: HostRuntime) -> Result<(), Fail> {
+    assert_eq!(rt; drops_so_far(rt.alloc())?, DROPS.len());
+    Ok(())
+}

@@ -3,31 +3,38 @@
 use crate::stores::SECOND;
 use std::alloc::Global;
 use std::test::Fail;
-use tests_machine::{Ended, Given, On, Row, SETTINGS, Then, World, disk_of, image_of, run_given};
+use tests_machine::{
+    Ended, Exchange, Given, On, Row, SETTINGS, Then, World, disk_of, image_of, run_given,
+};
 use tw_cli::Cause;
+use tw_server::Fate;
 use tw_world::MemoryDisk;
 
 const NOTHING: &str = "Synced: 0 pulled, 0 dropped, 0 pushed.\n";
 
-// A sync of the lap after some lines, and what the next sync prints if this one left the store as it was: `unsent` if the server
-// has no version of it, and `again` if it has all. In the end the server has so many versions.
+// A sync of the lap after some lines over these exchanges, and what the next sync prints: `unsent` if the server has no version of
+// the lap, and `again` if it has all, each after one that left the store as it was and after one that wrote its record. In the end
+// the server has so many versions.
 #[derive(Clone, Copy)]
 struct Sync {
+    exchanges: &'static [Exchange],
     lines: &'static [Row],
-    unsent: &'static str,
-    again: &'static str,
+    unsent: [&'static str; 2],
+    again: [&'static str; 2],
     versions: usize,
 }
 
 // One sync pushes a version. The other pulls one, by which what is pending is dropped.
 const SYNCS: [Sync; 2] = [
     Sync {
+        exchanges: &[],
         lines: &[(On::Lap, SECOND, "add|Buy|milk", Then::Done)],
-        unsent: "Synced: 0 pulled, 0 dropped, 5 pushed.\n",
-        again: "Synced: 1 pulled, 5 dropped, 0 pushed.\n",
+        unsent: ["Synced: 0 pulled, 0 dropped, 5 pushed.\n", NOTHING],
+        again: ["Synced: 1 pulled, 5 dropped, 0 pushed.\n", NOTHING],
         versions: 1,
     },
     Sync {
+        exchanges: &[],
         lines: &[
             (On::Desk, 10, "add|Buy|milk", Then::Done),
             (On::Desk, SECOND, "sync", Then::Done),
@@ -36,11 +43,47 @@ const SYNCS: [Sync; 2] = [
             (On::Lap, 50, "1|modify|project:Work", Then::Done),
             (On::Desk, SECOND, "sync", Then::Done),
         ],
-        unsent: "Synced: 1 pulled, 2 dropped, 0 pushed.\n",
-        again: "Synced: 1 pulled, 2 dropped, 0 pushed.\n",
+        unsent: ["Synced: 1 pulled, 2 dropped, 0 pushed.\n", NOTHING],
+        again: ["Synced: 1 pulled, 2 dropped, 0 pushed.\n", NOTHING],
         versions: 2,
     },
 ];
+
+// An exchange that arrives.
+const ARRIVES: Exchange = (&[], Fate::Deliver);
+
+// One pulls a version, and what it sends is lost: the tenth exchange.
+const CUT: [Sync; 1] = [Sync {
+    exchanges: &[
+        ARRIVES,
+        ARRIVES,
+        ARRIVES,
+        ARRIVES,
+        ARRIVES,
+        ARRIVES,
+        ARRIVES,
+        ARRIVES,
+        ARRIVES,
+        (&[], Fate::LoseRequest),
+    ],
+    lines: &[
+        (On::Desk, 10, "add|Buy|milk", Then::Done),
+        (On::Desk, SECOND, "sync", Then::Done),
+        (On::Lap, SECOND, "sync", Then::Done),
+        (On::Desk, 100, "1|modify|project:Home", Then::Done),
+        (On::Lap, 200, "1|modify|project:Work", Then::Done),
+        (On::Desk, SECOND, "sync", Then::Done),
+    ],
+    unsent: [
+        "Synced: 1 pulled, 0 dropped, 2 pushed.\n",
+        "Synced: 0 pulled, 0 dropped, 2 pushed.\n",
+    ],
+    again: [
+        "Synced: 2 pulled, 2 dropped, 0 pushed.\n",
+        "Synced: 1 pulled, 2 dropped, 0 pushed.\n",
+    ],
+    versions: 3,
+}];
 
 const DESK_SYNCS: [Row; 1] = [(On::Desk, SECOND, "sync", Then::Done)];
 
@@ -58,20 +101,24 @@ fn synced(world: &mut World, disk: &mut MemoryDisk, out_fails: &[u64]) -> Result
     )
 }
 
+fn is_one_of(said: Option<&[u8]>, one: &str, other: &str) -> bool {
+    said == Some(one.as_bytes()) || said == Some(other.as_bytes())
+}
+
 impl Sync {
     // The machines after the lines.
     fn world(&self, alloc: Global) -> Result<World, Fail> {
-        let mut world = World::new(alloc, &[])?;
+        let mut world = World::new(alloc, self.exchanges)?;
         world.follow(self.lines)?;
         Ok(world)
     }
 
-    // Whether this is how a sync ends after this one, which was done or else may have left the store as it was.
+    // Whether this is how a sync ends after this one, which wrote its record or else may have left the store as it was.
     fn is_next(&self, ended: &Ended, is_done: bool) -> bool {
+        let [unsent, unsent_then] = self.unsent;
+        let [again, again_then] = self.again;
         let said = ended.said();
-        said == Some(NOTHING.as_bytes())
-            || !is_done
-                && (said == Some(self.unsent.as_bytes()) || said == Some(self.again.as_bytes()))
+        is_one_of(said, unsent_then, again_then) || !is_done && is_one_of(said, unsent, again)
     }
 
     // Whether the lap goes on so with these bytes, and then both machines agree and no version is there twice.
@@ -150,18 +197,19 @@ impl Sync {
 }
 
 // How many of the syncs outlive each stop, up to the first that does not.
-fn stopped_so_far(alloc: Global) -> Result<usize, Fail> {
-    for (number, sync) in SYNCS.iter().enumerate() {
+fn stopped_so_far(alloc: Global, syncs: &[Sync]) -> Result<usize, Fail> {
+    for (number, sync) in syncs.iter().enumerate() {
         if !sync.outlives_stops(alloc)? {
             return Ok(number);
         }
     }
-    Ok(SYNCS.len())
+    Ok(syncs.len())
 }
 
 #[test]
 fn a_sync_goes_on_after_a_stop(rt: HostRuntime) -> Result<(), Fail> {
-    assert_eq!(rt; stopped_so_far(rt.alloc())?, SYNCS.len());
+    assert_eq!(rt; stopped_so_far(rt.alloc(), &SYNCS)?, SYNCS.len());
+    assert_eq!(rt; stopped_so_far(rt.alloc(), &CUT)?, CUT.len());
     Ok(())
 }
 

@@ -1,4 +1,4 @@
-use crate::model::is_update;
+use crate::model::edits::is_update;
 use crate::transform::{are, operations};
 use std::alloc::Global;
 use std::test::Fail;

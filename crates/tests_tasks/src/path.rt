@@ -1,5 +1,5 @@
 use crate::groups::{are_groups, groups, one_task};
-use crate::model::is_update;
+use crate::model::edits::is_update;
 use crate::transform::{are, operations};
 use std::alloc::Global;
 use std::test::Fail;

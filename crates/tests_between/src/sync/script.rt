@@ -24,6 +24,10 @@ const SECOND: &str =
      {\"operations\":[{\"Update\":{\"property\":\"colour\",\"timestamp\":\"2023-11-14T22:13:20Z\",\
      \"uuid\":\"00000000-0000-4000-8000-000000000007\",\"value\":\"green\"}}]}";
 
+const ADDED_FIRST: &str =
+    "HTTP/1.1 200 OK\r\nContent-Length: 0\r\nX-Version-Id: 00000000-0000-4000-8000-000000000001\r\n\
+     X-Snapshot-Request: urgency=high\r\n\r\n";
+
 const ADDED_SECOND: &str =
     "HTTP/1.1 200 OK\r\nContent-Length: 0\r\nX-Version-Id: 00000000-0000-4000-8000-000000000002\r\n\r\n";
 
@@ -43,12 +47,17 @@ const AFTER_FIRST: &str = "GET /v1/client/get-child-version/00000000-0000-4000-8
 
 const AFTER_SECOND: &str = "GET /v1/client/get-child-version/00000000-0000-4000-8000-000000000002 ";
 
+const ADD_FIRST: &str = "POST /v1/client/add-version/00000000-0000-0000-0000-000000000000 ";
+
+const OFFER_FIRST: &str = "POST /v1/client/add-snapshot/00000000-0000-4000-8000-000000000001 ";
+
 const ADD_SECOND: &str = "POST /v1/client/add-version/00000000-0000-4000-8000-000000000001 ";
 
 const ADD_THIRD: &str = "POST /v1/client/add-version/00000000-0000-4000-8000-000000000002 ";
 
-// What is asked, and the reply, which is empty if the way fails: while versions are pulled, while batches are sent, before an undo, and from a snapshot.
-const STEPS: [[&str; 2]; 23] = [
+// What is asked, and the reply, which is empty if the way fails: while versions are pulled, while batches are sent, before an undo,
+// from a snapshot, and if one is wanted.
+const STEPS: [[&str; 2]; 26] = [
     [SNAPSHOT, NO_MORE],
     [FROM_START, FIRST],
     [AFTER_FIRST, ""],
@@ -72,11 +81,15 @@ const STEPS: [[&str; 2]; 23] = [
     [AFTER_SECOND, NO_MORE],
     [SNAPSHOT, AT_FIRST],
     [AFTER_FIRST, NO_MORE],
+    [FROM_START, NO_MORE],
+    [ADD_FIRST, ADDED_FIRST],
+    [OFFER_FIRST, ""],
 ];
 
-/// A link that takes these steps. What is asked otherwise is gone.
+/// A link that brings one reply each time, or takes these steps. An empty reply is a failure, and what is asked otherwise is gone.
 #[derive(Drop)]
 pub(super) struct Script {
+    each: Option<&'static str>,
     pub(super) at: usize,
     pub(super) exchanges: u64,
     faults: u64,
@@ -105,7 +118,10 @@ impl Link for Script {
 
     fn exchange(&mut self, request: &[u8], reply: &mut Vec<u8>) -> Result<(), LinkError> {
         self.exchanges = self.exchanges.saturating_add(1);
-        let text = reply_of(request, self.at);
+        let text = match self.each {
+            Some(text) => text,
+            None => reply_of(request, self.at),
+        };
         self.at = self.at.saturating_add(1);
         if text.is_empty() {
             self.faults = self.faults.saturating_add(1);
@@ -134,7 +150,17 @@ fn reply_of(request: &[u8], at: usize) -> &'static str {
 
 pub(super) fn from_step(at: usize) -> Script {
     Script {
+        each: None,
         at,
+        exchanges: 0,
+        faults: 0,
+    }
+}
+
+pub(super) fn always(reply: &'static str) -> Script {
+    Script {
+        each: Some(reply),
+        at: 0,
         exchanges: 0,
         faults: 0,
     }

@@ -59,3 +59,22 @@ fn a_thousand_tasks_are_no_want_of_memory(rt: HostRuntime) -> Result<(), Fail> {
     );
     Ok(())
 }
+
+// How long the description of the first task is.
+fn description_len(alloc: Global, disk: &mut MemoryDisk) -> Result<usize, Fail> {
+    let replica = opened(alloc, disk)?;
+    match property_of(replica.tasks(), "description") {
+        Some(text) => Ok(text.len()),
+        None => Err(Fail::new("no description")),
+    }
+}
+
+#[test]
+fn a_line_of_a_hundred_words_is_one_description(rt: HostRuntime) -> Result<(), Fail> {
+    let alloc = rt.alloc();
+    let words = "w ".repeat(alloc, 98)?;
+    let line = format!(in alloc; "add {}w", words)?;
+    let mut disk = with_adds(alloc, &[line.as_str()])?;
+    assert_eq!(rt; description_len(alloc, &mut disk)?, 2 * 98 + 1);
+    Ok(())
+}

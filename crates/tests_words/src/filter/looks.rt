@@ -1,5 +1,6 @@
 // How many tasks a selection looks at: those of the first tag, status or project among the parts of one `and`, or all.
-use super::{made_places, made_tasks, now, task_of, uuid_ending, words_of};
+use super::tasks::{made_places, made_tasks, now, task_of, uuid_ending};
+use super::words_of;
 use std::alloc::Global;
 use std::test::Fail;
 use tw_filter::{Looks, read_filter, select};

@@ -1,6 +1,6 @@
-// Words of one filter each: each modifier over each kind of attribute, tags, id words and texts, and some words in
-// other zones. Each row has the zone's rule, the word, and the tasks that a reading of the grammar by recursive descent
-// in another language selects, or the kind and the number of the first bad word.
+// Words of one filter each: each modifier over each kind of attribute. Each row has the zone's rule, the word, and the
+// tasks that a reading of the grammar by recursive descent in another language selects, or the kind and the number of the
+// first bad word.
 pub const WORDS: &str = "|description:milk|8
 |description:|49
 |description.none:milk|49
@@ -228,80 +228,4 @@ pub const WORDS: &str = "|description:milk|8
 |project|
 |project.a.b:x|Modifier 0
 |.is:x|
-|:x|
-|milk|134678
-|Milk|
-|mil|134678
-|hidden|
-|Bring|4
-||12345678
-|+shop|12
-|-shop|3456789
-|+next|4
-|-next|12356789
-|+été|7
-|+1x|
-|+|
-|-|
-|--shop|
-|+PENDING|168
-|-PENDING|234579
-|+WAITING|2
-|-WAITING|13456789
-|+COMPLETED|3
-|+DELETED|4
-|+ACTIVE|6
-|-ACTIVE|12345789
-|+OVERDUE|6
-|-OVERDUE|12345789
-|+BLOCKED|68
-|-BLOCKED|1234579
-|+BLOCKING|16
-|-BLOCKING|2345789
-|+TAGGED|1247
-|-TAGGED|35689
-|+ANNOTATED|4
-|-ANNOTATED|12356789
-|+pending|
-|+RECURRING|
-|1|3
-|2|
-|6|
-|8|6
-|5|
-|1-8|12369
-|9|
-|0|
-|01|3
-|00|
-|1-4|123
-|4-1|
-|1,3-4|123
-|1,,2|
-|1,2,|
-|1-2-3|
-|-1|
-|1234567890|
-|123456789|
-|1-999999999|12369
-|00000000-0000-4000-8000-000000000002|2
-|00000000-0000-4000-8000-000000000006|6
-|00000000-0000-4000-8000-000000000050|
-|00000000-0000-4000-8000-00000000000|
-|1,00000000-0000-4000-8000-000000000002|
-EST5EDT,M3.2.0,M11.1.0|due:2026-03-04|126
-EST5EDT,M3.2.0,M11.1.0|due:today|126
-EST5EDT,M3.2.0,M11.1.0|due.before:today|5
-EST5EDT,M3.2.0,M11.1.0|scheduled:2026-03-04|8
-EST5EDT,M3.2.0,M11.1.0|entry:2026-03-03|23
-EST5EDT,M3.2.0,M11.1.0|end:yesterday|4
-EST5EDT,M3.2.0,M11.1.0|due.is:2026-03-04T15:45|
-EST5EDT,M3.2.0,M11.1.0|wait:2026-03-04|28
-<+0545>-5:45|due:2026-03-04|156
-<+0545>-5:45|due:today|156
-<+0545>-5:45|due.before:today|
-<+0545>-5:45|scheduled:2026-03-04|28
-<+0545>-5:45|entry:2026-03-03|
-<+0545>-5:45|end:yesterday|3
-<+0545>-5:45|due.is:2026-03-04T15:45|
-<+0545>-5:45|wait:2026-03-04|28";
+|:x|";
