@@ -81,7 +81,7 @@ fn an_added_task_is_a_segment_of_656_bytes(rt: HostRuntime) -> Result<(), Fail> 
 }
 
 // Each text, with the fault for which it is refused, if it is.
-const TEXTS: [(&str, Option<SegmentError>); 12] = [
+const TEXTS: [(&str, Option<SegmentError>); 13] = [
     (
         "{\"operations\":[{\"Create\":{\"uuid\":\"00000000-0000-4000-8000-000000000001\"},\
          \"Delete\":{\"uuid\":\"00000000-0000-4000-8000-000000000001\"}}]}",
@@ -125,6 +125,12 @@ const TEXTS: [(&str, Option<SegmentError>); 12] = [
         " {\"more\":1,\
          \"operations\":[{\"Create\":{\"uuid\":\"00000000000040008000000000000001\",\
          \"more\":2}}]} ",
+        None,
+    ),
+    (
+        "{\"operations\":[{\"Update\":{\"property\":\"\\u0070\\n\",\
+         \"timestamp\":\"2023-11-14T22:13:20.000000000Z\",\
+         \"uuid\":\"00000000-0000-4000-8000-000000000001\",\"value\":\"\\\"\"}}]} ",
         None,
     ),
     (

@@ -26,7 +26,8 @@ no_odd_place (Some ds) ops index e f = let none = no_bad_place ds ops e in cc
 one_value : (bytes : List ℕ) (d e : Data) → IsJsonOf bytes d → IsJsonOf bytes e → d ≡ e
 one_value bytes d e a b = let same = sym a.1 ∙ b.1 in cc
 
-one_list : (bytes : List ℕ) (ops more : List SyncOp) → IsSegment bytes ops → IsSegment bytes more → ops ≡ more
+-- bytes are a segment of one list of operations alone
+pub one_list : (bytes : List ℕ) (ops more : List SyncOp) → IsSegment bytes ops → IsSegment bytes more → ops ≡ more
 one_list bytes ops more a b =
     let value = one_value bytes a.0 b.0 a.1 b.1 in
     let same = sym a.2 ∙ ap (λ d. list_of d >>= ops_of) value ∙ b.2 in

@@ -5,3 +5,4 @@ pub mod OpsBack
 pub mod Decimals
 pub mod TimestampFacts
 pub mod Exact
+pub mod InOrder

@@ -1,3 +1,4 @@
 pub mod Timestamp
 pub mod Segment
+pub mod Tokens
 pub mod Refusals

@@ -10,6 +10,7 @@ ghost use Rattle.tw_segment.specs.declared.error.SegmentError.TheVariants.{Memor
 ghost use Rattle.tw_segment.specs.Refusals.{IsUnread, IsUnshaped, IsUnparsed};
 
 use crate::error::SegmentError;
+use crate::in_order::read_in_order;
 use crate::timestamp::read_timestamp;
 use serde_json::Value;
 use serde_json::error::Category;
@@ -21,7 +22,8 @@ use uuid::Uuid;
 /// The operations of a segment (the TaskChampion book, "Synchronization Protocol", under "History
 /// Segment"). Other keys than those of the format are passed over, and a missing value is null. The
 /// faults are looked for in this order: more than 16,777,216 bytes, no JSON text, and an operation
-/// that is none.
+/// that is none. If the keys are those that are written, in that order, it takes room for as many
+/// bytes as the text has, beside the operations. Any other text is first made a tree of its values.
 pub fn read_segment(alloc: Global, bytes: &[u8]) -> Result<Vec<SyncOp>, SegmentError>
     ensures ok { IfOk result (λ ops. IsSegment bytes.now ops.items) }
     ensures within { IfOk result (λ ops. length bytes.now ≤ max_len) }
@@ -32,6 +34,9 @@ pub fn read_segment(alloc: Global, bytes: &[u8]) -> Result<Vec<SyncOp>, SegmentE
     let len = bytes.len() as u64;
     if len > 16_777_216 {
         return Err(SegmentError::TooLong { bytes: len });
+    }
+    if let Some(ops) = read_in_order(alloc, bytes)? {
+        return Ok(ops);
     }
     let value = read_json(alloc, bytes)?;
     segment_ops(alloc, &value)
@@ -159,7 +164,7 @@ fn uuid_in(value: &Value) -> Option<Uuid>
 }
 
 #[tactic(auto, using(crate::proofs::Options::none_unless))]
-fn read_uuid(text: &str) -> Option<Uuid>
+pub(crate) fn read_uuid(text: &str) -> Option<Uuid>
     ensures { result ≡ parsed text.now }
 {
     match Uuid::parse_str(text) {
@@ -197,7 +202,7 @@ fn text_in<'a>(value: &'a Value, key: &str) -> Option<&'a str>
     value.get(key)?.as_str()
 }
 
-fn copied(alloc: Global, value: Option<&str>) -> Result<Option<Text>, Memory>
+pub(crate) fn copied(alloc: Global, value: Option<&str>) -> Result<Option<Text>, Memory>
     ensures { IfOk result (λ t. t ≡ option_map (λ s. s.now) value.entry) }
 {
     match value {
