@@ -25,28 +25,59 @@ module _ (all rest : List Token) (u : List ℕ) (at : UuidAt all u (end_object �
   pub delete_at : NamedAt (codes "Delete") all (Delete u) rest
   delete_at = (json.member (codes "uuid") (json.string at.0) json.no_members, one (codes "uuid") (value.string at.0), at.1, refl, delete_of at.0 u at.2, omega arith)
 
--- the members of an update in order
-abbrev update_json : List ℕ → List ℕ → List ℕ → json.Json → json.Members
-update_json p s t v =
+abbrev property_is : List ℕ → List Token → List Token
+property_is p ts = key (codes "property") ∷ string p ∷ ts
+
+abbrev timestamp_is : List ℕ → List Token → List Token
+timestamp_is s ts = key (codes "timestamp") ∷ string s ∷ ts
+
+abbrev uuid_is : List ℕ → List Token → List Token
+uuid_is t ts = key (codes "uuid") ∷ string t ∷ ts
+
+abbrev value_is : Token → List Token → List Token
+value_is v ts = key (codes "value") ∷ v ∷ ts
+
+-- the members of an update in byte order, and as they are declared
+abbrev in_byte_order : List ℕ → List ℕ → List ℕ → json.Json → json.Members
+in_byte_order p s t v =
     json.member (codes "property") (json.string p) (json.member (codes "timestamp") (json.string s) (json.member (codes "uuid") (json.string t) (json.member (codes "value") v json.no_members)))
 
-module _ (all mid next more rest : List Token) (p : List ℕ) (at : Moment) (u : List ℕ) (begun : all ≡ key (codes "property") ∷ string p ∷ mid) (stamped : MomentAt mid at next) (named : UuidAt next u more) where
-  front : all ≡ key (codes "property") ∷ string p ∷ key (codes "timestamp") ∷ string stamped.0 ∷ key (codes "uuid") ∷ string named.0 ∷ more
-  front = begun ∙ ap (λ ts. key (codes "property") ∷ string p ∷ ts) (stamped.1 ∙ ap (λ ts. key (codes "timestamp") ∷ string stamped.0 ∷ ts) named.1)
+abbrev as_declared : List ℕ → List ℕ → List ℕ → json.Json → json.Members
+as_declared p s t v =
+    json.member (codes "uuid") (json.string t) (json.member (codes "property") (json.string p) (json.member (codes "value") v (json.member (codes "timestamp") (json.string s) json.no_members)))
 
-  pub update_at : (v : Option (List ℕ)) → more ≡ key (codes "value") ∷ data_tokens (value_data v) ++ end_object ∷ rest → NamedAt (codes "Update") all (Update u p v at) rest
-  update_at None e = (
-    update_json p stamped.0 named.0 json.null,
+module _ (all mid next more rest : List Token) (p : List ℕ) (at : Moment) (u : List ℕ) where
+  pub update_at : all ≡ property_is p mid → MomentAt mid at next → UuidAt next u more → (v : Option (List ℕ)) → more ≡ key (codes "value") ∷ data_tokens (value_data v) ++ end_object ∷ rest → NamedAt (codes "Update") all (Update u p v at) rest
+  update_at begun stamped named None e = (
+    in_byte_order p stamped.0 named.0 json.null,
     update_members p stamped.0 named.0 value.null,
-    front ∙ ap (λ ts. key (codes "property") ∷ string p ∷ key (codes "timestamp") ∷ string stamped.0 ∷ key (codes "uuid") ∷ string named.0 ∷ ts) e,
+    begun ∙ ap (property_is p) (stamped.1 ∙ ap (timestamp_is stamped.0) (named.1 ∙ ap (uuid_is named.0) e)),
     refl,
     update_of p stamped.0 named.0 u None at named.2 stamped.2,
     omega arith,
   )
-  update_at (Some v) e = (
-    update_json p stamped.0 named.0 (json.string v),
+  update_at begun stamped named (Some v) e = (
+    in_byte_order p stamped.0 named.0 (json.string v),
     update_members p stamped.0 named.0 (value.string v),
-    front ∙ ap (λ ts. key (codes "property") ∷ string p ∷ key (codes "timestamp") ∷ string stamped.0 ∷ key (codes "uuid") ∷ string named.0 ∷ ts) e,
+    begun ∙ ap (property_is p) (stamped.1 ∙ ap (timestamp_is stamped.0) (named.1 ∙ ap (uuid_is named.0) e)),
+    refl,
+    update_of p stamped.0 named.0 u (Some v) at named.2 stamped.2,
+    omega arith,
+  )
+
+  pub declared_at : UuidAt all u mid → mid ≡ property_is p next → (v : Option (List ℕ)) → next ≡ key (codes "value") ∷ data_tokens (value_data v) ++ more → MomentAt more at (end_object ∷ rest) → NamedAt (codes "Update") all (Update u p v at) rest
+  declared_at named begun None e stamped = (
+    as_declared p stamped.0 named.0 json.null,
+    update_members p stamped.0 named.0 value.null,
+    named.1 ∙ ap (uuid_is named.0) (begun ∙ ap (property_is p) (e ∙ ap (value_is Token.null) stamped.1)),
+    refl,
+    update_of p stamped.0 named.0 u None at named.2 stamped.2,
+    omega arith,
+  )
+  declared_at named begun (Some v) e stamped = (
+    as_declared p stamped.0 named.0 (json.string v),
+    update_members p stamped.0 named.0 (value.string v),
+    named.1 ∙ ap (uuid_is named.0) (begun ∙ ap (property_is p) (e ∙ ap (value_is (string v)) stamped.1)),
     refl,
     update_of p stamped.0 named.0 u (Some v) at named.2 stamped.2,
     omega arith,

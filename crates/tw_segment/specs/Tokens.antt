@@ -41,8 +41,10 @@ NamedAt name all op rest =
 
 -- the JSON value of an operation
 abbrev pub OpAt : List Token → SyncOp → List Token → Type 0
-OpAt all op rest = (j : json.Json) × (d : Data) × (all ≡ json_tokens j ++ rest) × (of_json j ≡ Some d) × (op_of d ≡ Some op) × (depth j ≤ 2)
+OpAt all op rest =
+    (j : json.Json) × (d : Data) × (all ≡ json_tokens j ++ rest) × (of_json j ≡ Some d) × (op_of d ≡ Some op) × (depth j ≤ 2)
 
 -- the JSON values of operations, with the bracket that closes their list
 abbrev pub OpsAt : List Token → List SyncOp → List Token → Type 0
-OpsAt all ops rest = (js : json.Items) × (ds : Items) × (all ≡ items_tokens js ++ rest) × (of_items js ≡ Some ds) × (ops_of ds ≡ Some ops) × (items_depth js ≤ 2)
+OpsAt all ops rest =
+    (js : json.Items) × (ds : Items) × (all ≡ items_tokens js ++ rest) × (of_items js ≡ Some ds) × (ops_of ds ≡ Some ops) × (items_depth js ≤ 2)

@@ -1,12 +1,17 @@
-// Segments read token by token, with no tree of their values. These are texts whose keys come in the order in which they are written.
-ghost use Rattle.std.specs.Prelude.{◌≡◌, ◌++◌, ◌∷◌, [], true, codes, Some, IfOk, IfSome, option_map};
+// Segments read token by token, with no tree of their values. These are texts whose keys come in the order in which this program or
+// TaskChampion writes them.
+ghost use Rattle.std.specs.Prelude.{◌≡◌, ◌∷◌, codes, Some, IfOk, IfSome, option_map};
 ghost use Rattle.std.specs.Str.{IsUtf8};
-ghost use Rattle.json.specs.Token.{begin_object, end_object, begin_array, key, string};
-ghost use Rattle.tw_segment.specs.Segment.{value_data, IsSegment};
-ghost use Rattle.tw_segment.specs.Tokens.{data_tokens, UuidAt, MomentAt, NamedAt, OpAt, OpsAt};
+ghost use Rattle.json.specs.Token.{key};
+ghost use Rattle.tw_model.specs.declared.SyncOp.TheVariants.{Update};
+ghost use Rattle.tw_segment.specs.Segment.{IsSegment};
+ghost use Rattle.tw_segment.specs.Tokens.{NamedAt, OpAt, OpsAt};
 
-use crate::reading::{copied, read_uuid};
-use crate::timestamp::read_timestamp;
+use crate::reading::copied;
+use crate::taking::{
+    take_end, take_finish, take_last_moment, take_last_value, take_moment, take_name,
+    take_only_uuid, take_start, take_string, take_text, take_uuid, take_uuid_text, take_value,
+};
 use json::{Reader, Scratch, Token};
 use std::alloc::Global;
 use tw_model::SyncOp;
@@ -43,20 +48,6 @@ fn read_text(alloc: Global, text: &str) -> Result<Option<Vec<SyncOp>>, Memory>
     }
 }
 
-// Takes what is before the operations.
-fn take_start(reader: &mut Reader<'_>) -> bool
-    ensures { result ≡ true → reader.old ≡ begin_object ∷ key (codes "operations") ∷ begin_array ∷ reader.new }
-{
-    take_object(reader) && take_key(reader, "operations") && take_array(reader)
-}
-
-// Takes what is after them, if nothing more is there.
-fn take_finish(reader: &mut Reader<'_>) -> bool
-    ensures { result ≡ true → reader.old ≡ end_object ∷ [] }
-{
-    take_end(reader) && reader.next().is_none()
-}
-
 // The operations up to the bracket that closes their list.
 fn read_ops(alloc: Global, reader: &mut Reader<'_>) -> Result<Option<Vec<SyncOp>>, Memory>
     ensures { IfOk result (λ ops. IfSome ops (λ v. OpsAt reader.old v.items reader.new)) }
@@ -89,25 +80,6 @@ fn read_op(alloc: Global, reader: &mut Reader<'_>) -> Result<Option<SyncOp>, Mem
     }
 }
 
-// The name of an operation, up to the brace that opens its members.
-fn take_name<'a>(reader: &mut Reader<'a>) -> Option<&'a str>
-    ensures { IfSome result (λ name. reader.old ≡ begin_object ∷ key name.now ∷ begin_object ∷ reader.new) }
-{
-    if !take_object(reader) {
-        return None;
-    }
-    match reader.next() {
-        Some(Token::Key(name)) => {
-            if take_object(reader) {
-                Some(name)
-            } else {
-                None
-            }
-        }
-        _ => None,
-    }
-}
-
 // The operation of that name, up to the brace that closes its members.
 fn read_named(alloc: Global, reader: &mut Reader<'_>, name: &str) -> Result<Option<SyncOp>, Memory>
     ensures { IfOk result (λ o. IfSome o (λ op. NamedAt name.now reader.old op reader.new)) }
@@ -134,10 +106,26 @@ fn read_delete(reader: &mut Reader<'_>) -> Option<SyncOp>
     Some(SyncOp::Delete { uuid })
 }
 
+// The members of an update, by the key that comes first: this program writes them in byte order, and
+// TaskChampion as it declares them.
 fn read_update(alloc: Global, reader: &mut Reader<'_>) -> Result<Option<SyncOp>, Memory>
     ensures { IfOk result (λ o. IfSome o (λ op. NamedAt (codes "Update") reader.old op reader.new)) }
 {
-    let Some(property) = take_property(reader) else {
+    let Some(Token::Key(first)) = reader.next() else {
+        return Ok(None);
+    };
+    match first {
+        "property" => read_in_byte_order(alloc, reader),
+        "uuid" => read_as_declared(alloc, reader),
+        _ => Ok(None),
+    }
+}
+
+// What comes after the key of the property.
+fn read_in_byte_order(alloc: Global, reader: &mut Reader<'_>) -> Result<Option<SyncOp>, Memory>
+    ensures { IfOk result (λ o. IfSome o (λ op. NamedAt (codes "Update") (key (codes "property") ∷ reader.old) op reader.new)) }
+{
+    let Some(property) = take_string(reader) else {
         return Ok(None);
     };
     let Some(at) = take_moment(reader) else {
@@ -149,6 +137,37 @@ fn read_update(alloc: Global, reader: &mut Reader<'_>) -> Result<Option<SyncOp>,
     let Some(value) = take_last_value(reader) else {
         return Ok(None);
     };
+    update_of(alloc, uuid, property, value, at)
+}
+
+// What comes after the key of the uuid.
+fn read_as_declared(alloc: Global, reader: &mut Reader<'_>) -> Result<Option<SyncOp>, Memory>
+    ensures { IfOk result (λ o. IfSome o (λ op. NamedAt (codes "Update") (key (codes "uuid") ∷ reader.old) op reader.new)) }
+{
+    let Some(uuid) = take_uuid_text(reader) else {
+        return Ok(None);
+    };
+    let Some(property) = take_text(reader, "property") else {
+        return Ok(None);
+    };
+    let Some(value) = take_value(reader) else {
+        return Ok(None);
+    };
+    let Some(at) = take_last_moment(reader) else {
+        return Ok(None);
+    };
+    update_of(alloc, uuid, property, value, at)
+}
+
+fn update_of(
+    alloc: Global,
+    uuid: Uuid,
+    property: &str,
+    value: Option<&str>,
+    at: Moment,
+) -> Result<Option<SyncOp>, Memory>
+    ensures { IfOk result (λ o. o ≡ Some (Update uuid property.now (option_map (λ s. s.now) value.entry) at)) }
+{
     let property = Text::from_str(alloc, property)?;
     let value = copied(alloc, value)?;
     Ok(Some(SyncOp::Update {
@@ -157,103 +176,4 @@ fn read_update(alloc: Global, reader: &mut Reader<'_>) -> Result<Option<SyncOp>,
         value,
         at,
     }))
-}
-
-fn take_property<'a>(reader: &mut Reader<'a>) -> Option<&'a str>
-    ensures { IfSome result (λ s. reader.old ≡ key (codes "property") ∷ string s.now ∷ reader.new) }
-{
-    take_text(reader, "property")
-}
-
-fn take_moment(reader: &mut Reader<'_>) -> Option<Moment>
-    ensures { IfSome result (λ at. MomentAt reader.old at reader.new) }
-{
-    read_timestamp(take_text(reader, "timestamp")?)
-}
-
-fn take_uuid(reader: &mut Reader<'_>) -> Option<Uuid>
-    ensures { IfSome result (λ uuid. UuidAt reader.old uuid reader.new) }
-{
-    read_uuid(take_text(reader, "uuid")?)
-}
-
-// The uuid, if no other member is there, and the brace.
-fn take_only_uuid(reader: &mut Reader<'_>) -> Option<Uuid>
-    ensures { IfSome result (λ uuid. UuidAt reader.old uuid (end_object ∷ reader.new)) }
-{
-    let uuid = take_uuid(reader)?;
-    if take_end(reader) { Some(uuid) } else { None }
-}
-
-// The value, or none for null, if it is the last member, and the brace.
-fn take_last_value<'a>(reader: &mut Reader<'a>) -> Option<Option<&'a str>>
-    ensures { IfSome result (λ v. reader.old ≡ key (codes "value") ∷ data_tokens (value_data (option_map (λ s. s.now) v)) ++ end_object ∷ reader.new) }
-{
-    let value = take_value(reader)?;
-    if take_end(reader) { Some(value) } else { None }
-}
-
-fn take_value<'a>(reader: &mut Reader<'a>) -> Option<Option<&'a str>>
-    ensures { IfSome result (λ v. reader.old ≡ key (codes "value") ∷ data_tokens (value_data (option_map (λ s. s.now) v)) ++ reader.new) }
-{
-    if !take_key(reader, "value") {
-        return None;
-    }
-    match reader.next() {
-        Some(Token::Null) => Some(None),
-        Some(Token::String(text)) => Some(Some(text)),
-        _ => None,
-    }
-}
-
-// The text under a key.
-fn take_text<'a>(reader: &mut Reader<'a>, name: &str) -> Option<&'a str>
-    ensures { IfSome result (λ s. reader.old ≡ key name.now ∷ string s.now ∷ reader.new) }
-{
-    if !take_key(reader, name) {
-        return None;
-    }
-    match reader.next() {
-        Some(Token::String(text)) => Some(text),
-        _ => None,
-    }
-}
-
-fn take_key(reader: &mut Reader<'_>, name: &str) -> bool
-    ensures { result ≡ true → reader.old ≡ key name.now ∷ reader.new }
-{
-    match reader.next() {
-        Some(Token::Key(found)) => found == name,
-        _ => false,
-    }
-}
-
-// Takes the brace that opens an object.
-fn take_object(reader: &mut Reader<'_>) -> bool
-    ensures { result ≡ true → reader.old ≡ begin_object ∷ reader.new }
-{
-    match reader.next() {
-        Some(Token::BeginObject) => true,
-        _ => false,
-    }
-}
-
-// Takes the brace that closes one.
-fn take_end(reader: &mut Reader<'_>) -> bool
-    ensures { result ≡ true → reader.old ≡ end_object ∷ reader.new }
-{
-    match reader.next() {
-        Some(Token::EndObject) => true,
-        _ => false,
-    }
-}
-
-// Takes the bracket that opens a list.
-fn take_array(reader: &mut Reader<'_>) -> bool
-    ensures { result ≡ true → reader.old ≡ begin_array ∷ reader.new }
-{
-    match reader.next() {
-        Some(Token::BeginArray) => true,
-        _ => false,
-    }
 }

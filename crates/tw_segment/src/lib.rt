@@ -6,6 +6,7 @@
 mod error;
 mod in_order;
 mod reading;
+mod taking;
 mod timestamp;
 mod writing;
 
