@@ -1,8 +1,9 @@
 use crate::groups::{are_groups, groups, one_task};
 use crate::model::edits::is_update;
-use crate::transform::{are, operations};
+use crate::transform::operations;
 use std::alloc::Global;
 use std::test::Fail;
+use tw_bodies::SyncOps;
 use tw_groups::pending_on;
 use tw_model::{Op, SyncOp, Tasks};
 use tw_path::{Batch, Walker, first_batch};
@@ -15,7 +16,7 @@ use uuid::Uuid;
 // The walker of a replica with these tasks, which are changed by the groups that are pending on them.
 fn started(alloc: Global, hand: &mut Tasks, pending: &str) -> Result<Walker, Memory> {
     let ops = pending_on(alloc, hand, &groups(alloc, pending)?)?;
-    Walker::start(alloc, hand, Uuid::nil(), &ops)
+    Walker::start(alloc, hand, Uuid::nil(), ops)
 }
 
 fn pull(alloc: Global, walker: &mut Walker, hand: &Tasks, version: &str) -> Result<(), Memory> {
@@ -40,10 +41,17 @@ const PULLED: [[&str; 4]; 5] = [
     ["D1", "C1 U1aX30 C3", "D1", "C3"],
 ];
 
+// Whether these are the operations of a text.
+fn are_carried(alloc: Global, ops: &SyncOps, text: &str) -> Result<bool, Memory> {
+    let mut wanted = SyncOps::new(alloc);
+    wanted.append(&operations(alloc, text)?)?;
+    Ok(ops.as_bytes() == wanted.as_bytes())
+}
+
 fn is_pulled(alloc: Global, row: &[&str; 4]) -> Result<bool, Memory> {
     let walker = pulled(alloc, row[0], row[1])?;
     let left = are_groups(alloc, &walker.left, row[2])?;
-    let carried = are(alloc, &walker.carried, row[3])?;
+    let carried = are_carried(alloc, &walker.carried, row[3])?;
     Ok(left && carried && walker.at == Uuid::from_u128(7))
 }
 
@@ -91,7 +99,7 @@ fn carried_beside(alloc: Global, pending: usize, others: usize) -> Result<usize,
     groups.push(creates(alloc, 1, pending)?)?;
     let mut hand = Tasks::new(alloc);
     let ops = pending_on(alloc, &mut hand, &groups)?;
-    let mut walker = Walker::start(alloc, &hand, Uuid::nil(), &ops)?;
+    let mut walker = Walker::start(alloc, &hand, Uuid::nil(), ops)?;
     let version = creates(alloc, 1_000_000, others)?;
     walker.pull(alloc, &hand, Uuid::from_u128(7), &version)?;
     Ok(walker.into_carried().len())
@@ -140,7 +148,7 @@ fn is_first(alloc: Global, counts: &[usize], whole: usize, part: usize) -> Resul
     let all = length_of(&left);
     let batch = first_batch(alloc, &left)?;
     let sent = batch.sent(alloc, &left)?.len();
-    batch.take_from(&mut left)?;
+    batch.take_from(&mut left);
     let is_whole = sent.saturating_add(length_of(&left)) == all;
     Ok(is_whole && batch.whole == whole && batch.part == part)
 }

@@ -7,3 +7,6 @@ pub mod TaskSpelled
 pub mod OpsSpelled
 pub mod StateSpelled
 pub mod StepSpelled
+pub mod ReadSome
+pub mod RunsRead
+pub mod SyncOpsHeld

@@ -2,14 +2,14 @@
 use Rattle.std.proofs.Common.{◌≡◌, ℕ, ◌+◌, ◌^◌, ◌<◌, ◌≤◌, Bool, true, false, List, [], ◌∷◌, ◌++◌, length, Some, refl, sym, ap, ◌∙◌, arith}
 use Rattle.std.specs.List.{flat_map, AllByRecursion}
 use Rattle.std.specs.Int.{w32, to_be_bytes}
-use Rattle.std.proofs.lemmas.List.{append-nil, length-append}
+use Rattle.std.proofs.lemmas.List.{append-nil, append_assoc, length-append}
 use Rattle.tw_model.specs.declared.Op.{Op}
 use Rattle.tw_model.specs.declared.SyncOp.{SyncOp}
 use Rattle.tw_bodies.specs.Body.{Step, op_bytes, ops_bytes, sync_op_bytes, sync_ops_bytes, flag_byte, body_of, is_group, IsOp, IsSyncOp, IsStep}
 use Rattle.tw_fields.specs.Fields.{IsUuid}
 use Rattle.tw_bodies.specs.Body.Step.{Commit, Undo, Sync, Carried, Partial, Checkpoint}
-use Rattle.tw_bodies.specs.Reading.{op_at, group_of, commit_of, sync_op_at, sync_of, carried_of, partial_of, step_of}
-use Rattle.tw_fields.specs.Reading.{many_at, counted_at}
+use Rattle.tw_bodies.specs.Reading.{op_at, group_of, commit_of, sync_op_at, sync_of, carried_of, all_ops_of, partial_of, step_of}
+use Rattle.tw_fields.specs.Reading.{number_at, many_at, counted_at}
 use Rattle.tw_fields.proofs.FieldsAgain.{four_again, uuid_again, many_again, few}
 use Rattle.tw_bodies.proofs.StateAgain.{counted_again, checkpoint_again}
 use Rattle.tw_bodies.proofs.OpsAgain.{op_again, op_has_bytes, sync_op_again, sync_op_has_bytes}
@@ -51,6 +51,12 @@ carried_again base ops is all lt =
     let rest : many_at sync_op_at (length ops) spelled ≡ Some (ops, []) = ap (many_at sync_op_at (length ops)) (sym (append-nil spelled)) ∙ many_again sync_op_at sync_op_bytes IsSyncOp sync_op_again ops [] all (omega arith) in
     rw (uuid_again base counted is, four_again (length ops) spelled (omega arith), rest) refl
 
+all_ops_again : (ops : List Op) → AllByRecursion IsOp ops → length (flat_map op_bytes ops) < 2 ^ 32 → all_ops_of (ops_bytes ops) ≡ Some ops
+unfolding all_ops_of
+all_ops_again ops is lt =
+    let read : counted_at op_at (ops_bytes ops) ≡ Some (ops, []) = ap (counted_at op_at) (sym (append-nil (ops_bytes ops))) ∙ counted_again op_at op_bytes IsOp op_again op_has_bytes ops [] is lt in
+    rw read refl
+
 partial_again : (base : List ℕ) (ops : List SyncOp) (pending : List Op) → IsStep (Partial base ops pending) → length (base ++ (sync_ops_bytes ops ++ ops_bytes pending)) < 2 ^ 32
     → partial_of (base ++ (sync_ops_bytes ops ++ ops_bytes pending)) ≡ Some (Partial base ops pending)
 unfolding partial_of
@@ -61,8 +67,10 @@ partial_again base ops pending is lt =
     let l2 : length d ≡ length (sync_ops_bytes ops) + length a = length-append (sync_ops_bytes ops) a in
     let l3 : length (sync_ops_bytes ops) ≡ 4 + length (flat_map sync_op_bytes ops) = length-append (to_be_bytes w32 (length ops)) (flat_map sync_op_bytes ops) in
     let l4 : length a ≡ 4 + length (flat_map op_bytes pending) = length-append (to_be_bytes w32 (length pending)) (flat_map op_bytes pending) in
-    let last : counted_at op_at a ≡ Some (pending, []) = ap (counted_at op_at) (sym (append-nil a)) ∙ counted_again op_at op_bytes IsOp op_again op_has_bytes pending [] is.2 (omega arith) in
-    rw (uuid_again base d is.0, counted_again sync_op_at sync_op_bytes IsSyncOp sync_op_again sync_op_has_bytes ops a is.1 (omega arith), last) refl
+    let spelled = flat_map sync_op_bytes ops in
+    let few_ops : length ops ≤ length spelled = few sync_op_at sync_op_bytes IsSyncOp sync_op_again ops sync_op_has_bytes in
+    let number : number_at w32 d ≡ Some (length ops, spelled ++ a) = ap (number_at w32) (append_assoc (to_be_bytes w32 (length ops)) spelled a) ∙ four_again (length ops) (spelled ++ a) (omega arith) in
+    rw (uuid_again base d is.0, number, many_again sync_op_at sync_op_bytes IsSyncOp sync_op_again ops a is.1 (omega arith), all_ops_again pending is.2 (omega arith)) refl
 
 -- what was written of a step that fits a record is read again
 pub step_again : (step : Step) → IsStep step → length (body_of step) < 2 ^ 32 → step_of (body_of step) ≡ Some step

@@ -3,13 +3,13 @@ use Rattle.std.proofs.Common.{◌≡◌, ℕ, zero, suc, ◌<◌, Bool, true, fa
 use Rattle.std.specs.List.{flat_map, AllByRecursion}
 use Rattle.std.specs.Int.{w32, to_be_bytes}
 use Rattle.std.proofs.lemmas.Bool.{and_parts, ltb-false, ltb-true}
-use Rattle.std.proofs.lemmas.List.{get_or_past, append-nil}
+use Rattle.std.proofs.lemmas.List.{get_or_past, append-nil, append_assoc}
 use Rattle.std.proofs.lemmas.List.Elements.{All-get_or}
 use Rattle.std.proofs.lemmas.Option.{same_Some, cond_some}
 use Rattle.tw_model.specs.declared.Op.{Op}
 use Rattle.tw_bodies.specs.Body.{Step, op_bytes, ops_bytes, sync_op_bytes, sync_ops_bytes, flag_byte, is_group, IsOp, IsSyncOp}
 use Rattle.tw_bodies.specs.Body.Step.{Commit, Undo, Sync, Carried, Partial}
-use Rattle.tw_bodies.specs.Reading.{op_at, group_of, commit_of, sync_op_at, sync_of, carried_of, partial_of, step_of}
+use Rattle.tw_bodies.specs.Reading.{op_at, group_of, commit_of, sync_op_at, sync_of, carried_of, all_ops_of, partial_of, step_of}
 use Rattle.tw_fields.specs.Reading.{◌>>=◌}
 use Rattle.tw_bodies.specs.Spelling.{ReadIsSpelled}
 use Rattle.tw_fields.proofs.FieldsSpelled.{bind_some, AreBytes, bytes_tail, none_left, four_spelled, uuid_spelled, many_spelled}
@@ -81,20 +81,33 @@ carried_spelled bytes step are e =
     let here : SpellsStep (4 ∷ bytes) (Carried u.0.0 ops) = (ap (λ (l : List ℕ). 4 ∷ l) spelled, (uuid.1, many.1.0)) in
     subst (SpellsStep (4 ∷ bytes)) w.1 here
 
+all_ops_spelled : (bytes : List ℕ) (ops : List Op) → AreBytes bytes → all_ops_of bytes ≡ Some ops → (bytes ≡ ops_bytes ops) × AllByRecursion IsOp ops
+unfolding all_ops_of
+all_ops_spelled bytes ops are e =
+    let p = bind_some _ _ ops e in
+    let pending = counted_spelled op_at op_bytes IsOp op_spelled bytes p.0 are p.1 in
+    let w = cond_some _ _ ops p.2 in
+    let spelled : bytes ≡ ops_bytes p.0.0 = pending.0 ∙ ap (λ (l : List ℕ). ops_bytes p.0.0 ++ l) (none_left p.0.1 w.0) ∙ append-nil (ops_bytes p.0.0) in
+    let here : (bytes ≡ ops_bytes p.0.0) × AllByRecursion IsOp p.0.0 = (spelled, pending.1) in
+    subst (λ (l : List Op). (bytes ≡ ops_bytes l) × AllByRecursion IsOp l) w.1 here
+
 partial_spelled : (rest : List ℕ) (step : Step) → AreBytes rest → partial_of rest ≡ Some step → SpellsStep (6 ∷ rest) step
 unfolding partial_of
 partial_spelled bytes step are e =
     let u = bind_some _ _ step e in
-    let o = bind_some _ _ step u.2 in
+    let n = bind_some _ _ step u.2 in
+    let o = bind_some _ _ step n.2 in
     let p = bind_some _ _ step o.2 in
     let uuid = uuid_spelled bytes u.0 are u.1 in
-    let ops = counted_spelled sync_op_at sync_op_bytes IsSyncOp sync_op_spelled u.0.1 o.0 uuid.2 o.1 in
-    let pending = counted_spelled op_at op_bytes IsOp op_spelled o.0.1 p.0 ops.2 p.1 in
-    let w = cond_some _ _ step p.2 in
-    let spelled : bytes ≡ u.0.0 ++ (sync_ops_bytes o.0.0 ++ ops_bytes p.0.0) =
-    uuid.0 ∙ ap (λ (l : List ℕ). u.0.0 ++ l) (ops.0 ∙ ap (λ (l : List ℕ). sync_ops_bytes o.0.0 ++ l) (pending.0 ∙ ap (λ (l : List ℕ). ops_bytes p.0.0 ++ l) (none_left p.0.1 w.0) ∙ append-nil (ops_bytes p.0.0))) in
-    let here : SpellsStep (6 ∷ bytes) (Partial u.0.0 o.0.0 p.0.0) = (ap (λ (l : List ℕ). 6 ∷ l) spelled, (uuid.1, ops.1, pending.1)) in
-    subst (SpellsStep (6 ∷ bytes)) w.1 here
+    let number = four_spelled u.0.1 n.0 uuid.2 n.1 in
+    let many = many_spelled sync_op_at sync_op_bytes IsSyncOp sync_op_spelled n.0.0 n.0.1 o.0 number.2 o.1 in
+    let pending = all_ops_spelled o.0.1 p.0 many.2 p.1 in
+    let ops = o.0.0 in
+    let spelled : bytes ≡ u.0.0 ++ (sync_ops_bytes ops ++ ops_bytes p.0) =
+    uuid.0 ∙ ap (λ (l : List ℕ). u.0.0 ++ l) (number.0 ∙ ap (λ (l : List ℕ). to_be_bytes w32 n.0.0 ++ l) (many.0 ∙ ap (λ (l : List ℕ). flat_map sync_op_bytes ops ++ l) pending.0)
+    ∙ ap (λ (k : ℕ). to_be_bytes w32 k ++ (flat_map sync_op_bytes ops ++ ops_bytes p.0)) (sym many.1.1) ∙ sym (append_assoc (to_be_bytes w32 (length ops)) (flat_map sync_op_bytes ops) (ops_bytes p.0))) in
+    let here : SpellsStep (6 ∷ bytes) (Partial u.0.0 ops p.0) = (ap (λ (l : List ℕ). 6 ∷ l) spelled, (uuid.1, many.1.0, pending.1)) in
+    subst (SpellsStep (6 ∷ bytes)) (same_Some _ step p.2) here
 
 step_spelled : (body : List ℕ) (step : Step) → AreBytes body → step_of body ≡ Some step → SpellsStep body step
 unfolding step_of

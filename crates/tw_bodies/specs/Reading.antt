@@ -110,21 +110,38 @@ sync_of bytes = do
   n ← number_at w32 base.1
   sync_in base.0 n.0 n.1
 
--- the version and the operations of a sync in place, which end with the bytes
+-- a sync in place that leads to this version, by so many operations, which end with the bytes
+abbrev pub carried_in : (base : List ℕ) (count : ℕ) (bytes : List ℕ) → Option Step
+carried_in base count bytes = do
+  ops ← many_at sync_op_at count bytes
+  if length ops.1 == 0 then Some (Carried base ops.0) else None
+
+-- the version and the operations of a sync in place
 unfoldable pub carried_of : List ℕ → Option Step
 carried_of bytes = do
   base ← uuid_at bytes
   n ← number_at w32 base.1
-  ops ← many_at sync_op_at n.0 n.1
-  if length ops.1 == 0 then Some (Carried base.0 ops.0) else None
+  carried_in base.0 n.0 n.1
 
--- the version, the operations and what is pending of a sync that was cut short, which end with the bytes
+-- operations after their number, which end with the bytes
+unfoldable pub all_ops_of : List ℕ → Option (List Op)
+all_ops_of bytes = do
+  ops ← counted_at op_at bytes
+  if length ops.1 == 0 then Some ops.0 else None
+
+-- a sync that was cut short at this version, with so many operations, and what is pending after them
+abbrev pub partial_in : (base : List ℕ) (count : ℕ) (bytes : List ℕ) → Option Step
+partial_in base count bytes = do
+  ops ← many_at sync_op_at count bytes
+  pending ← all_ops_of ops.1
+  Some (Partial base ops.0 pending)
+
+-- the version, the operations and what is pending of a sync that was cut short
 unfoldable pub partial_of : List ℕ → Option Step
 partial_of bytes = do
   base ← uuid_at bytes
-  ops ← counted_at sync_op_at base.1
-  pending ← counted_at op_at ops.1
-  if length pending.1 == 0 then Some (Partial base.0 ops.0 pending.0) else None
+  n ← number_at w32 base.1
+  partial_in base.0 n.0 n.1
 
 unfoldable pub place_at : List ℕ → Option (Option (List ℕ) × List ℕ)
 place_at [] = None

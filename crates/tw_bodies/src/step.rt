@@ -13,7 +13,7 @@ use crate::state::read_checkpoint;
 use crate::sync_op::{read_carried, read_sync};
 use std::alloc::Global;
 use tw_fields::{ReadError, put_count, u32_at};
-use tw_model::{Op, SyncOp, Tasks};
+use tw_model::{Op, Tasks};
 use tw_world::Memory;
 use uuid::Uuid;
 
@@ -59,7 +59,7 @@ pub fn read_group(alloc: Global, bytes: &[u8]) -> Result<Vec<Op>, ReadError>
     }
 }
 
-/// A step that was read. The operations of a sync and those that are pending on a whole state may be many, and are read as they are applied.
+/// A step that was read. The operations of a sync and those that are pending on a whole state may be many, and are read later.
 #[derive(Drop)]
 pub enum Read<'a> {
     Commit {
@@ -74,12 +74,14 @@ pub enum Read<'a> {
     },
     Carried {
         base: [u8; 16],
-        ops: Vec<SyncOp>,
+        count: u32,
+        ops: &'a [u8],
     },
+    /// What is pending comes after the operations.
     Partial {
         base: [u8; 16],
-        ops: Vec<SyncOp>,
-        pending: Vec<Op>,
+        count: u32,
+        ops: &'a [u8],
     },
     Checkpoint {
         base: [u8; 16],
@@ -116,9 +118,9 @@ pub fn read_step(alloc: Global, bytes: &[u8]) -> Result<Read<'_>, ReadError>
         [1, rest @ ..] => read_commit(alloc, rest),
         [2] => Ok(Read::Undo),
         [3, rest @ ..] => read_sync(rest),
-        [4, rest @ ..] => read_carried(alloc, rest),
+        [4, rest @ ..] => read_carried(rest),
         [5, rest @ ..] => read_checkpoint(alloc, rest),
-        [6, rest @ ..] => read_partial(alloc, rest),
+        [6, rest @ ..] => read_partial(rest),
         _ => Err(ReadError::Malformed),
     }
 }

@@ -3,7 +3,7 @@ ghost use Rattle.std.specs.Prelude.{◌≡◌, ◌++◌, ◌∷◌, IfOk, OnOk, 
 ghost use Rattle.std.specs.List.{flat_map, AllByRecursion};
 ghost use Rattle.tw_bodies.specs.Body.{sync_op_bytes, sync_update_bytes, body_of, IsSyncOp, IsStep};
 ghost use Rattle.tw_fields.specs.Fields.{IsText, IsUuid};
-ghost use Rattle.tw_bodies.specs.Body.Step.{Sync, Carried};
+ghost use Rattle.tw_bodies.specs.Body.Step.{Sync};
 ghost use Rattle.tw_bodies.specs.Views.{IsRead};
 ghost use Rattle.tw_bodies.specs.Reading.{sync_create_at, sync_delete_at, sync_update_at, sync_op_at, sync_of, carried_of};
 ghost use Rattle.tw_fields.specs.Reading.{Gives, many_at};
@@ -57,7 +57,7 @@ fn read_update(alloc: Global, bytes: &[u8]) -> Result<(SyncOp, &[u8]), ReadError
 }
 
 #[tactic(auto, unfolding(crate::specs::Reading::sync_op_at))]
-fn read_sync_op(alloc: Global, bytes: &[u8]) -> Result<(SyncOp, &[u8]), ReadError>
+pub(crate) fn read_sync_op(alloc: Global, bytes: &[u8]) -> Result<(SyncOp, &[u8]), ReadError>
     ensures { Gives (λ x. (x.0, x.1.now)) result (sync_op_at bytes.now) }
 {
     match bytes {
@@ -96,19 +96,14 @@ pub(crate) fn read_sync(bytes: &[u8]) -> Result<Read<'_>, ReadError>
     Ok(Read::Sync { base, count, ops })
 }
 
-/// The version and the operations of a sync in place, of the body after its first byte.
+/// What a sync in place brought, of the body after its first byte. The operations are not read yet.
 #[tactic(auto, unfolding(crate::specs::Reading::carried_of))]
-pub(crate) fn read_carried(alloc: Global, bytes: &[u8]) -> Result<Read<'_>, ReadError>
+pub(crate) fn read_carried(bytes: &[u8]) -> Result<Read<'_>, ReadError>
     ensures { IsRead result (carried_of bytes.now) }
 {
     let (base, rest) = read_uuid(bytes)?;
-    let (count, rest) = u32_at(rest)?;
-    let (ops, rest) = read_sync_ops(alloc, count, rest)?;
-    if rest.len() == 0 {
-        Ok(Read::Carried { base, ops })
-    } else {
-        Err(ReadError::Malformed)
-    }
+    let (count, ops) = u32_at(rest)?;
+    Ok(Read::Carried { base, count, ops })
 }
 
 fn put_update(
@@ -128,7 +123,7 @@ fn put_update(
     put_moment(out, at)
 }
 
-fn put_sync_op(out: &mut Vec<u8>, op: &SyncOp) -> Result<(), Memory>
+pub(crate) fn put_sync_op(out: &mut Vec<u8>, op: &SyncOp) -> Result<(), Memory>
     ensures put { OnOk result (out.new.items ≡ out.old.items ++ sync_op_bytes op.now) }
     ensures is { OnOk result (IsSyncOp op.now) }
 {
@@ -167,19 +162,6 @@ pub fn sync_body(alloc: Global, base: &Uuid, ops: &Vec<SyncOp>) -> Result<Vec<u8
 {
     let mut body = Vec::new(alloc);
     body.push(3)?;
-    put_uuid(&mut body, base)?;
-    put_count(&mut body, ops.len())?;
-    put_sync_ops(&mut body, ops)?;
-    Ok(body)
-}
-
-/// The body of the record of a sync in place.
-pub fn carried_body(alloc: Global, base: &Uuid, ops: &Vec<SyncOp>) -> Result<Vec<u8>, Memory>
-    ensures body { IfOk result (λ body. body.items ≡ body_of (Carried base.now ops.now.items)) }
-    ensures is { OnOk result (IsStep (Carried base.now ops.now.items)) }
-{
-    let mut body = Vec::new(alloc);
-    body.push(4)?;
     put_uuid(&mut body, base)?;
     put_count(&mut body, ops.len())?;
     put_sync_ops(&mut body, ops)?;

@@ -103,7 +103,7 @@ impl Machine {
         ensures { IfOk result (λ bytes. bytes ≡ length (segment_text (first is_batch (groups_of (held_state self.now.replica).pending)))) }
     {
         let ops = self.replica.pending().ops(alloc)?;
-        let left = groups_of(alloc, &ops)?;
+        let left = groups_of(alloc, ops)?;
         let batch = first_batch(alloc, &left)?;
         let sent = batch.sent(alloc, &left)?;
         match write_segment(alloc, &sent) {

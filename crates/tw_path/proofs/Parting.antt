@@ -1,96 +1,55 @@
--- Groups as they are read from pending operations.
-use Rattle.std.proofs.Common.{◌≡◌, ℕ, ◌+◌, ◌<◌, ◌≤◌, List, [], ◌∷◌, ◌++◌, Option, Some, None, is_none, true, false, length, drop, get_or, refl, sym, ap, ◌∙◌}
-use Rattle.std.proofs.lemmas.List.{append-nil, append_assoc, drop_more, drop_all}
+-- Groups as they are made of pending operations, from the last one on.
+use Rattle.std.proofs.Common.{◌≡◌, List, [], ◌∷◌, ◌++◌, Some, None, refl, sym, ap, ◌∙◌}
+use Rattle.std.specs.Prelude.{reverse}
+use Rattle.std.proofs.lemmas.List.{append-nil, append_assoc, reverse-append}
 use Rattle.std.specs.Global.{Vec}
 use Rattle.tw_model.specs.LocalOps.{synced}
 use Rattle.tw_model.specs.declared.Op.{Op}
-use Rattle.tw_model.specs.declared.Op.TheVariants.{UndoPoint}
 use Rattle.tw_model.specs.declared.SyncOp.{SyncOp}
 use Rattle.tw_groups.specs.Groups.{Groups, put_in_front, parts_of, groups_of}
 use Rattle.tw_groups.specs.Held.{groups_in}
+use Rattle.tw_path.specs.Grouped.{parts_held}
 use Rattle.tw_path.proofs.Batching.{in-append}
 
-op_turn : (ops : List Op) (at : ℕ) (op : Op) → at < length ops → op ≡ get_or ops at op → drop at ops ≡ op ∷ drop (at + 1) ops
-op_turn ops at op inside is = drop_more ops at op inside ∙ ap (λ y. y ∷ drop (at + 1) ops) (sym is)
+-- groups in the other order
+turned : (vs : List (Vec SyncOp)) → groups_in (reverse vs) ≡ reverse (groups_in vs)
+turned [] = refl
+turned (v ∷ vs) =
+    ap groups_in (reverse-append (v ∷ []) vs) ∙ in-append (reverse vs) (v ∷ []) ∙ ap (λ gs. gs ++ v.items ∷ []) (turned vs) ∙ sym (reverse-append (v.items ∷ []) (groups_in vs))
 
--- one operation in front of the others
-pub parts_turn : (ops : List Op) (at : ℕ) (op : Op) (o : Option SyncOp) → at < length ops → op ≡ get_or ops at op → o ≡ synced op → parts_of (drop at ops) ≡ put_in_front o (parts_of (drop (at + 1) ops))
-parts_turn ops at op o inside is e = ap parts_of (op_turn ops at op inside is) ∙ ap (λ s. put_in_front s (parts_of (drop (at + 1) ops))) (sym e)
+-- ---- one operation more
 
-pub parts_end : (ops : List Op) (at : ℕ) → length ops ≤ at → parts_of (drop at ops) ≡ ([], [])
-parts_end ops at end = ap parts_of (drop_all at ops end)
+pub operation_put : (group now : List SyncOp) (groups : List (Vec SyncOp)) (op : SyncOp) → now ≡ group ++ op ∷ [] → parts_held now groups ≡ put_in_front (Some op) (parts_held group groups)
+operation_put group now groups op made =
+    ap (λ ops. parts_held ops groups) made ∙ ap (λ (ops : List SyncOp). (ops, reverse (groups_in groups))) (reverse-append group (op ∷ []))
 
--- ---- a group that grows
+-- an undo point
+pub group_ended : (group : List SyncOp) (groups now : List (Vec SyncOp)) (whole : Vec SyncOp) → whole.items ≡ reverse group → now ≡ groups ++ whole ∷ [] → parts_held [] now ≡ put_in_front None (parts_held group groups)
+group_ended group groups now whole is made =
+    ap (λ vs. parts_held [] vs) made
+    ∙ ap (λ (gs : Groups). ([], reverse gs)) (in-append groups (whole ∷ []))
+    ∙ ap (λ (gs : Groups). ([], gs)) (reverse-append (groups_in groups) (whole.items ∷ []))
+    ∙ ap (λ (g : List SyncOp). ([], g ∷ reverse (groups_in groups))) is
 
-module _ (ops : List Op) (at : ℕ) (group : List SyncOp) (all : List SyncOp × Groups) (grown : group ++ (parts_of (drop at ops)).0 ≡ all.0) (others : (parts_of (drop at ops)).1 ≡ all.1) where
-  pub grows : (x : SyncOp) (now : List SyncOp) → parts_of (drop at ops) ≡ put_in_front (Some x) (parts_of (drop (at + 1) ops)) → now ≡ group ++ x ∷ []
-      → (now ++ (parts_of (drop (at + 1) ops)).0 ≡ all.0) × ((parts_of (drop (at + 1) ops)).1 ≡ all.1)
-  grows x now e made = (
-    ap (λ zs. zs ++ (parts_of (drop (at + 1) ops)).0) made
-        ∙ append_assoc group (x ∷ []) (parts_of (drop (at + 1) ops)).0
-        ∙ ap (λ (p : List SyncOp × Groups). group ++ p.0) (sym e)
-        ∙ grown,
-    ap (λ (p : List SyncOp × Groups). p.1) (sym e) ∙ others,
-  )
+-- ---- all of them
 
-  -- nothing more is of it
-  grown_up : (parts_of (drop at ops)).0 ≡ [] → (group ≡ all.0) × (parts_of (drop at ops) ≡ ([], all.1))
-  grown_up none = (sym (append-nil group) ∙ ap (λ zs. group ++ zs) (sym none) ∙ grown, λ i. (none i, others i))
+-- what the code has are the parts of those after the ones that are still pending
+pub record IsParted (all pending : List Op) (group : List SyncOp) (groups : List (Vec SyncOp)) : Type 0 where
+  pub done : List Op
+  pub split : all ≡ pending ++ done
+  pub parts : parts_held group groups ≡ parts_of done
 
-  pub ends_here : (op : Op) → at < length ops → op ≡ get_or ops at op → None ≡ synced op → (group ≡ all.0) × (parts_of (drop at ops) ≡ ([], all.1))
-  ends_here op inside is none = grown_up (ap (λ (p : List SyncOp × Groups). p.0) (parts_turn ops at op None inside is none))
+pub none_parted : (all : List Op) (group : List SyncOp) (groups : List (Vec SyncOp)) → group ≡ [] → groups ≡ [] → IsParted all all group groups
+none_parted all group groups e f = record { done = []; split = sym (append-nil all); parts = λ i. parts_held (e i) (f i) }
 
-  pub ends_last : length ops ≤ at → (group ≡ all.0) × (parts_of (drop at ops) ≡ ([], all.1))
-  ends_last end = grown_up (ap (λ (p : List SyncOp × Groups). p.0) (parts_end ops at end))
+pub one_parted : (all pending left : List Op) (op : Op) (group more : List SyncOp) (groups others : List (Vec SyncOp)) → pending ≡ left ++ op ∷ []
+    → parts_held more others ≡ put_in_front (synced op) (parts_held group groups) → IsParted all pending group groups → IsParted all left more others
+one_parted all pending left op group more groups others e put s = record {
+  done = op ∷ s.done;
+  split = s.split ∙ ap (λ ops. ops ++ s.done) e ∙ append_assoc left (op ∷ []) s.done;
+  parts = put ∙ ap (put_in_front (synced op)) s.parts;
+}
 
--- ---- the groups after one another
-
--- what begins a list without operations before its first undo point is an undo point
-no_operation_first : (o : Option SyncOp) (parts : List SyncOp × Groups) → (put_in_front o parts).0 ≡ [] → o ≡ None
-no_operation_first None parts e = refl
-no_operation_first (Some x) parts e = absurd cc
-
-point_turn : (ops : List Op) (at : ℕ) → at < length ops → (parts_of (drop at ops)).0 ≡ [] → groups_of (drop at ops) ≡ (parts_of (drop (at + 1) ops)).0 ∷ (parts_of (drop (at + 1) ops)).1
-point_turn ops at inside none =
-    let op : Op = get_or ops at UndoPoint in
-    let more : List SyncOp × Groups = parts_of (drop (at + 1) ops) in
-    let split : parts_of (drop at ops) ≡ put_in_front (synced op) more = ap parts_of (drop_more ops at UndoPoint inside) in
-    let e : synced op ≡ None = no_operation_first (synced op) more (ap (λ (p : List SyncOp × Groups). p.0) (sym split) ∙ none) in
-    ap (λ (p : List SyncOp × Groups). p.1) split ∙ ap (λ o. (put_in_front o more).1) e
-
-pub one_more : (ops : List Op) (at : ℕ) (groups now : List (Vec SyncOp)) (group : Vec SyncOp) (after : ℕ) → at < length ops → (parts_of (drop at ops)).0 ≡ []
-    → group.items ≡ (parts_of (drop (at + 1) ops)).0 → (parts_of (drop after ops)).1 ≡ (parts_of (drop (at + 1) ops)).1 → now ≡ groups ++ group ∷ []
-    → groups_in groups ++ groups_of (drop at ops) ≡ groups_of ops → groups_in now ++ groups_of (drop after ops) ≡ groups_of ops
-one_more ops at groups now group after inside none first others made h =
-    ap (λ vs. groups_in vs ++ groups_of (drop after ops)) made
-    ∙ ap (λ gs. gs ++ groups_of (drop after ops)) (in-append groups (group ∷ []))
-    ∙ append_assoc (groups_in groups) (group.items ∷ []) (groups_of (drop after ops))
-    ∙ (λ i. groups_in groups ++ first i ∷ others i)
-    ∙ ap (λ gs. groups_in groups ++ gs) (sym (point_turn ops at inside none))
-    ∙ h
-
--- they are all
-pub all_grouped : (ops : List Op) (at : ℕ) (groups : Groups) → length ops ≤ at → groups ++ groups_of (drop at ops) ≡ groups_of ops → groups ≡ groups_of ops
-all_grouped ops at groups end h = sym (append-nil groups) ∙ ap (λ ds. groups ++ groups_of ds) (sym (drop_all at ops end)) ∙ h
-
--- ---- the first undo point
-
-pub point_is : (o : Option SyncOp) → is_none o ≡ true → o ≡ None
-point_is None e = refl
-point_is (Some x) e = cc
-
-pub point_here : (ops : List Op) (at : ℕ) (op : Op) (gs : Groups) → at < length ops → op ≡ get_or ops at op → is_none (synced op) ≡ true → groups_of (drop at ops) ≡ gs → parts_of (drop at ops) ≡ ([], gs)
-point_here ops at op gs inside is point h =
-    let e : parts_of (drop at ops) ≡ put_in_front None (parts_of (drop (at + 1) ops)) = parts_turn ops at op None inside is (sym (point_is (synced op) point)) in
-    λ i. (ap (λ (p : List SyncOp × Groups). p.0) e i, h i)
-
-skipped : (o : Option SyncOp) (parts : List SyncOp × Groups) → is_none o ≡ false → (put_in_front o parts).1 ≡ parts.1
-skipped None parts e = cc
-skipped (Some x) parts e = refl
-
-pub point_later : (ops : List Op) (at : ℕ) (op : Op) (gs : Groups) → at < length ops → op ≡ get_or ops at op → is_none (synced op) ≡ false → groups_of (drop at ops) ≡ gs → groups_of (drop (at + 1) ops) ≡ gs
-point_later ops at op gs inside is other h =
-    sym (skipped (synced op) (parts_of (drop (at + 1) ops)) other) ∙ ap (λ (p : List SyncOp × Groups). p.1) (sym (parts_turn ops at op (synced op) inside is refl)) ∙ h
-
-pub no_point : (ops : List Op) (at : ℕ) (gs : Groups) → length ops ≤ at → groups_of (drop at ops) ≡ gs → parts_of (drop at ops) ≡ ([], gs)
-no_point ops at gs end h = let e = parts_end ops at end in λ i. (ap (λ (p : List SyncOp × Groups). p.0) e i, h i)
+pub all_parted : (all pending : List Op) (group : List SyncOp) (groups : List (Vec SyncOp)) → pending ≡ [] → IsParted all pending group groups → groups_in (reverse groups) ≡ groups_of all
+all_parted all pending group groups none s =
+    turned groups ∙ ap (λ (p : List SyncOp × Groups). p.1) s.parts ∙ ap groups_of (sym (s.split ∙ ap (λ ops. ops ++ s.done) none))

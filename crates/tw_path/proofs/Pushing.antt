@@ -54,5 +54,5 @@ module _ (hand : TasksValue) (r : Reached) (v : Version) (ops : List SyncOp) (ba
     part = λ u e. ap (λ (t : TasksValue). get t u) tasks ∙ all_alike ops u old.tasks r.tasks (s.part u (ap (λ m. set.contains bytes_cmp m u) (sym mine) ∙ e));
     mine = λ u e. apart_then u (ap (λ m. set.contains bytes_cmp m u) (sym mine) ∙ e);
     left = left ∙ left_is batch old.left.items r.left s.left is;
-    carried = ap (λ c. c.items) carried ∙ s.carried;
+    carried = carried ∙ s.carried;
   }

@@ -166,7 +166,7 @@ starts hand w tells none no_task = record {
   mine = λ u e. tt;
 }
 
-pub starts_there : (hand : TasksValue) (base : List ℕ) (pending : List Op) (w : Walker) → IsBefore hand pending w → w.at ≡ base → groups_in w.left.items ≡ groups_of pending → w.carried.items ≡ []
+pub starts_there : (hand : TasksValue) (base : List ℕ) (pending : List Op) (w : Walker) → IsBefore hand pending w → w.at ≡ base → groups_in w.left.items ≡ groups_of pending → w.carried ≡ []
     → StandsAt hand (before_pending base hand pending) w
 starts_there hand base pending w s at left carried = record {
   at = at;

@@ -1,7 +1,7 @@
 -- A batch is copied, and let go.
 use Rattle.std.proofs.Common.{◌≡◌, ℕ, ◌+◌, ◌<◌, ◌≤◌, Bool, true, false, cond, List, [], ◌∷◌, ◌++◌, length, take, drop, get_or, refl, sym, ap, ◌∙◌, arith}
 use Rattle.std.specs.Prelude.{nat_eq, min}
-use Rattle.std.proofs.lemmas.List.{append-nil, append_assoc, take_all, take_min, drop_all, drop_min}
+use Rattle.std.proofs.lemmas.List.{append-nil, append_assoc, length-drop, take_all, take_min, take-append-le, drop_all, drop_min}
 use Rattle.std.specs.Global.{Vec}
 use Rattle.tw_model.specs.declared.SyncOp.{SyncOp}
 use Rattle.tw_groups.specs.Groups.{Groups, joined}
@@ -82,21 +82,28 @@ some_of : (ops : List SyncOp) (gs : Groups) → ¬ (length ops ≡ 0) → put_gr
 some_of [] gs e = absurd (e refl)
 some_of (op ∷ ops) gs e = refl
 
-module _ (part : ℕ) (vs now : List (Vec SyncOp)) (v others : Vec SyncOp) (count : ℕ) (some : nat_eq part 0 ≡ false) (inside : 0 < length vs) (is : v ≡ get_or vs 0 v) (left : now ≡ drop 1 vs)
+module _ (part : ℕ) (vs now : List (Vec SyncOp)) (v others : Vec SyncOp) (count : ℕ) (some : nat_eq part 0 ≡ false) (inside : 0 < length vs) (is : v ≡ get_or vs 0 v) (now_is : now ≡ others ∷ drop 1 vs)
     (few : count ≡ min part (length v.items)) (rest : others.items ≡ drop count v.items) where
-  behind : groups_in vs ≡ v.items ∷ groups_in now
-  behind = behind_turn vs 0 v inside is ∙ ap (λ ws. v.items ∷ groups_in ws) (sym left)
-
   rest_is : others.items ≡ drop part v.items
   rest_is = rest ∙ ap (λ n. drop n v.items) few ∙ drop_min part v.items
 
-  put : put_group others.items (groups_in now) ≡ cut_front part (groups_in vs)
-  put = ap (λ ops. put_group ops (groups_in now)) rest_is ∙ ap (λ gs. put_group (drop part (head_group gs)) (tail_groups gs)) (sym behind) ∙ some_front part (groups_in vs) some
+  put : put_group others.items (groups_in (drop 1 vs)) ≡ cut_front part (groups_in vs)
+  put =
+      ap (λ ops. put_group ops (groups_in (drop 1 vs))) rest_is
+      ∙ ap (λ gs. put_group (drop part (head_group gs)) (tail_groups gs)) (sym (behind_turn vs 0 v inside is))
+      ∙ some_front part (groups_in vs) some
 
   -- all of it is let go
-  pub front_gone : length others.items ≡ 0 → groups_in now ≡ cut_front part (groups_in vs)
-  front_gone e = ap (λ ops. put_group ops (groups_in now)) (sym (none_of others.items e)) ∙ put
+  pub front_gone : length others.items ≡ 0 → (new : List (Vec SyncOp)) → new ≡ drop 1 now → groups_in new ≡ cut_front part (groups_in vs)
+  front_gone e new made =
+      ap groups_in (made ∙ ap (drop 1) now_is) ∙ ap (λ ops. put_group ops (groups_in (drop 1 vs))) (sym (none_of others.items e)) ∙ put
 
   -- a part of it
-  pub front_left : ¬ (length others.items ≡ 0) → (new : List (Vec SyncOp)) → new ≡ others ∷ now → groups_in new ≡ cut_front part (groups_in vs)
-  front_left e new made = ap groups_in made ∙ sym (some_of others.items (groups_in now) e) ∙ put
+  pub front_left : ¬ (length others.items ≡ 0) → groups_in now ≡ cut_front part (groups_in vs)
+  front_left e = ap groups_in now_is ∙ sym (some_of others.items (groups_in (drop 1 vs)) e) ∙ put
+
+-- the first of a list are turned to its end, and cut off
+pub first_gone : {A : Type 0} (xs : List A) (count n : ℕ) → count ≤ length xs → n + count ≡ length xs → take n (drop count xs ++ take count xs) ≡ drop count xs
+first_gone xs count n le e =
+    let len = length-drop count xs in
+    take-append-le n (drop count xs) (take count xs) (omega (arith, len, e)) ∙ take_all n (drop count xs) (omega (arith, len, e))

@@ -115,7 +115,7 @@ module _ (hand : TasksValue) (r : Reached) (old new : Walker) (op : SyncOp) (s :
 
   -- it is about a task of pending
   pub stands_met : set.contains bytes_cmp old.mine (uuid_of op) ≡ true → new.tasks ≡ apply old.tasks op → groups_in new.left.items ≡ (cross (op ∷ []) (groups_in old.left.items)).1
-      → new.carried.items ≡ old.carried.items ++ (cross (op ∷ []) (groups_in old.left.items)).0 → StandsAt hand (over r op) new
+      → new.carried ≡ old.carried ++ (cross (op ∷ []) (groups_in old.left.items)).0 → StandsAt hand (over r op) new
   stands_met is tasks left carried = record {
     at = at ∙ s.at;
     there = there;
@@ -128,7 +128,7 @@ module _ (hand : TasksValue) (r : Reached) (old new : Walker) (op : SyncOp) (s :
   }
 
   -- it is about another
-  pub stands_apart : set.contains bytes_cmp old.mine (uuid_of op) ≡ false → new.tasks ≡ old.tasks → new.left ≡ old.left → new.carried.items ≡ old.carried.items ++ op ∷ [] → StandsAt hand (over r op) new
+  pub stands_apart : set.contains bytes_cmp old.mine (uuid_of op) ≡ false → new.tasks ≡ old.tasks → new.left ≡ old.left → new.carried ≡ old.carried ++ op ∷ [] → StandsAt hand (over r op) new
   stands_apart is tasks left carried =
       let none : cross (op ∷ []) r.left ≡ (op ∷ [], r.left) = cross_apart op r.left (s.mine (uuid_of op) is) in
       record {

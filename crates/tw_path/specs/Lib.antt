@@ -8,3 +8,4 @@ pub mod Presence
 pub mod Walk
 pub mod Sums
 pub mod Batch
+pub mod Grouped

@@ -25,7 +25,7 @@ pub record StandsAt (hand : TasksValue) (r : Reached) (w : Walker) : Type 0 wher
   pub part : (u : List ℕ) → set.contains bytes_cmp w.mine u ≡ true → get w.tasks u ≡ get r.tasks u
   pub mine : (u : List ℕ) → set.contains bytes_cmp w.mine u ≡ false → AreApart u (joined r.left)
   pub left : groups_in w.left.items ≡ r.left
-  pub carried : w.carried.items ≡ r.carried
+  pub carried : w.carried ≡ r.carried
 
 -- the place before operations that are pending: these are taken back from the tasks at hand, all their groups are left, and nothing is carried
 abbrev pub before_pending : List ℕ → TasksValue → List Op → Reached
@@ -47,12 +47,12 @@ pub record GainsCopy (hand : TasksValue) (v : Option (List ℕ)) (mine : set.BTr
 
 -- an operation is carried, and nothing else changes
 abbrev pub IsCarriedAlone : SyncOp → (old new : Walker) → Type 0
-IsCarriedAlone op old new = (new.tasks ≡ old.tasks) × (new.left ≡ old.left) × (new.carried.items ≡ old.carried.items ++ op ∷ [])
+IsCarriedAlone op old new = (new.tasks ≡ old.tasks) × (new.left ≡ old.left) × (new.carried ≡ old.carried ++ op ∷ [])
 
 -- an operation is applied, and crosses what is left
 abbrev pub IsCrossed : SyncOp → (old new : Walker) → Type 0
 IsCrossed op old new = (new.tasks ≡ apply old.tasks op) × (groups_in new.left.items ≡ (cross (op ∷ []) (groups_in old.left.items)).1)
-    × (new.carried.items ≡ old.carried.items ++ (cross (op ∷ []) (groups_in old.left.items)).0)
+    × (new.carried ≡ old.carried ++ (cross (op ∷ []) (groups_in old.left.items)).0)
 
 -- from each place at which it was it goes on to the place after a version with this id and these operations, if that is pulled
 abbrev pub GoesOverPull : TasksValue → (id : List ℕ) → List SyncOp → (old new : Walker) → Type 0

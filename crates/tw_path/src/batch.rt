@@ -1,5 +1,5 @@
 // What is sent first of groups.
-ghost use Rattle.std.specs.Prelude.{◌≡◌, ◌+◌, ◌<◌, ◌≤◌, ◌++◌, nat_le, min, true, false, length, take, IfOk, OnOk};
+ghost use Rattle.std.specs.Prelude.{◌≡◌, ◌+◌, ◌<◌, ◌≤◌, ◌++◌, nat_le, min, true, false, length, take, drop, IfOk, OnOk};
 ghost use Rattle.tw_groups.specs.Held.{groups_in};
 ghost use Rattle.tw_path.specs.Lengths.{op_len, ops_len, max_sum};
 ghost use Rattle.tw_path.specs.Sums.{IsSumWithin, IsFirstPart};
@@ -60,15 +60,13 @@ impl Batch {
         Ok(ops)
     }
 
-    /// Lets the operations that were sent go. For want of memory it may have let go some of them.
-    pub fn take_from(self, left: &mut Vec<Vec<SyncOp>>) -> Result<(), Memory>
-        ensures { OnOk result (groups_in left.new.items ≡ left_by self left.old.items) }
+    /// Lets the operations that were sent go, in place.
+    pub fn take_from(self, left: &mut Vec<Vec<SyncOp>>)
+        ensures { groups_in left.new.items ≡ left_by self left.old.items }
     {
         let whole = lesser(self.whole, left.len());
-        let mut others = left.split_off(whole)?;
-        take_front(&mut others, self.part)?;
-        *left = others;
-        Ok(())
+        let_go(left, whole);
+        take_front(left, self.part);
     }
 }
 
@@ -97,19 +95,28 @@ fn put_first(
 }
 
 // Lets the first operations of the first group go, and the group with them if they are all.
-fn take_front(groups: &mut Vec<Vec<SyncOp>>, part: usize) -> Result<(), Memory>
-    ensures { OnOk result (groups_in groups.new.items ≡ cut_front part (groups_in groups.old.items)) }
+fn take_front(groups: &mut Vec<Vec<SyncOp>>, part: usize)
+    ensures { groups_in groups.new.items ≡ cut_front part (groups_in groups.old.items) }
 {
     if part == 0 || groups.is_empty() {
-        return Ok(());
+        return;
     }
-    let mut front = groups.remove(0);
+    let front = &mut groups[0];
     let count = lesser(part, front.len());
-    let others = front.split_off(count)?;
-    if !others.is_empty() {
-        groups.insert(0, others)?;
+    let_go(front, count);
+    if front.is_empty() {
+        let_go(groups, 1);
     }
-    Ok(())
+}
+
+// Lets the first of a list go, and gives their memory back.
+fn let_go<T: Drop>(list: &mut Vec<T>, count: usize)
+    requires { count ≤ length list.old.items }
+    ensures { list.new.items ≡ drop count list.old.items }
+{
+    list.rotate_left(count);
+    list.truncate(list.len() - count);
+    list.shrink_to_fit();
 }
 
 // What is sent if a group, after so many whole ones, is too long with them.

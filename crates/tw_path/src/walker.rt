@@ -16,6 +16,7 @@ use crate::batch::Batch;
 use crate::presence::Presence;
 use std::alloc::Global;
 use std::collections::BTreeSet;
+use tw_bodies::SyncOps;
 use tw_groups::{cross, pending_on};
 use tw_model::{Op, SyncOp, Tasks};
 use tw_world::Memory;
@@ -34,7 +35,7 @@ pub struct Walker {
     /// The operations that are left, a group for each undo point.
     pub left: Vec<Vec<SyncOp>>,
     /// The operations that follow on the tasks at hand.
-    pub carried: Vec<SyncOp>,
+    pub carried: SyncOps,
 }
 
 // It is written out, so that a caller does not prove again how each part is dropped.
@@ -81,7 +82,7 @@ impl Walker {
         ensures { OnOk result (GoesOverPush id ops.now.items self.old self.new) }
     {
         apply_sent(alloc, &mut self.tasks, &mut self.there, ops)?;
-        batch.take_from(&mut self.left)?;
+        batch.take_from(&mut self.left);
         self.at = id;
         Ok(())
     }
@@ -95,7 +96,7 @@ impl Walker {
     }
 
     /// What is carried. All else is let go.
-    pub fn into_carried(self) -> Vec<SyncOp>
+    pub fn into_carried(self) -> SyncOps
         ensures { result ≡ self.carried }
     {
         let Walker {
@@ -154,13 +155,13 @@ impl Walker {
         ensures there { self.new.there ≡ self.old.there }
         ensures tasks { OnOk result (self.new.tasks ≡ apply self.old.tasks op.now) }
         ensures left { OnOk result (groups_in self.new.left.items ≡ (cross (op.now ∷ []) (groups_in self.old.left.items)).1) }
-        ensures carried { OnOk result (self.new.carried.items ≡ self.old.carried.items ++ (cross (op.now ∷ []) (groups_in self.old.left.items)).0) }
+        ensures carried { OnOk result (self.new.carried ≡ self.old.carried ++ (cross (op.now ∷ []) (groups_in self.old.left.items)).0) }
     {
         let _ = self.tasks.apply_sync(alloc, op)?;
         let mut one = Vec::new(alloc);
         one.push(op.copy(alloc)?)?;
         cross(&mut one, &mut self.left);
-        self.carried.append(&mut one)?;
+        self.carried.append(&one)?;
         Ok(())
     }
 
@@ -171,9 +172,9 @@ impl Walker {
         ensures there { self.new.there ≡ self.old.there }
         ensures tasks { self.new.tasks ≡ self.old.tasks }
         ensures left { self.new.left ≡ self.old.left }
-        ensures carried { OnOk result (self.new.carried.items ≡ self.old.carried.items ++ op.now ∷ []) }
+        ensures carried { OnOk result (self.new.carried ≡ self.old.carried ++ op.now ∷ []) }
     {
-        self.carried.push(op.copy(alloc)?)?;
+        self.carried.push(op)?;
         Ok(())
     }
 }

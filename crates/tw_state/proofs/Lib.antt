@@ -2,6 +2,8 @@ pub mod StatesReached
 pub mod LastUndoPoint
 mod RunsOfOps
 mod ReadInChunks
+mod RunsThatFit
+mod InPlace
 pub mod OthersUnchanged
 pub mod PartsTogether
 pub mod AlikeOnPart

@@ -9,7 +9,7 @@ use Rattle.std.proofs.lemmas.List.{append-nil, append_assoc, length-append, take
 use Rattle.tw_model.specs.declared.Op.{Op}
 use Rattle.tw_bodies.specs.Body.{Step, body_of, IsStep, is_undo_point, has_no_point, is_group}
 use Rattle.tw_bodies.specs.Body.Step.{Commit, Undo, Sync, Carried, Partial, Checkpoint}
-use Rattle.tw_bodies.specs.Reading.{op_at, group_of, commit_of, sync_op_at, sync_of, carried_of, partial_of, place_at, tasks_at, checkpoint_of, step_of}
+use Rattle.tw_bodies.specs.Reading.{op_at, group_of, commit_of, sync_op_at, sync_of, carried_of, all_ops_of, partial_of, place_at, tasks_at, checkpoint_of, step_of}
 use Rattle.tw_fields.specs.Reading.{◌>>=◌, number_at, uuid_at, many_at, counted_at}
 use Rattle.tw_state.specs.State.{in_front, split_group}
 use Rattle.tw_state.specs.Groups.{ops_or_none, group_in, groups_in, IsCounted, AreCounted, IsLastOf, IsLast}
@@ -216,11 +216,12 @@ in_partial : (found : List Op) (rest : List ℕ) (step : Step) → partial_of re
 unfolding partial_of
 in_partial found rest step e =
     let u = bind_some (uuid_at rest) _ step e in
-    let o = bind_some (counted_at sync_op_at u.0.1) _ step u.2 in
-    let p = bind_some (counted_at op_at o.0.1) _ step o.2 in
-    let made : Step = Partial u.0.0 o.0.0 p.0.0 in
+    let n = bind_some (number_at w32 u.0.1) _ step u.2 in
+    let o = bind_some (many_at sync_op_at n.0.0 n.0.1) _ step n.2 in
+    let p = bind_some (all_ops_of o.0.1) _ step o.2 in
+    let made : Step = Partial u.0.0 o.0.0 p.0 in
     let here : Holds found made = tt in
-    subst (Holds found) {x = made} (cond_some (length p.0.1 == 0) made step p.2).1 here
+    subst (Holds found) {x = made} (same_Some made step p.2) here
 
 in_checkpoint : (found : List Op) (rest : List ℕ) (step : Step) → checkpoint_of rest ≡ Some step → Holds found step
 unfolding checkpoint_of

@@ -1,7 +1,6 @@
--- Reading some, and then the others.
-use Rattle.std.proofs.Common.{◌≡◌, ℕ, zero, suc, ◌-◌, ◌+◌, ◌≤◌, ◌==◌, Bool, true, false, ◌||◌, if◌then◌else◌, List, [], ◌∷◌, ◌++◌, length, Option, Some, None, refl, sym, ap, ◌∙◌, append_assoc, arith}
+-- A sync whose operations are read some at a time.
+use Rattle.std.proofs.Common.{◌≡◌, ℕ, ◌==◌, Bool, true, false, ◌||◌, if◌then◌else◌, List, [], ◌∷◌, ◌++◌, length, Option, Some, None, refl, sym, ap, ◌∙◌, arith}
 use Rattle.std.proofs.lemmas.Bool.Decides.{nat_tests}
-use Rattle.std.proofs.lemmas.List.{append-nil}
 use Rattle.tw_model.specs.Ops.{TasksValue, apply_all}
 use Rattle.tw_model.specs.declared.SyncOp.{SyncOp}
 use Rattle.tw_model.proofs.Ops.{apply_all-append}
@@ -13,57 +12,7 @@ use Rattle.tw_numbers.specs.Assigned.{is_among}
 use Rattle.tw_state.specs.Touched.{is_about_synced, is_touched_by_synced}
 use Rattle.tw_state.specs.Applied.{AppliesAll, AppliesRead, synced_by}
 use Rattle.tw_state.specs.State.{State, synced, applied}
-use Rattle.tw_fields.proofs.ReadLoop.{with_front}
-
-module _ {A : Type 0} (one : List ℕ → Option (A × List ℕ)) where
-  whole : (read : Option (List A × List ℕ)) → read ≡ with_front [] read
-  whole (Some x) = refl
-  whole None = refl
-
-  with_both : (front : List A) (x : A) (read : Option (List A × List ℕ)) → (with_front front read >>= λ r. Some (x ∷ r.0, r.1)) ≡ with_front (x ∷ front) read
-  with_both front x (Some r) = refl
-  with_both front x None = refl
-
-  abbrev put_first : A → List A × List ℕ → Option (List A × List ℕ)
-  put_first x o = Some (x ∷ o.0, o.1)
-
-  -- so many and more are these and then the others
-  many_join : (a b : ℕ) (bytes : List ℕ) → many_at one (a + b) bytes ≡ (many_at one a bytes >>= λ x. with_front x.0 (many_at one b x.1))
-  unfolding many_at
-  many_join zero b bytes = let same : zero + b ≡ b = omega arith in ap (λ n. many_at one n bytes) same ∙ whole (many_at one b bytes)
-  many_join (suc a) b bytes = let next : suc a + b ≡ suc (a + b) = omega arith in ap (λ n. many_at one n bytes) next ∙ by (one bytes) (λ rest. many_join a b rest)
-    where
-      each : (x : A) (r : Option (List A × List ℕ)) → ((r >>= λ y. with_front y.0 (many_at one b y.1)) >>= put_first x) ≡ ((r >>= put_first x) >>= λ y. with_front y.0 (many_at one b y.1))
-      each x None = refl
-      each x (Some y) = with_both y.0 x (many_at one b y.1)
-
-      by : (first : Option (A × List ℕ)) → ((rest : List ℕ) → many_at one (a + b) rest ≡ (many_at one a rest >>= λ x. with_front x.0 (many_at one b x.1)))
-          → (first >>= λ f. many_at one (a + b) f.1 >>= put_first f.0) ≡ ((first >>= λ f. many_at one a f.1 >>= put_first f.0) >>= λ x. with_front x.0 (many_at one b x.1))
-      by None join = refl
-      by (Some f) join = ap (λ (r : Option (List A × List ℕ)). r >>= put_first f.0) (join f.1) ∙ each f.0 (many_at one a f.1)
-
-  with_front_twice : (front more : List A) (read : Option (List A × List ℕ)) → with_front front (with_front more read) ≡ with_front (front ++ more) read
-  with_front_twice front more None = refl
-  with_front_twice front more (Some x) = ap (λ (xs : List A). Some (xs, x.1)) (simp append_assoc)
-
-  split : (some left : ℕ) (bytes : List ℕ) → some ≤ left → many_at one left bytes ≡ (many_at one some bytes >>= λ x. with_front x.0 (many_at one (left - some) x.1))
-  split some left bytes inside = ap (λ n. many_at one n bytes) (omega (arith, inside)) ∙ many_join some (left - some) bytes
-
-  pub some_on : (front ops : List A) (some left : ℕ) (bytes after : List ℕ) (total : Option (List A × List ℕ)) → some ≤ left → many_at one some bytes ≡ Some (ops, after)
-      → with_front front (many_at one left bytes) ≡ total → with_front (front ++ ops) (many_at one (left - some) after) ≡ total
-  some_on front ops some left bytes after total inside read so_far =
-      sym (ap (with_front front) (split some left bytes inside ∙ ap (λ (r : Option (List A × List ℕ)). r >>= λ x. with_front x.0 (many_at one (left - some) x.1)) read) ∙ with_front_twice front ops (many_at one (left - some) after)) ∙ so_far
-
-  pub some_fail : (front : List A) (some left : ℕ) (bytes : List ℕ) (total : Option (List A × List ℕ)) → some ≤ left → many_at one some bytes ≡ None
-      → with_front front (many_at one left bytes) ≡ total → total ≡ None
-  some_fail front some left bytes total inside read so_far =
-      sym so_far ∙ ap (with_front front) (split some left bytes inside ∙ ap (λ (r : Option (List A × List ℕ)). r >>= λ x. with_front x.0 (many_at one (left - some) x.1)) read)
-
-  pub all_read : (front : List A) (left : ℕ) (bytes : List ℕ) (total : Option (List A × List ℕ)) → left ≡ 0 → with_front front (many_at one left bytes) ≡ total → total ≡ Some (front, bytes)
-  unfolding many_at
-  all_read front left bytes total none so_far = sym so_far ∙ ap (λ n. with_front front (many_at one n bytes)) none ∙ ap (λ (xs : List A). Some (xs, bytes)) (append-nil front)
-
--- ---- a sync
+pub use Rattle.tw_bodies.proofs.ReadSome.{some_on, some_fail, all_read}
 
 pub no_sync : (base : List ℕ) (count : ℕ) (bytes : List ℕ) → many_at sync_op_at count bytes ≡ None → sync_in base count bytes ≡ None
 no_sync base count bytes none = ap (λ (r : Option (List SyncOp × List ℕ)). r >>= λ ops. if length ops.1 == 0 then Some (Sync base ops.0) else None) none

@@ -1,5 +1,5 @@
 -- Taking the pending operations of a whole state, those of one command at a time.
-use Rattle.std.proofs.Common.{◌≡◌, ⊎_elim, ℕ, zero, suc, ◌-◌, ◌<◌, ◌≤◌, Bool, true, false, cond, ◌&&◌, List, [], ◌∷◌, ◌++◌, length, drop, Option, Some, None, refl, sym, ap, subst, ◌∙◌, append_assoc, arith}
+use Rattle.std.proofs.Common.{◌≡◌, ⊎_elim, ℕ, zero, suc, ◌<◌, ◌≤◌, Bool, true, false, cond, ◌&&◌, List, [], ◌∷◌, ◌++◌, length, drop, Option, Some, None, refl, sym, ap, subst, ◌∙◌, append_assoc, arith}
 use Rattle.std.specs.Prelude.{◌⊎◌, ◌==◌, is_none}
 use Rattle.std.proofs.lemmas.List.{append-nil}
 use Rattle.std.proofs.lemmas.Option.{same_Some}
@@ -7,13 +7,11 @@ use Rattle.tw_model.specs.Ops.{TasksValue}
 use Rattle.tw_model.specs.LocalOps.{apply_all_local, FitAllLocal}
 use Rattle.tw_model.specs.declared.Op.{Op}
 use Rattle.tw_model.specs.declared.Op.TheVariants.{Create, Delete, Update, UndoPoint}
-use Rattle.tw_fields.specs.declared.read.ReadError.{ReadError}
 use Rattle.tw_bodies.specs.Body.{is_undo_point, has_no_point, is_group}
 use Rattle.tw_bodies.specs.Reading.{task_at, create_at, delete_at, update_at, op_at}
-use Rattle.tw_fields.specs.Reading.{Fails, text_at, option_at, moment_at, uuid_at, many_at, with_front}
+use Rattle.tw_fields.specs.Reading.{text_at, option_at, moment_at, uuid_at, many_at, with_front}
 use Rattle.tw_state.specs.State.{misfit, begins_with_point}
 use Rattle.tw_state.specs.Restoring.{begins_a_command, ReadsCommand, TakesPending}
-use Rattle.tw_fields.proofs.ReadLoop.{goes_on, ends}
 use Rattle.tw_fields.proofs.FieldsSpelled.{bind_some, none_left}
 use Rattle.tw_state.proofs.CommittedChanges.{none_misfits}
 use Rattle.tw_state.proofs.Soundness.{fits_from, none_is, applied-append, fit-append, fit_front, fit_behind}
@@ -66,20 +64,9 @@ point_told (suc (suc (suc (suc (suc b)))) ∷ rest) r e = absurd cc
 
 -- ---- those of one command
 
-pub front_none : (read : Option (List Op × List ℕ)) → with_front [] read ≡ read
-front_none None = refl
-front_none (Some r) = refl
-
-pub front_more : (front ops : List Op) (read : Option (List Op × List ℕ)) → with_front front (with_front ops read) ≡ with_front (front ++ ops) read
+pub front_more : {A : Type 0} (front ops : List A) (read : Option (List A × List ℕ)) → with_front front (with_front ops read) ≡ with_front (front ++ ops) read
 front_more front ops None = refl
-front_more front ops (Some r) = ap (λ (l : List Op). Some (l, r.1)) (sym (append_assoc front ops r.0))
-
-pub one_read : (front : List Op) (left : ℕ) (bytes : List ℕ) (op : Op) (after : List ℕ) (total : Option (List Op × List ℕ)) → 0 < left → op_at bytes ≡ Some (op, after) → with_front front (many_at op_at left bytes) ≡ total
-    → with_front (front ++ op ∷ []) (many_at op_at (left - 1) after) ≡ total
-one_read front left bytes op after total lt h so_far = goes_on op_at front left 0 bytes op after total lt h (ap (λ k. with_front front (many_at op_at k bytes)) {x = left - 0} {y = left} (omega arith) ∙ so_far)
-
-pub none_read : (e : ReadError) (front : List Op) (left : ℕ) (bytes : List ℕ) (total : Option (List Op × List ℕ)) → 0 < left → Fails e (op_at bytes) → with_front front (many_at op_at left bytes) ≡ total → Fails e total
-none_read e front left bytes total lt h so_far = ends op_at e front left 0 bytes total lt h (ap (λ k. with_front front (many_at op_at k bytes)) {x = left - 0} {y = left} (omega arith) ∙ so_far)
+front_more {A = A} front ops (Some r) = ap (λ (l : List A). Some (l, r.1)) (sym (append_assoc front ops r.0))
 
 pub begins_same : (ops : List Op) (op : Op) → 1 ≤ length ops → begins_with_point (ops ++ op ∷ []) ≡ begins_with_point ops
 begins_same [] op some = absurd (omega arith)

@@ -39,6 +39,10 @@ sync_run_on tasks next ops from to up left =
     let run = slice_range ops from to in
     ap (λ (ts : TasksValue). apply_all ts (drop to ops)) left ∙ sym (apply_all-append tasks run (drop to ops)) ∙ ap (λ (xs : List SyncOp). apply_all tasks xs) (sym (drop_split ops from to up))
 
+-- and so do some that were read
+pub applied_left : (tasks next : TasksValue) (left some more : List SyncOp) → left ≡ some ++ more → next ≡ apply_all tasks some → apply_all next more ≡ apply_all tasks left
+applied_left tasks next left some more whole made = ap (λ (t : TasksValue). apply_all t more) made ∙ sym (apply_all-append tasks some more) ∙ ap (apply_all tasks) (sym whole)
+
 -- where the next operation does not fit, it is the first that does not
 pub stops : (n : ℕ) (tasks : TasksValue) (ops : List Op) (at : ℕ) → at < length ops → ((d : Op) → fits_local tasks (slice_index_or ops at d) ≡ false) → misfit n tasks (drop at ops) ≡ Some n
 stops n tasks [] at inside unfit = absurd (omega (arith, inside))

@@ -245,9 +245,11 @@ impl Indexed {
             Ok(Read::Sync { base, count, ops }) => {
                 self.sync(alloc, Uuid::from_bytes(base), count, ops)
             }
-            Ok(Read::Carried { base, ops }) => self.carried(alloc, Uuid::from_bytes(base), &ops),
-            Ok(Read::Partial { base, ops, pending }) => {
-                self.partly(alloc, Uuid::from_bytes(base), &ops, &pending)
+            Ok(Read::Carried { base, count, ops }) => {
+                self.carried(alloc, Uuid::from_bytes(base), count, ops)
+            }
+            Ok(Read::Partial { base, count, ops }) => {
+                self.partly(alloc, Uuid::from_bytes(base), count, ops)
             }
             Ok(
                 Read::Checkpoint {

@@ -5,6 +5,7 @@
 
 mod apply;
 mod copies;
+mod fitting;
 mod in_place;
 mod indexed;
 pub mod laws;
@@ -16,9 +17,10 @@ mod state;
 mod touched;
 
 pub use copies::{make_room, part_of, take_out};
+pub use fitting::apply_carried;
 pub use indexed::Indexed;
 pub use next::{Next, next_on};
 pub use pending::{Pending, copy_of};
 pub use pends::pending_of;
-pub use state::{Core, apply_carried, apply_ops, apply_sync_ops, is_idle, take_back_from};
+pub use state::{Core, apply_ops, apply_sync_ops, apply_synced, is_idle, take_back_from};
 pub use touched::{add_all_synced, synced_uuids, touched_uuids};

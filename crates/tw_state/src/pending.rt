@@ -84,8 +84,11 @@ fn group_in(alloc: Global, body: &[u8]) -> Result<Vec<Op>, Memory>
 fn read_from(alloc: Global, bodies: &Vec<Group>, from: usize) -> Result<Vec<Op>, Memory>
     ensures { IfOk result (λ ops. ops.items ≡ groups_in (drop from bodies.now.items)) }
 {
-    let mut ops = Vec::new(alloc);
-    let mut at = from;
+    if from >= bodies.len() {
+        return Ok(Vec::new(alloc));
+    }
+    let mut ops = group_in(alloc, &bodies[from].body)?;
+    let mut at = from + 1;
     while at < bodies.len() {
         let mut group = group_in(alloc, &bodies[at].body)?;
         ops.append(&mut group)?;
@@ -145,10 +148,13 @@ fn read_behind(
     }
     let mut ops = read_from(alloc, bodies, at)?;
     let before = from - first;
-    if before >= ops.len() {
+    let held = ops.len();
+    if before >= held {
         return Ok(Vec::new(alloc));
     }
-    Ok(ops.split_off(before)?)
+    ops.rotate_left(before);
+    ops.truncate(held - before);
+    Ok(ops)
 }
 
 // A record's body takes fewer bytes.

@@ -3,12 +3,13 @@ ghost use Rattle.std.specs.Prelude.{◌≡◌, ◌≤◌, ◌++◌, length, drop
 ghost use Rattle.tw_model.specs.Ops.{apply_all};
 ghost use Rattle.tw_model.specs.LocalOps.{apply_all_local, take_back_all};
 ghost use Rattle.tw_numbers.specs.Assigned.{RenewsByPart};
-ghost use Rattle.tw_state.specs.State.{is_idle, misfit, misfit_synced, start};
+ghost use Rattle.tw_state.specs.State.{is_idle, misfit, start};
 ghost use Rattle.tw_state.specs.Core.{state_of};
 
 use crate::pending::Pending;
 use std::alloc::Global;
 use std::collections::BTreeSet;
+use tw_bodies::SyncOps;
 use tw_model::{Op, SyncOp, Tasks};
 use tw_numbers::{assigned, pack};
 use tw_world::Memory;
@@ -75,24 +76,16 @@ pub fn apply_sync_ops(alloc: Global, tasks: &mut Tasks, ops: &Vec<SyncOp>) -> Re
     Ok(())
 }
 
-/// Applies operations of versions one after another, and answers the number of the first that does not fit.
-pub fn apply_carried(
-    alloc: Global,
-    tasks: &mut Tasks,
-    ops: &Vec<SyncOp>,
-) -> Result<Option<u64>, Memory>
-    ensures fit { IfOk result (λ at. at ≡ misfit_synced 0 tasks.old ops.now.items) }
-    ensures left { IfOk result (λ at. IfNone at (tasks.new ≡ apply_all tasks.old ops.now.items)) }
+/// Applies operations of versions that are held as bytes, one after another. One that does not fit is skipped.
+pub fn apply_synced(alloc: Global, tasks: &mut Tasks, ops: &SyncOps) -> Result<(), Memory>
+    ensures { OnOk result (tasks.new ≡ apply_all tasks.old ops.now) }
 {
-    let mut at = 0;
-    while at < ops.len() {
-        if !tasks.apply_sync(alloc, &ops[at])? {
-            let misfit = at as u64;
-            return Ok(Some(misfit));
-        }
-        at += 1;
+    let mut unread = ops.unread();
+    while unread.left() > 0 {
+        let some = unread.read_some(alloc)?;
+        apply_sync_ops(alloc, tasks, &some)?;
     }
-    Ok(None)
+    Ok(())
 }
 
 /// The places for tasks once a part of them has changed, packed if it is asked.

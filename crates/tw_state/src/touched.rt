@@ -8,6 +8,7 @@ ghost use Rattle.tw_state.specs.Touched.{Gains, is_about, is_touched, is_touched
 
 use std::alloc::Global;
 use std::collections::BTreeSet;
+use tw_bodies::SyncOps;
 use tw_model::{Op, SyncOp};
 use tw_world::Memory;
 use uuid::Uuid;
@@ -102,11 +103,15 @@ pub fn add_all_synced(touched: &mut BTreeSet<Uuid>, ops: &Vec<SyncOp>) -> Result
 }
 
 /// The uuids of the tasks that operations of versions are about.
-pub fn synced_uuids(alloc: Global, ops: &Vec<SyncOp>) -> Result<BTreeSet<Uuid>, Memory>
-    ensures { IfOk result (λ touched. (u : List ℕ) → set.contains bytes_cmp touched u ≡ is_touched_by_synced ops.now.items u) }
+pub fn synced_uuids(alloc: Global, ops: &SyncOps) -> Result<BTreeSet<Uuid>, Memory>
+    ensures { IfOk result (λ touched. (u : List ℕ) → set.contains bytes_cmp touched u ≡ is_touched_by_synced ops.now u) }
 {
     let mut touched = BTreeSet::new(alloc);
-    add_all_synced(&mut touched, ops)?;
+    let mut unread = ops.unread();
+    while unread.left() > 0 {
+        let some = unread.read_some(alloc)?;
+        add_all_synced(&mut touched, &some)?;
+    }
     Ok(touched)
 }
 

@@ -145,7 +145,7 @@ module _ {L : Type 0} (m : LinkModel L) (client host : List ℕ) (hand : TasksVa
     leads = leads_to start old_state stopped.legs may stopped.path
 
     -- what is carried fits, and what is left may be pending then
-    pub stop_fits : misfit_synced 0 state.tasks cursor.walker.carried.items ≡ None
+    pub stop_fits : misfit_synced 0 state.tasks cursor.walker.carried ≡ None
     stop_fits = ap (misfit_synced 0 state.tasks) on_path.stands.carried ∙ carried_fits state stopped.legs sound stopped.path
 
     pub stop_pends : (hand : TasksValue) × (r : Reached) × StandsAt hand r cursor.walker × (may_pend (apply_all state.tasks r.carried) (pending_on r.tasks r.left) ≡ true)

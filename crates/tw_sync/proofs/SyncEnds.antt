@@ -92,7 +92,7 @@ module _ {L : Type 0} (m : LinkModel L) (client host : List ℕ) (hand : TasksVa
   end = done_end old_state (held_sound old) start legs may path.path met.nothing
 
   -- what is carried fits
-  pub end_fits : misfit_synced 0 state.tasks cursor.walker.carried.items ≡ None
+  pub end_fits : misfit_synced 0 state.tasks cursor.walker.carried ≡ None
   end_fits = ap (misfit_synced 0 state.tasks) path.stands.carried ∙ carried_fits state legs sound path.path
 
   leads : LeadsTo start r

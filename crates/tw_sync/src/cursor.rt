@@ -11,6 +11,7 @@ mod start;
 mod take_version;
 
 use std::alloc::Global;
+use tw_bodies::SyncOps;
 use tw_model::{Op, SyncOp};
 use tw_path::Walker;
 use tw_world::Memory;
@@ -77,7 +78,7 @@ impl Cursor {
     }
 
     /// What is carried to the tasks at hand. All else is let go.
-    pub fn into_carried(self) -> Vec<SyncOp>
+    pub fn into_carried(self) -> SyncOps
         ensures { result ≡ self.walker.carried }
     {
         let Cursor {

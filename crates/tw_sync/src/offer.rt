@@ -13,7 +13,7 @@ use std::alloc::Global;
 use tw_http::{Bytes, Link, Request, write_request};
 use tw_model::Tasks;
 use tw_snapshot::write_snapshot;
-use tw_state::apply_sync_ops;
+use tw_state::apply_synced;
 use tw_world::Memory;
 use uuid::Uuid;
 
@@ -37,7 +37,7 @@ pub(crate) fn letter_at(
         → IsLetterOf client host.now r.at r.tasks (option_map (λ v. v.items) letter)) }
 {
     let mut there = hand.copy(alloc)?;
-    apply_sync_ops(alloc, &mut there, &cursor.walker.carried)?;
+    apply_synced(alloc, &mut there, &cursor.walker.carried)?;
     letter_of(alloc, client, host, cursor.walker.at, &there)
 }
 

@@ -16,7 +16,7 @@ use crate::cursor::Cursor;
 use std::alloc::Global;
 use tw_model::Tasks;
 use tw_replica::{CommitError, RecordError, Replica};
-use tw_state::apply_sync_ops;
+use tw_state::apply_synced;
 use tw_world::Disk;
 
 /// Moves the replica to a cursor at which nothing is left, by one record, unless its base is there.
@@ -28,7 +28,7 @@ pub(crate) fn end_at<D: Disk>(
 ) -> Result<(), RecordError>
     requires length { IsLengthKept D.model replica.old disk.old }
     requires open { is_closed replica.old.journal ≡ false }
-    requires fits { misfit_synced 0 replica.old.core.tasks cursor.walker.carried.items ≡ None }
+    requires fits { misfit_synced 0 replica.old.core.tasks cursor.walker.carried ≡ None }
     ensures moved { OnOk result ((hand : TasksValue) (r : Reached) → StandsAt hand r cursor.walker
         → MovesBy D.model replica.old replica.new disk.old disk.new r.at (done_step r)) }
     ensures any_moment { (hand : TasksValue) (r : Reached) → StandsAt hand r cursor.walker
@@ -61,7 +61,7 @@ pub(crate) fn stop_at<D: Disk>(
 ) -> Result<(), RecordError>
     requires length { IsLengthKept D.model replica.old disk.old }
     requires open { is_closed replica.old.journal ≡ false }
-    requires fits { misfit_synced 0 replica.old.core.tasks cursor.walker.carried.items ≡ None }
+    requires fits { misfit_synced 0 replica.old.core.tasks cursor.walker.carried ≡ None }
     requires pends { (hand : TasksValue) × (r : Reached) × StandsAt hand r cursor.walker
         × (may_pend (apply_all replica.old.core.tasks r.carried) (pending_on r.tasks r.left) ≡ true) }
     ensures moved { OnOk result ((hand : TasksValue) (r : Reached) → StandsAt hand r cursor.walker
@@ -116,6 +116,6 @@ pub(crate) fn take_over<D: Disk>(
     }
     let carried = cursor.into_carried();
     let mut there = tasks;
-    apply_sync_ops(alloc, &mut there, &carried)?;
+    apply_synced(alloc, &mut there, &carried)?;
     replica.finish_from(alloc, disk, base, there)
 }

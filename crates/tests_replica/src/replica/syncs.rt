@@ -6,6 +6,7 @@ ghost use Rattle.tw_state.specs.State.{may_pend};
 use super::{ADDED, Counts, counts, disk_of, milk, opened, refusal, undone, version};
 use std::alloc::Global;
 use std::test::Fail;
+use tw_bodies::SyncOps;
 use tw_model::{Op, SyncOp};
 use tw_replica::{OpenError, Replica, ReplicaError, UndoError};
 use tw_world::Memory;
@@ -22,24 +23,26 @@ const CARRIED: [u8; 60] = [
     8, 8, 8, 8, 8, 8, 8, 8, 8, 8, 8, 8, 2, 7, 7, 7, 7, 7, 7, 7, 7, 7, 7, 7, 7, 7, 7, 7, 7,
 ];
 
-fn other(alloc: Global) -> Result<Vec<SyncOp>, Memory> {
-    let mut ops = Vec::new(alloc);
-    ops.push(SyncOp::Create {
+fn other(alloc: Global) -> Result<SyncOps, Memory> {
+    let mut ops = SyncOps::new(alloc);
+    let create = SyncOp::Create {
         uuid: Uuid::from_bytes([8; 16]),
-    })?;
+    };
+    ops.push(&create)?;
     Ok(ops)
 }
 
-fn carried(alloc: Global) -> Result<Vec<SyncOp>, Memory> {
+fn carried(alloc: Global) -> Result<SyncOps, Memory> {
     let mut ops = other(alloc)?;
-    ops.push(SyncOp::Delete { uuid: milk() })?;
+    let delete = SyncOp::Delete { uuid: milk() };
+    ops.push(&delete)?;
     Ok(ops)
 }
 
 // Whether these operations are carried over the added task by this record, and it is opened to what they leave.
 fn is_carried(
     alloc: Global,
-    ops: Vec<SyncOp>,
+    ops: SyncOps,
     record: &[u8],
     left: Counts,
 ) -> Result<bool, ReplicaError> {
@@ -56,10 +59,38 @@ fn is_carried(
     )
 }
 
+// More operations than are read at once.
+fn many(alloc: Global) -> Result<SyncOps, Memory> {
+    let mut ops = SyncOps::new(alloc);
+    for n in 1..301 {
+        let create = SyncOp::Create {
+            uuid: Uuid::from_u128(n),
+        };
+        ops.push(&create)?;
+    }
+    Ok(ops)
+}
+
+// Whether they are carried, and the record is opened to what they leave.
+fn are_carried(alloc: Global) -> Result<bool, ReplicaError> {
+    let mut disk = disk_of(alloc, &ADDED)?;
+    let mut replica = Replica::open(alloc, &mut disk)?;
+    replica.finish_carried(alloc, &mut disk, version(), many(alloc)?)?;
+    let (held, _, _) = opened(alloc, disk.bytes())?;
+    let left = (301, 0, Some(1));
+    Ok(counts(&replica) == left && held == left)
+}
+
+#[test]
+fn a_sync_in_place_carries_more_than_is_read_at_once(rt: HostRuntime) -> Result<(), Fail> {
+    assert!(rt; are_carried(rt.alloc())?);
+    Ok(())
+}
+
 #[test]
 fn a_sync_in_place_writes_what_it_carried(rt: HostRuntime) -> Result<(), Fail> {
     let alloc = rt.alloc();
-    assert!(rt; is_carried(alloc, Vec::new(alloc), &NOTHING, (1, 0, Some(1)))?);
+    assert!(rt; is_carried(alloc, SyncOps::new(alloc), &NOTHING, (1, 0, Some(1)))?);
     assert!(rt; is_carried(alloc, carried(alloc)?, &CARRIED, (1, 0, None))?);
     Ok(())
 }

@@ -12,6 +12,7 @@ use crate::presence::Presence;
 use crate::walker::Walker;
 use std::alloc::Global;
 use std::collections::BTreeSet;
+use tw_bodies::SyncOps;
 use tw_model::{Op, Tasks};
 use tw_world::Memory;
 use uuid::Uuid;
@@ -19,20 +20,20 @@ use uuid::Uuid;
 impl Walker {
     ghost use Rattle.tw_path.specs.Walk.{StandsAt, IsBefore, before_pending};
 
-    /// The place before all that is pending: the base of a replica with these tasks.
+    /// The place before all that is pending: the base of a replica with these tasks. The operations are let go as their groups are made.
     pub fn start(
         alloc: Global,
         hand: &Tasks,
         base: Uuid,
-        pending: &Vec<Op>,
+        pending: Vec<Op>,
     ) -> Result<Walker, Memory>
-        ensures { IfOk result (λ walker. StandsAt hand.now (before_pending base hand.now pending.now.items) walker) }
+        ensures { IfOk result (λ walker. StandsAt hand.now (before_pending base hand.now pending.items) walker) }
     {
-        let left = groups_of(alloc, pending)?;
         let mine = BTreeSet::new(alloc);
         let tasks = Tasks::new(alloc);
         let there = Presence::new(alloc);
-        let carried = Vec::new(alloc);
+        let left = Vec::new(alloc);
+        let carried = SyncOps::new(alloc);
         let mut walker = Walker {
             at: base,
             mine,
@@ -41,7 +42,8 @@ impl Walker {
             left,
             carried,
         };
-        walker.take_back_all(alloc, hand, pending)?;
+        walker.take_back_all(alloc, hand, &pending)?;
+        walker.left = groups_of(alloc, pending)?;
         Ok(walker)
     }
 
@@ -49,7 +51,6 @@ impl Walker {
     fn take_back_all(&mut self, alloc: Global, hand: &Tasks, ops: &Vec<Op>) -> Result<(), Memory>
         requires { IsBefore hand.now [] self.old }
         ensures at { self.new.at ≡ self.old.at }
-        ensures left { self.new.left ≡ self.old.left }
         ensures carried { self.new.carried ≡ self.old.carried }
         ensures before { OnOk result (IsBefore hand.now ops.now.items self.new) }
     {
@@ -64,7 +65,6 @@ impl Walker {
     // Takes one operation back, and first copies its task, if no later one is about it.
     fn take_back(&mut self, alloc: Global, hand: &Tasks, op: &Op) -> Result<(), Memory>
         ensures at { self.new.at ≡ self.old.at }
-        ensures left { self.new.left ≡ self.old.left }
         ensures carried { self.new.carried ≡ self.old.carried }
         ensures before { OnOk result ((ops : List LocalOp) → IsBefore hand.now ops self.old → IsBefore hand.now (op.now ∷ ops) self.new) }
     {

@@ -19,25 +19,20 @@ use crate::keeping::commit::NextError;
 use crate::keeping::record::write_next;
 use crate::replica::Replica;
 use std::alloc::Global;
-use tw_bodies::carried_body;
+use tw_bodies::SyncOps;
 use tw_journal::AppendError;
-use tw_model::SyncOp;
 use tw_state::{Core, Next, Pending, apply_carried, next_on, part_of, synced_uuids};
 use tw_world::Disk;
 use uuid::Uuid;
 
 // What operations of versions lead to that follow on the tasks at hand.
-pub(crate) fn next_of_carried(
-    alloc: Global,
-    core: &Core,
-    ops: &Vec<SyncOp>,
-) -> Result<Next, NextError>
+pub(crate) fn next_of_carried(alloc: Global, core: &Core, ops: &SyncOps) -> Result<Next, NextError>
     requires { IsAssignedIn core.now.numbers.items core.now.tasks }
-    ensures fits { OnOk result (misfit_synced 0 core.now.tasks ops.now.items ≡ None) }
-    ensures tasks { IfOk result (λ next. after next core.now.tasks ≡ apply_all core.now.tasks ops.now.items) }
-    ensures numbers { IfOk result (λ next. next.numbers.items ≡ assigned core.now.numbers.items (apply_all core.now.tasks ops.now.items)) }
+    ensures fits { OnOk result (misfit_synced 0 core.now.tasks ops.now ≡ None) }
+    ensures tasks { IfOk result (λ next. after next core.now.tasks ≡ apply_all core.now.tasks ops.now) }
+    ensures numbers { IfOk result (λ next. next.numbers.items ≡ assigned core.now.numbers.items (apply_all core.now.tasks ops.now)) }
     ensures next { IfOk result (λ next. IsNextOf core.now.tasks next) }
-    ensures refused { IfErr result (λ e. CarryRefused core.now.tasks ops.now.items e) }
+    ensures refused { IfErr result (λ e. CarryRefused core.now.tasks ops.now e) }
 {
     let touched = synced_uuids(alloc, ops)?;
     let mut part = part_of(alloc, &core.tasks, &touched)?;
@@ -57,25 +52,25 @@ impl Replica {
         alloc: Global,
         disk: &mut D,
         base: Uuid,
-        ops: Vec<SyncOp>,
+        ops: SyncOps,
     ) -> Result<(), CommitError>
         requires length { IsLengthKept D.model self.old disk.old }
-        ensures carried { OnOk result (carried base ops.items (state_of self.old.core) ≡ Some (state_of self.new.core)) }
-        ensures stands { OnOk result (StandsAfter D.model self.old self.new disk.old disk.new (one_more (body_of (Carried base ops.items)))) }
-        ensures any_moment { LeavesStep D.model self.old disk.old disk.new (carried base ops.items (state_of self.old.core)) }
-        ensures growth { GrowsBy D.model self.old disk.old disk.new (length (rows (step_bodies (Carried base ops.items)))) }
-        ensures within { OnOk result (IsWithinLimit (step_bodies (Carried base ops.items))) }
+        ensures carried { OnOk result (carried base ops (state_of self.old.core) ≡ Some (state_of self.new.core)) }
+        ensures stands { OnOk result (StandsAfter D.model self.old self.new disk.old disk.new (one_more (body_of (Carried base ops)))) }
+        ensures any_moment { LeavesStep D.model self.old disk.old disk.new (carried base ops (state_of self.old.core)) }
+        ensures growth { GrowsBy D.model self.old disk.old disk.new (length (rows (step_bodies (Carried base ops)))) }
+        ensures within { OnOk result (IsWithinLimit (step_bodies (Carried base ops))) }
         ensures closed { is_replica_closed self.old ≡ true → result ≡ AnErr (CommitError.Journal AppendError.Closed) }
         ensures live { OnOk result (is_replica_closed self.new ≡ false) }
         ensures length { IsLengthKept D.model self.new disk.new }
-        ensures refused { IfErr result (λ e. CarryingRefused D.model self.old self.new disk.old disk.new ops.items (body_size (Carried base ops.items)) e) }
+        ensures refused { IfErr result (λ e. CarryingRefused D.model self.old self.new disk.old disk.new ops (body_size (Carried base ops)) e) }
         ensures kept { FaultsRise D.model disk.old disk.new }
     {
         if self.journal.is_closed() {
             return Err(CommitError::Journal(AppendError::Closed));
         }
         let next = next_of_carried(alloc, &self.core, &ops)?;
-        let body = carried_body(alloc, &base, &ops)?;
+        let body = ops.into_carried(&base)?;
         let none = Pending::new(alloc);
         write_next(alloc, &mut self.journal, disk, &mut self.core, next, &body)?;
         self.core.pending = none;

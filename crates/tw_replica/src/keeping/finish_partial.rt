@@ -15,9 +15,9 @@ use crate::keeping::finish_carried::next_of_carried;
 use crate::keeping::record::write_next;
 use crate::replica::Replica;
 use std::alloc::Global;
-use tw_bodies::partial_body;
+use tw_bodies::SyncOps;
 use tw_journal::AppendError;
-use tw_model::{Op, SyncOp};
+use tw_model::Op;
 use tw_state::pending_of;
 use tw_world::Disk;
 use uuid::Uuid;
@@ -31,27 +31,27 @@ impl Replica {
         alloc: Global,
         disk: &mut D,
         base: Uuid,
-        ops: Vec<SyncOp>,
+        ops: SyncOps,
         pending: Vec<Op>,
     ) -> Result<(), CommitError>
         requires length { IsLengthKept D.model self.old disk.old }
-        requires pends { MayPendThen self.old.core.tasks ops.items pending.items }
-        ensures partly { OnOk result (partly base ops.items pending.items (state_of self.old.core) ≡ Some (state_of self.new.core)) }
-        ensures stands { OnOk result (StandsAfter D.model self.old self.new disk.old disk.new (one_more (body_of (Partial base ops.items pending.items)))) }
-        ensures any_moment { LeavesStep D.model self.old disk.old disk.new (partly base ops.items pending.items (state_of self.old.core)) }
-        ensures growth { GrowsBy D.model self.old disk.old disk.new (length (rows (step_bodies (Partial base ops.items pending.items)))) }
-        ensures within { OnOk result (IsWithinLimit (step_bodies (Partial base ops.items pending.items))) }
+        requires pends { MayPendThen self.old.core.tasks ops pending.items }
+        ensures partly { OnOk result (partly base ops pending.items (state_of self.old.core) ≡ Some (state_of self.new.core)) }
+        ensures stands { OnOk result (StandsAfter D.model self.old self.new disk.old disk.new (one_more (body_of (Partial base ops pending.items)))) }
+        ensures any_moment { LeavesStep D.model self.old disk.old disk.new (partly base ops pending.items (state_of self.old.core)) }
+        ensures growth { GrowsBy D.model self.old disk.old disk.new (length (rows (step_bodies (Partial base ops pending.items)))) }
+        ensures within { OnOk result (IsWithinLimit (step_bodies (Partial base ops pending.items))) }
         ensures closed { is_replica_closed self.old ≡ true → result ≡ AnErr (CommitError.Journal AppendError.Closed) }
         ensures live { OnOk result (is_replica_closed self.new ≡ false) }
         ensures length { IsLengthKept D.model self.new disk.new }
-        ensures refused { IfErr result (λ e. PartialRefused D.model self.old self.new disk.old disk.new base ops.items pending.items e) }
+        ensures refused { IfErr result (λ e. PartialRefused D.model self.old self.new disk.old disk.new base ops pending.items e) }
         ensures kept { FaultsRise D.model disk.old disk.new }
     {
         if self.journal.is_closed() {
             return Err(CommitError::Journal(AppendError::Closed));
         }
         let next = next_of_carried(alloc, &self.core, &ops)?;
-        let body = partial_body(alloc, &base, &ops, &pending)?;
+        let body = ops.into_partial(&base, &pending)?;
         let kept = pending_of(alloc, &pending)?;
         write_next(alloc, &mut self.journal, disk, &mut self.core, next, &body)?;
         self.core.pending = kept;

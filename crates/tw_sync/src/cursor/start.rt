@@ -21,8 +21,8 @@ impl Cursor {
         ensures { IfOk result (λ cursor. IsAtStart (held_state replica.now) cursor) }
     {
         let ops = replica.pending().ops(alloc)?;
-        let walker = Walker::start(alloc, replica.tasks(), replica.base(), &ops)?;
         let pending = count_exchanged(&ops);
+        let walker = Walker::start(alloc, replica.tasks(), replica.base(), ops)?;
         Ok(Cursor {
             walker,
             versions: 0,
@@ -39,7 +39,7 @@ impl Cursor {
         ensures { IfOk result (λ cursor. (state : State) → IsAtStart (from_state (Snapshot version tasks.now) state) cursor) }
     {
         let none = Vec::new(alloc);
-        let walker = Walker::start(alloc, tasks, version, &none)?;
+        let walker = Walker::start(alloc, tasks, version, none)?;
         Ok(Cursor {
             walker,
             versions: 0,

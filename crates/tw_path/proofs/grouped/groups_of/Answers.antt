@@ -1,30 +1,25 @@
-use Rattle.std.proofs.Common.{◌++◌, ◌∙◌, drop, ◌<◌, List, length, arith, ap}
+use Rattle.std.proofs.Common.{◌∷◌, ◌++◌, ◌∙◌, [], List, length, length-append, arith, sym, ap}
+use Rattle.std.proofs.lemmas.List.{nil_from_length}
 use Rattle.tw_model.specs.declared.Op.{Op}
-use Rattle.tw_model.specs.declared.SyncOp.{SyncOp}
-use Rattle.tw_groups.specs.Groups.{Groups, groups_of}
 use Rattle.tw_groups.specs.Held.{groups_in}
-use Rattle.tw_path.proofs.Parting.{one_more, all_grouped}
+use Rattle.tw_path.proofs.Parting.{none_parted, one_parted, all_parted}
 use Rattle.tw_path.proofs.grouped.groups_of.Goals as goal
 
-pub loop-at-init : goal.loop-at-init
-loop-at-init c =
-    let others = c.first_point-at.ensures.others in
-    let pending : List Op = c.args.pending.now.items in (
-      c.first_point-at.ensures.within,
-      ap (λ (p : List SyncOp × Groups). p.0) others,
-      ap (λ vs. groups_in vs ++ groups_of (drop c.first_point-at.result pending)) c.new-groups.ensures.items ∙ ap (λ (p : List SyncOp × Groups). p.1) others,
-    )
+pub loop-op-init : goal.loop-op-init
+loop-op-init c = none_parted c.args.pending.items c.in_ok-group.group.items c.new-groups.result.items c.in_ok-group.ensures c.new-groups.ensures.items
 
-pub loop-at-preserved : goal.loop-at-preserved
-loop-at-preserved c =
-    let ops : List Op = c.args.pending.now.items in
-    let inside : c.loop-at.at < length ops = omega (arith, c.loop-at-test.true) in
-    let others = c.in_ok-group.ensures.others in (
-      c.group_from.ensures.within,
-      ap (λ (p : List SyncOp × Groups). p.0) others,
-      one_more ops c.loop-at.at c.loop-at.groups.items c.push.new.self.items c.in_ok-group.group c.group_from.new.at inside c.loop-at.invariant.1 c.in_ok-group.ensures.group
-          (ap (λ (p : List SyncOp × Groups). p.1) others) c.in_ok-push.ensures.items c.loop-at.invariant.2,
-    )
+pub loop-op-smaller : goal.loop-op-smaller
+loop-op-smaller c =
+    let e = ap length (c.in-Some.ensures.items ∙ ap (λ (ops : List Op). ops ++ c.in-Some.op ∷ []) (sym c.release.ensures)) in
+    let sums = length-append c.release.new.pending.items (c.in-Some.op ∷ []) in
+    omega (arith, e, sums)
+
+pub loop-op-preserved : goal.loop-op-preserved
+loop-op-preserved c =
+    one_parted c.args.pending.items c.loop-op.pending.items c.release.new.pending.items c.in-Some.op c.loop-op.group.items c.put_in_front.new.group.items c.loop-op.groups.items c.put_in_front.new.groups.items
+    (c.in-Some.ensures.items ∙ ap (λ (ops : List Op). ops ++ c.in-Some.op ∷ []) (sym c.release.ensures)) c.in_ok-put_in_front.ensures c.loop-op.invariant
 
 pub returns : goal.returns
-returns c = all_grouped c.args.pending.now.items c.loop-at.at (groups_in c.loop-at.groups.items) (omega (arith, c.loop-at-test.false)) c.loop-at.invariant.2
+returns c =
+    ap groups_in c.reverse.ensures.items
+    ∙ all_parted c.args.pending.items c.loop-op.pending.items c.loop-op.group.items c.loop-op.groups.items (nil_from_length c.loop-op.pending.items (omega (arith, c.in_default.ensures.cases.0))) c.loop-op.invariant

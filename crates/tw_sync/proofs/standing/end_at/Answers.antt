@@ -17,8 +17,8 @@ pub returns-in-Ok-clause-any_moment : goal.returns-in-Ok-clause-any_moment
 returns-in-Ok-clause-any_moment g c = λ hand r stands.
     let far : same_id r.at c.args.replica.now.core.base ≡ false = ap (λ (h : List ℕ). same_id h c.args.replica.now.core.base) (sym stands.at ∙ sym c.at-base.ensures) ∙ ap (same_id c.at-base.result) (sym c.base.ensures) ∙ sym c.eq.ensures ∙ c.if-eq.false in
     let at_is : c.at-base.result ≡ r.at = c.at-base.ensures ∙ stands.at in
-    let ops_are : c.into_carried-carried.result.items ≡ r.carried = ap (λ v. v.items) c.into_carried-carried.ensures ∙ stands.carried in
-    let taken : Step = Carried c.at-base.result c.into_carried-carried.result.items in
+    let ops_are : c.into_carried-carried.result ≡ r.carried = c.into_carried-carried.ensures ∙ stands.carried in
+    let taken : Step = Carried c.at-base.result c.into_carried-carried.result in
     let is : taken ≡ done_step r = (λ i. Carried (at_is i) (ops_are i)) in
     leaves_move g.D.Disk.model c.args.replica.now c.finish_carried.new.self c.args.disk.now c.finish_carried.new.disk r.at taken (done_step r) is far c.finish_carried.ensures.any_moment
 
@@ -26,8 +26,17 @@ pub returns-in-Err-Journal-clause-any_moment : goal.returns-in-Err-Journal-claus
 returns-in-Err-Journal-clause-any_moment g c = λ hand r stands.
     let far : same_id r.at c.args.replica.now.core.base ≡ false = ap (λ (h : List ℕ). same_id h c.args.replica.now.core.base) (sym stands.at ∙ sym c.at-base.ensures) ∙ ap (same_id c.at-base.result) (sym c.base.ensures) ∙ sym c.eq.ensures ∙ c.if-eq.false in
     let at_is : c.at-base.result ≡ r.at = c.at-base.ensures ∙ stands.at in
-    let ops_are : c.into_carried-carried.result.items ≡ r.carried = ap (λ v. v.items) c.into_carried-carried.ensures ∙ stands.carried in
-    let taken : Step = Carried c.at-base.result c.into_carried-carried.result.items in
+    let ops_are : c.into_carried-carried.result ≡ r.carried = c.into_carried-carried.ensures ∙ stands.carried in
+    let taken : Step = Carried c.at-base.result c.into_carried-carried.result in
+    let is : taken ≡ done_step r = (λ i. Carried (at_is i) (ops_are i)) in
+    leaves_move g.D.Disk.model c.args.replica.now c.finish_carried.new.self c.args.disk.now c.finish_carried.new.disk r.at taken (done_step r) is far c.finish_carried.ensures.any_moment
+
+pub returns-in-Err-Memory-clause-any_moment : goal.returns-in-Err-Memory-clause-any_moment
+returns-in-Err-Memory-clause-any_moment g c = λ hand r stands.
+    let far : same_id r.at c.args.replica.now.core.base ≡ false = ap (λ (h : List ℕ). same_id h c.args.replica.now.core.base) (sym stands.at ∙ sym c.at-base.ensures) ∙ ap (same_id c.at-base.result) (sym c.base.ensures) ∙ sym c.eq.ensures ∙ c.if-eq.false in
+    let at_is : c.at-base.result ≡ r.at = c.at-base.ensures ∙ stands.at in
+    let ops_are : c.into_carried-carried.result ≡ r.carried = c.into_carried-carried.ensures ∙ stands.carried in
+    let taken : Step = Carried c.at-base.result c.into_carried-carried.result in
     let is : taken ≡ done_step r = (λ i. Carried (at_is i) (ops_are i)) in
     leaves_move g.D.Disk.model c.args.replica.now c.finish_carried.new.self c.args.disk.now c.finish_carried.new.disk r.at taken (done_step r) is far c.finish_carried.ensures.any_moment
 
@@ -37,14 +46,14 @@ pub returns-then-eq-clause-growth : goal.returns-then-eq-clause-growth
 returns-then-eq-clause-growth g c = λ bodies on. same_grown g.D.Disk.model g.met.D.Disk.only_now c.args.disk.now c.args.disk.now refl
 
 pub returns-in-Ok-clause-growth : goal.returns-in-Ok-clause-growth
-returns-in-Ok-clause-growth g c = λ bodies on. row_grown g.D.Disk.model g.met.D.Disk.only_now c.args.disk.now c.finish_carried.new.disk (body_of (Carried c.at-base.result c.into_carried-carried.result.items)) (c.in-Ok.ensures.within _ refl) (c.finish_carried.ensures.growth bodies on)
+returns-in-Ok-clause-growth g c = λ bodies on. row_grown g.D.Disk.model g.met.D.Disk.only_now c.args.disk.now c.finish_carried.new.disk (body_of (Carried c.at-base.result c.into_carried-carried.result)) (c.in-Ok.ensures.within _ refl) (c.finish_carried.ensures.growth bodies on)
 
 pub returns-in-Err-Journal-clause-growth : goal.returns-in-Err-Journal-clause-growth
 returns-in-Err-Journal-clause-growth g c = λ bodies on.
-    let refused : CarryingRefused g.D.Disk.model c.args.replica.now c.finish_carried.new.self c.args.disk.now c.finish_carried.new.disk c.into_carried-carried.result.items (body_size (Carried c.at-base.result c.into_carried-carried.result.items)) (commits.Journal c.in-Err-Journal.error) = subst (CarryingRefused g.D.Disk.model c.args.replica.now c.finish_carried.new.self c.args.disk.now c.finish_carried.new.disk c.into_carried-carried.result.items (body_size (Carried c.at-base.result c.into_carried-carried.result.items))) c.in-Err-Journal.field-0-is c.in-Err-Journal.ensures.refused in
-    refused_grown g.D.Disk.model g.met.D.Disk.only_now c.args.disk.now c.finish_carried.new.disk c.args.replica.now c.finish_carried.new.self (body_of (Carried c.at-base.result c.into_carried-carried.result.items)) c.in-Err-Journal.error refused.0 (c.finish_carried.ensures.growth bodies on)
+    let refused : CarryingRefused g.D.Disk.model c.args.replica.now c.finish_carried.new.self c.args.disk.now c.finish_carried.new.disk c.into_carried-carried.result (body_size (Carried c.at-base.result c.into_carried-carried.result)) (commits.Journal c.in-Err-Journal.error) = subst (CarryingRefused g.D.Disk.model c.args.replica.now c.finish_carried.new.self c.args.disk.now c.finish_carried.new.disk c.into_carried-carried.result (body_size (Carried c.at-base.result c.into_carried-carried.result))) c.in-Err-Journal.field-0-is c.in-Err-Journal.ensures.refused in
+    refused_grown g.D.Disk.model g.met.D.Disk.only_now c.args.disk.now c.finish_carried.new.disk c.args.replica.now c.finish_carried.new.self (body_of (Carried c.at-base.result c.into_carried-carried.result)) c.in-Err-Journal.error refused.0 (c.finish_carried.ensures.growth bodies on)
 
 pub returns-in-Err-Memory-clause-growth : goal.returns-in-Err-Memory-clause-growth
 returns-in-Err-Memory-clause-growth g c = λ bodies on.
-    let refused : CarryingRefused g.D.Disk.model c.args.replica.now c.finish_carried.new.self c.args.disk.now c.finish_carried.new.disk c.into_carried-carried.result.items (body_size (Carried c.at-base.result c.into_carried-carried.result.items)) commits.Memory = subst (CarryingRefused g.D.Disk.model c.args.replica.now c.finish_carried.new.self c.args.disk.now c.finish_carried.new.disk c.into_carried-carried.result.items (body_size (Carried c.at-base.result c.into_carried-carried.result.items))) c.in-Err-Memory.field-0-is c.in-Err-Memory.ensures.refused in
+    let refused : CarryingRefused g.D.Disk.model c.args.replica.now c.finish_carried.new.self c.args.disk.now c.finish_carried.new.disk c.into_carried-carried.result (body_size (Carried c.at-base.result c.into_carried-carried.result)) commits.Memory = subst (CarryingRefused g.D.Disk.model c.args.replica.now c.finish_carried.new.self c.args.disk.now c.finish_carried.new.disk c.into_carried-carried.result (body_size (Carried c.at-base.result c.into_carried-carried.result))) c.in-Err-Memory.field-0-is c.in-Err-Memory.ensures.refused in
     same_grown g.D.Disk.model g.met.D.Disk.only_now c.args.disk.now c.finish_carried.new.disk refused.1.disk

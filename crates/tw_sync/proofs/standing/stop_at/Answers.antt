@@ -28,7 +28,7 @@ finish_partial-requires-clause-pends g c = λ none.
     let hand = c.requires.pends.0 in
     let r = c.requires.pends.1 in
     let stands = c.requires.pends.2 in
-    let ops_are : c.into_carried-carried.result.items ≡ r.carried = ap (λ v. v.items) (c.into_carried-carried.ensures ∙ c.in_ok-pending.ensures.carried) ∙ stands.carried in
+    let ops_are : c.into_carried-carried.result ≡ r.carried = c.into_carried-carried.ensures ∙ c.in_ok-pending.ensures.carried ∙ stands.carried in
     let pending_is : c.in_ok-pending.pending.items ≡ pending_on r.tasks r.left = c.in_ok-pending.ensures.pending hand r stands in
     subst (λ (ops : List SyncOp). may_pend (apply_all c.args.replica.now.core.tasks ops) c.in_ok-pending.pending.items ≡ true) (sym ops_are)
     (subst (λ (pending : List Op). may_pend (apply_all c.args.replica.now.core.tasks r.carried) pending ≡ true) (sym pending_is) c.requires.pends.3)
@@ -37,9 +37,9 @@ pub returns-in-Ok-clause-any_moment : goal.returns-in-Ok-clause-any_moment
 returns-in-Ok-clause-any_moment g c = λ hand r stands.
     let far : same_id r.at c.args.replica.now.core.base ≡ false = ap (λ (h : List ℕ). same_id h c.args.replica.now.core.base) (sym stands.at ∙ sym c.at-base.ensures) ∙ ap (same_id c.at-base.result) (sym c.base.ensures) ∙ sym c.eq.ensures ∙ c.if-eq.false in
     let at_is : c.at-base.result ≡ r.at = c.at-base.ensures ∙ stands.at in
-    let ops_are : c.into_carried-carried.result.items ≡ r.carried = ap (λ v. v.items) (c.into_carried-carried.ensures ∙ c.in_ok-pending.ensures.carried) ∙ stands.carried in
+    let ops_are : c.into_carried-carried.result ≡ r.carried = c.into_carried-carried.ensures ∙ c.in_ok-pending.ensures.carried ∙ stands.carried in
     let pending_is : c.in_ok-pending.pending.items ≡ pending_on r.tasks r.left = c.in_ok-pending.ensures.pending hand r stands in
-    let taken : Step = Partial c.at-base.result c.into_carried-carried.result.items c.in_ok-pending.pending.items in
+    let taken : Step = Partial c.at-base.result c.into_carried-carried.result c.in_ok-pending.pending.items in
     let is : taken ≡ stopped_step r = (λ i. Partial (at_is i) (ops_are i) (pending_is i)) in
     leaves_move g.D.Disk.model c.args.replica.now c.finish_partial.new.self c.args.disk.now c.finish_partial.new.disk r.at taken (stopped_step r) is far c.finish_partial.ensures.any_moment
 
@@ -47,9 +47,9 @@ pub returns-in-Err-Journal-clause-any_moment : goal.returns-in-Err-Journal-claus
 returns-in-Err-Journal-clause-any_moment g c = λ hand r stands.
     let far : same_id r.at c.args.replica.now.core.base ≡ false = ap (λ (h : List ℕ). same_id h c.args.replica.now.core.base) (sym stands.at ∙ sym c.at-base.ensures) ∙ ap (same_id c.at-base.result) (sym c.base.ensures) ∙ sym c.eq.ensures ∙ c.if-eq.false in
     let at_is : c.at-base.result ≡ r.at = c.at-base.ensures ∙ stands.at in
-    let ops_are : c.into_carried-carried.result.items ≡ r.carried = ap (λ v. v.items) (c.into_carried-carried.ensures ∙ c.in_ok-pending.ensures.carried) ∙ stands.carried in
+    let ops_are : c.into_carried-carried.result ≡ r.carried = c.into_carried-carried.ensures ∙ c.in_ok-pending.ensures.carried ∙ stands.carried in
     let pending_is : c.in_ok-pending.pending.items ≡ pending_on r.tasks r.left = c.in_ok-pending.ensures.pending hand r stands in
-    let taken : Step = Partial c.at-base.result c.into_carried-carried.result.items c.in_ok-pending.pending.items in
+    let taken : Step = Partial c.at-base.result c.into_carried-carried.result c.in_ok-pending.pending.items in
     let is : taken ≡ stopped_step r = (λ i. Partial (at_is i) (ops_are i) (pending_is i)) in
     leaves_move g.D.Disk.model c.args.replica.now c.finish_partial.new.self c.args.disk.now c.finish_partial.new.disk r.at taken (stopped_step r) is far c.finish_partial.ensures.any_moment
 
@@ -57,9 +57,9 @@ pub returns-in-Err-Memory-clause-any_moment : goal.returns-in-Err-Memory-clause-
 returns-in-Err-Memory-clause-any_moment g c = λ hand r stands.
     let far : same_id r.at c.args.replica.now.core.base ≡ false = ap (λ (h : List ℕ). same_id h c.args.replica.now.core.base) (sym stands.at ∙ sym c.at-base.ensures) ∙ ap (same_id c.at-base.result) (sym c.base.ensures) ∙ sym c.eq.ensures ∙ c.if-eq.false in
     let at_is : c.at-base.result ≡ r.at = c.at-base.ensures ∙ stands.at in
-    let ops_are : c.into_carried-carried.result.items ≡ r.carried = ap (λ v. v.items) (c.into_carried-carried.ensures ∙ c.in_ok-pending.ensures.carried) ∙ stands.carried in
+    let ops_are : c.into_carried-carried.result ≡ r.carried = c.into_carried-carried.ensures ∙ c.in_ok-pending.ensures.carried ∙ stands.carried in
     let pending_is : c.in_ok-pending.pending.items ≡ pending_on r.tasks r.left = c.in_ok-pending.ensures.pending hand r stands in
-    let taken : Step = Partial c.at-base.result c.into_carried-carried.result.items c.in_ok-pending.pending.items in
+    let taken : Step = Partial c.at-base.result c.into_carried-carried.result c.in_ok-pending.pending.items in
     let is : taken ≡ stopped_step r = (λ i. Partial (at_is i) (ops_are i) (pending_is i)) in
     leaves_move g.D.Disk.model c.args.replica.now c.finish_partial.new.self c.args.disk.now c.finish_partial.new.disk r.at taken (stopped_step r) is far c.finish_partial.ensures.any_moment
 
@@ -67,9 +67,9 @@ pub returns-in-Ok-clause-moved : goal.returns-in-Ok-clause-moved
 returns-in-Ok-clause-moved g c = λ hand r stands.
     let far : same_id r.at c.args.replica.now.core.base ≡ false = ap (λ (h : List ℕ). same_id h c.args.replica.now.core.base) (sym stands.at ∙ sym c.at-base.ensures) ∙ ap (same_id c.at-base.result) (sym c.base.ensures) ∙ sym c.eq.ensures ∙ c.if-eq.false in
     let at_is : c.at-base.result ≡ r.at = c.at-base.ensures ∙ stands.at in
-    let ops_are : c.into_carried-carried.result.items ≡ r.carried = ap (λ v. v.items) (c.into_carried-carried.ensures ∙ c.in_ok-pending.ensures.carried) ∙ stands.carried in
+    let ops_are : c.into_carried-carried.result ≡ r.carried = c.into_carried-carried.ensures ∙ c.in_ok-pending.ensures.carried ∙ stands.carried in
     let pending_is : c.in_ok-pending.pending.items ≡ pending_on r.tasks r.left = c.in_ok-pending.ensures.pending hand r stands in
-    let taken : Step = Partial c.at-base.result c.into_carried-carried.result.items c.in_ok-pending.pending.items in
+    let taken : Step = Partial c.at-base.result c.into_carried-carried.result c.in_ok-pending.pending.items in
     let is : taken ≡ stopped_step r = (λ i. Partial (at_is i) (ops_are i) (pending_is i)) in
     moves_by g.D.Disk.model c.args.replica.now c.finish_partial.new.self c.args.disk.now c.finish_partial.new.disk r.at taken (stopped_step r) is far c.in-Ok.ensures.partly c.in-Ok.ensures.stands (c.in-Ok.ensures.within _ refl)
 
@@ -77,12 +77,12 @@ pub returns-in-Err-Journal-clause-refused : goal.returns-in-Err-Journal-clause-r
 returns-in-Err-Journal-clause-refused g c = λ hand r stands.
     let far : same_id r.at c.args.replica.now.core.base ≡ false = ap (λ (h : List ℕ). same_id h c.args.replica.now.core.base) (sym stands.at ∙ sym c.at-base.ensures) ∙ ap (same_id c.at-base.result) (sym c.base.ensures) ∙ sym c.eq.ensures ∙ c.if-eq.false in
     let at_is : c.at-base.result ≡ r.at = c.at-base.ensures ∙ stands.at in
-    let ops_are : c.into_carried-carried.result.items ≡ r.carried = ap (λ v. v.items) (c.into_carried-carried.ensures ∙ c.in_ok-pending.ensures.carried) ∙ stands.carried in
+    let ops_are : c.into_carried-carried.result ≡ r.carried = c.into_carried-carried.ensures ∙ c.in_ok-pending.ensures.carried ∙ stands.carried in
     let pending_is : c.in_ok-pending.pending.items ≡ pending_on r.tasks r.left = c.in_ok-pending.ensures.pending hand r stands in
-    let taken : Step = Partial c.at-base.result c.into_carried-carried.result.items c.in_ok-pending.pending.items in
+    let taken : Step = Partial c.at-base.result c.into_carried-carried.result c.in_ok-pending.pending.items in
     let is : taken ≡ stopped_step r = (λ i. Partial (at_is i) (ops_are i) (pending_is i)) in
-    let refused : PartialRefused g.D.Disk.model c.args.replica.now c.finish_partial.new.self c.args.disk.now c.finish_partial.new.disk c.at-base.result c.into_carried-carried.result.items c.in_ok-pending.pending.items (commits.Journal c.in-Err-Journal.error)
-    = subst (PartialRefused g.D.Disk.model c.args.replica.now c.finish_partial.new.self c.args.disk.now c.finish_partial.new.disk c.at-base.result c.into_carried-carried.result.items c.in_ok-pending.pending.items) c.in-Err-Journal.field-0-is c.in-Err-Journal.ensures.refused in
+    let refused : PartialRefused g.D.Disk.model c.args.replica.now c.finish_partial.new.self c.args.disk.now c.finish_partial.new.disk c.at-base.result c.into_carried-carried.result c.in_ok-pending.pending.items (commits.Journal c.in-Err-Journal.error)
+    = subst (PartialRefused g.D.Disk.model c.args.replica.now c.finish_partial.new.self c.args.disk.now c.finish_partial.new.disk c.at-base.result c.into_carried-carried.result c.in_ok-pending.pending.items) c.in-Err-Journal.field-0-is c.in-Err-Journal.ensures.refused in
     not_moved g.D.Disk.model c.args.replica.now c.finish_partial.new.self c.args.disk.now c.finish_partial.new.disk r.at taken (stopped_step r) is far (records.Journal c.in-Err-Journal.error) refused.0
 
 -- ---- how much the disk grows
@@ -94,14 +94,14 @@ pub returns-in_err-pending-clause-growth : goal.returns-in_err-pending-clause-gr
 returns-in_err-pending-clause-growth g c = λ bodies on. same_grown g.D.Disk.model g.met.D.Disk.only_now c.args.disk.now c.args.disk.now refl
 
 pub returns-in-Ok-clause-growth : goal.returns-in-Ok-clause-growth
-returns-in-Ok-clause-growth g c = λ bodies on. row_grown g.D.Disk.model g.met.D.Disk.only_now c.args.disk.now c.finish_partial.new.disk (body_of (Partial c.at-base.result c.into_carried-carried.result.items c.in_ok-pending.pending.items)) (c.in-Ok.ensures.within _ refl) (c.finish_partial.ensures.growth bodies on)
+returns-in-Ok-clause-growth g c = λ bodies on. row_grown g.D.Disk.model g.met.D.Disk.only_now c.args.disk.now c.finish_partial.new.disk (body_of (Partial c.at-base.result c.into_carried-carried.result c.in_ok-pending.pending.items)) (c.in-Ok.ensures.within _ refl) (c.finish_partial.ensures.growth bodies on)
 
 pub returns-in-Err-Journal-clause-growth : goal.returns-in-Err-Journal-clause-growth
 returns-in-Err-Journal-clause-growth g c = λ bodies on.
-    let refused : PartialRefused g.D.Disk.model c.args.replica.now c.finish_partial.new.self c.args.disk.now c.finish_partial.new.disk c.at-base.result c.into_carried-carried.result.items c.in_ok-pending.pending.items (commits.Journal c.in-Err-Journal.error) = subst (PartialRefused g.D.Disk.model c.args.replica.now c.finish_partial.new.self c.args.disk.now c.finish_partial.new.disk c.at-base.result c.into_carried-carried.result.items c.in_ok-pending.pending.items) c.in-Err-Journal.field-0-is c.in-Err-Journal.ensures.refused in
-    refused_grown g.D.Disk.model g.met.D.Disk.only_now c.args.disk.now c.finish_partial.new.disk c.args.replica.now c.finish_partial.new.self (body_of (Partial c.at-base.result c.into_carried-carried.result.items c.in_ok-pending.pending.items)) c.in-Err-Journal.error refused.0 (c.finish_partial.ensures.growth bodies on)
+    let refused : PartialRefused g.D.Disk.model c.args.replica.now c.finish_partial.new.self c.args.disk.now c.finish_partial.new.disk c.at-base.result c.into_carried-carried.result c.in_ok-pending.pending.items (commits.Journal c.in-Err-Journal.error) = subst (PartialRefused g.D.Disk.model c.args.replica.now c.finish_partial.new.self c.args.disk.now c.finish_partial.new.disk c.at-base.result c.into_carried-carried.result c.in_ok-pending.pending.items) c.in-Err-Journal.field-0-is c.in-Err-Journal.ensures.refused in
+    refused_grown g.D.Disk.model g.met.D.Disk.only_now c.args.disk.now c.finish_partial.new.disk c.args.replica.now c.finish_partial.new.self (body_of (Partial c.at-base.result c.into_carried-carried.result c.in_ok-pending.pending.items)) c.in-Err-Journal.error refused.0 (c.finish_partial.ensures.growth bodies on)
 
 pub returns-in-Err-Memory-clause-growth : goal.returns-in-Err-Memory-clause-growth
 returns-in-Err-Memory-clause-growth g c = λ bodies on.
-    let refused : PartialRefused g.D.Disk.model c.args.replica.now c.finish_partial.new.self c.args.disk.now c.finish_partial.new.disk c.at-base.result c.into_carried-carried.result.items c.in_ok-pending.pending.items commits.Memory = subst (PartialRefused g.D.Disk.model c.args.replica.now c.finish_partial.new.self c.args.disk.now c.finish_partial.new.disk c.at-base.result c.into_carried-carried.result.items c.in_ok-pending.pending.items) c.in-Err-Memory.field-0-is c.in-Err-Memory.ensures.refused in
+    let refused : PartialRefused g.D.Disk.model c.args.replica.now c.finish_partial.new.self c.args.disk.now c.finish_partial.new.disk c.at-base.result c.into_carried-carried.result c.in_ok-pending.pending.items commits.Memory = subst (PartialRefused g.D.Disk.model c.args.replica.now c.finish_partial.new.self c.args.disk.now c.finish_partial.new.disk c.at-base.result c.into_carried-carried.result c.in_ok-pending.pending.items) c.in-Err-Memory.field-0-is c.in-Err-Memory.ensures.refused in
     same_grown g.D.Disk.model g.met.D.Disk.only_now c.args.disk.now c.finish_partial.new.disk refused.1.disk

@@ -8,4 +8,4 @@ returns c = λ hand r v e s.
     let old : Walker = c.args.self.now in
     let new : Walker = record { at = c.args.id; mine = old.mine; tasks = c.apply_sent.new.tasks; there = c.apply_sent.new.there; left = c.take_from.new.left; carried = old.carried } in
     stands_pushed hand r v c.args.ops.now.items c.args.batch old new s c.requires (sym e) refl c.in_ok-apply_sent.ensures.tasks c.in_ok-apply_sent.ensures.there
-    c.in_ok-take_from.ensures refl
+    c.take_from.ensures refl

@@ -8,7 +8,7 @@ use Rattle.tw_path.proofs.walker.Walker.take_back_all.Goals as goal
 pub loop-at-init : goal.loop-at-init
 loop-at-init c =
     let ops : List Op = c.args.ops.now.items in
-    (omega (arith, c.len-at.ensures), subst (λ (xs : List Op). IsBefore c.args.hand.now xs c.args.self.now) (sym (drop_all c.len-at.result ops (omega (arith, c.len-at.ensures)))) c.requires, refl, refl, refl)
+    (omega (arith, c.len-at.ensures), subst (λ (xs : List Op). IsBefore c.args.hand.now xs c.args.self.now) (sym (drop_all c.len-at.result ops (omega (arith, c.len-at.ensures)))) c.requires, refl, refl)
 
 pub index-requires : goal.index-requires
 index-requires c = omega (arith, c.loop-at.invariant.0, c.loop-at-test.true)
@@ -26,6 +26,5 @@ loop-at-preserved c =
       omega (arith, c.loop-at.invariant.0),
       subst (λ (xs : List Op). IsBefore c.args.hand.now xs c.take_back.new.self) (sym split) (c.in_ok-take_back.ensures.before (drop (at + 1) ops) here),
       c.take_back.ensures.at ∙ c.loop-at.invariant.2,
-      c.take_back.ensures.left ∙ c.loop-at.invariant.3,
-      c.take_back.ensures.carried ∙ c.loop-at.invariant.4,
+      c.take_back.ensures.carried ∙ c.loop-at.invariant.3,
     )

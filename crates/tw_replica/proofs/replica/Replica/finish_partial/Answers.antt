@@ -21,7 +21,7 @@ pub invariant_of-self-2 : goal.invariant_of-self-2
 invariant_of-self-2 g c =
     let old = c.args.self.now.core in
     let core = c.write_next.new.core in
-    let ops = c.args.ops.items in
+    let ops = c.args.ops in
     let e = c.in_ok-write_next.ensures in
     let new : State = record { base = c.args.base; pending = c.in_ok-kept.kept; tasks = core.tasks; numbers = core.numbers.items } in
     record { sound = step_sound (Partial c.args.base ops c.args.pending.items) (state_of old) new tt c.args.self.now.sound (is_partly c.args.base ops c.args.pending.items (state_of old) new c.in_ok-next.ensures.fits (c.requires.pends c.in_ok-next.ensures.fits) refl c.in_ok-kept.ensures (e.tasks ∙ c.in_ok-next.ensures.tasks) (e.numbers ∙ c.in_ok-next.ensures.numbers)) }
@@ -30,7 +30,7 @@ pub returns-clause-stands : goal.returns-clause-stands
 returns-clause-stands g c = λ bodies on.
     let old = c.args.self.now in
     let core = c.write_next.new.core in
-    let ops = c.args.ops.items in
+    let ops = c.args.ops in
     let e = c.in_ok-write_next.ensures in
     let new : State = record { base = c.args.base; pending = c.in_ok-kept.kept; tasks = core.tasks; numbers = core.numbers.items } in
     let done = is_partly c.args.base ops c.args.pending.items (state_of old.core) new c.in_ok-next.ensures.fits (c.requires.pends c.in_ok-next.ensures.fits) refl c.in_ok-kept.ensures (e.tasks ∙ c.in_ok-next.ensures.tasks) (e.numbers ∙ c.in_ok-next.ensures.numbers) in
@@ -38,37 +38,37 @@ returns-clause-stands g c = λ bodies on.
 
 pub returns-in_err-write_next-clause-any_moment : goal.returns-in_err-write_next-clause-any_moment
 returns-in_err-write_next-clause-any_moment g c = λ bodies on.
-    either_moment g.D.Disk.model c.args.disk.now c.write_next.new.disk bodies (Partial c.args.base c.args.ops.items c.args.pending.items) c.deref.result.now (state_of c.args.self.now.core) _ on.stands c.in_ok-body.ensures.is (c.deref.ensures.value ∙ c.in_ok-body.ensures.body)
-    (partly_on c.args.base c.args.ops.items c.args.pending.items (state_of c.args.self.now.core) c.in_ok-next.ensures.fits (c.requires.pends c.in_ok-next.ensures.fits)) (c.write_next.ensures.any_moment bodies on.open_on)
+    either_moment g.D.Disk.model c.args.disk.now c.write_next.new.disk bodies (Partial c.args.base c.args.ops c.args.pending.items) c.deref.result.now (state_of c.args.self.now.core) _ on.stands c.in_ok-body.ensures.is (c.deref.ensures.value ∙ c.in_ok-body.ensures.body)
+    (partly_on c.args.base c.args.ops c.args.pending.items (state_of c.args.self.now.core) c.in_ok-next.ensures.fits (c.requires.pends c.in_ok-next.ensures.fits)) (c.write_next.ensures.any_moment bodies on.open_on)
 
 pub returns-clause-any_moment : goal.returns-clause-any_moment
 returns-clause-any_moment g c = λ bodies on.
-    either_moment g.D.Disk.model c.args.disk.now c.write_next.new.disk bodies (Partial c.args.base c.args.ops.items c.args.pending.items) c.deref.result.now (state_of c.args.self.now.core) _ on.stands c.in_ok-body.ensures.is (c.deref.ensures.value ∙ c.in_ok-body.ensures.body)
-    (partly_on c.args.base c.args.ops.items c.args.pending.items (state_of c.args.self.now.core) c.in_ok-next.ensures.fits (c.requires.pends c.in_ok-next.ensures.fits)) (c.write_next.ensures.any_moment bodies on.open_on)
+    either_moment g.D.Disk.model c.args.disk.now c.write_next.new.disk bodies (Partial c.args.base c.args.ops c.args.pending.items) c.deref.result.now (state_of c.args.self.now.core) _ on.stands c.in_ok-body.ensures.is (c.deref.ensures.value ∙ c.in_ok-body.ensures.body)
+    (partly_on c.args.base c.args.ops c.args.pending.items (state_of c.args.self.now.core) c.in_ok-next.ensures.fits (c.requires.pends c.in_ok-next.ensures.fits)) (c.write_next.ensures.any_moment bodies on.open_on)
 
 pub returns-then-is_closed-clause-any_moment : goal.returns-then-is_closed-clause-any_moment
-returns-then-is_closed-clause-any_moment g c = λ bodies on. nothing_written g.D.Disk.model g.met.D.Disk.only_now c.args.self.now c.args.disk.now bodies (partly c.args.base c.args.ops.items c.args.pending.items (state_of c.args.self.now.core)) on
+returns-then-is_closed-clause-any_moment g c = λ bodies on. nothing_written g.D.Disk.model g.met.D.Disk.only_now c.args.self.now c.args.disk.now bodies (partly c.args.base c.args.ops c.args.pending.items (state_of c.args.self.now.core)) on
 
 pub returns-in_err-next-clause-any_moment : goal.returns-in_err-next-clause-any_moment
-returns-in_err-next-clause-any_moment g c = λ bodies on. nothing_written g.D.Disk.model g.met.D.Disk.only_now c.args.self.now c.args.disk.now bodies (partly c.args.base c.args.ops.items c.args.pending.items (state_of c.args.self.now.core)) on
+returns-in_err-next-clause-any_moment g c = λ bodies on. nothing_written g.D.Disk.model g.met.D.Disk.only_now c.args.self.now c.args.disk.now bodies (partly c.args.base c.args.ops c.args.pending.items (state_of c.args.self.now.core)) on
 
 pub returns-in_err-body-clause-any_moment : goal.returns-in_err-body-clause-any_moment
-returns-in_err-body-clause-any_moment g c = λ bodies on. nothing_written g.D.Disk.model g.met.D.Disk.only_now c.args.self.now c.args.disk.now bodies (partly c.args.base c.args.ops.items c.args.pending.items (state_of c.args.self.now.core)) on
+returns-in_err-body-clause-any_moment g c = λ bodies on. nothing_written g.D.Disk.model g.met.D.Disk.only_now c.args.self.now c.args.disk.now bodies (partly c.args.base c.args.ops c.args.pending.items (state_of c.args.self.now.core)) on
 
 pub returns-in_err-kept-clause-any_moment : goal.returns-in_err-kept-clause-any_moment
-returns-in_err-kept-clause-any_moment g c = λ bodies on. nothing_written g.D.Disk.model g.met.D.Disk.only_now c.args.self.now c.args.disk.now bodies (partly c.args.base c.args.ops.items c.args.pending.items (state_of c.args.self.now.core)) on
+returns-in_err-kept-clause-any_moment g c = λ bodies on. nothing_written g.D.Disk.model g.met.D.Disk.only_now c.args.self.now c.args.disk.now bodies (partly c.args.base c.args.ops c.args.pending.items (state_of c.args.self.now.core)) on
 
 pub returns-then-is_closed-clause-growth : goal.returns-then-is_closed-clause-growth
-returns-then-is_closed-clause-growth g c = λ bodies on. nothing_grown g.D.Disk.model g.met.D.Disk.only_now c.args.disk.now (length (rows (step_bodies (Partial c.args.base c.args.ops.items c.args.pending.items))))
+returns-then-is_closed-clause-growth g c = λ bodies on. nothing_grown g.D.Disk.model g.met.D.Disk.only_now c.args.disk.now (length (rows (step_bodies (Partial c.args.base c.args.ops c.args.pending.items))))
 
 pub returns-in_err-next-clause-growth : goal.returns-in_err-next-clause-growth
-returns-in_err-next-clause-growth g c = λ bodies on. nothing_grown g.D.Disk.model g.met.D.Disk.only_now c.args.disk.now (length (rows (step_bodies (Partial c.args.base c.args.ops.items c.args.pending.items))))
+returns-in_err-next-clause-growth g c = λ bodies on. nothing_grown g.D.Disk.model g.met.D.Disk.only_now c.args.disk.now (length (rows (step_bodies (Partial c.args.base c.args.ops c.args.pending.items))))
 
 pub returns-in_err-body-clause-growth : goal.returns-in_err-body-clause-growth
-returns-in_err-body-clause-growth g c = λ bodies on. nothing_grown g.D.Disk.model g.met.D.Disk.only_now c.args.disk.now (length (rows (step_bodies (Partial c.args.base c.args.ops.items c.args.pending.items))))
+returns-in_err-body-clause-growth g c = λ bodies on. nothing_grown g.D.Disk.model g.met.D.Disk.only_now c.args.disk.now (length (rows (step_bodies (Partial c.args.base c.args.ops c.args.pending.items))))
 
 pub returns-in_err-kept-clause-growth : goal.returns-in_err-kept-clause-growth
-returns-in_err-kept-clause-growth g c = λ bodies on. nothing_grown g.D.Disk.model g.met.D.Disk.only_now c.args.disk.now (length (rows (step_bodies (Partial c.args.base c.args.ops.items c.args.pending.items))))
+returns-in_err-kept-clause-growth g c = λ bodies on. nothing_grown g.D.Disk.model g.met.D.Disk.only_now c.args.disk.now (length (rows (step_bodies (Partial c.args.base c.args.ops c.args.pending.items))))
 
 pub returns-in_err-write_next-clause-growth : goal.returns-in_err-write_next-clause-growth
 returns-in_err-write_next-clause-growth g c = λ bodies on.
@@ -90,7 +90,7 @@ returns-clause-partly g c =
     let core = c.write_next.new.core in
     let e = c.in_ok-write_next.ensures in
     let new : State = record { base = c.args.base; pending = c.in_ok-kept.kept; tasks = core.tasks; numbers = core.numbers.items } in
-    is_partly c.args.base c.args.ops.items c.args.pending.items (state_of c.args.self.now.core) new c.in_ok-next.ensures.fits (c.requires.pends c.in_ok-next.ensures.fits) refl c.in_ok-kept.ensures (e.tasks ∙ c.in_ok-next.ensures.tasks) (e.numbers ∙ c.in_ok-next.ensures.numbers)
+    is_partly c.args.base c.args.ops c.args.pending.items (state_of c.args.self.now.core) new c.in_ok-next.ensures.fits (c.requires.pends c.in_ok-next.ensures.fits) refl c.in_ok-kept.ensures (e.tasks ∙ c.in_ok-next.ensures.tasks) (e.numbers ∙ c.in_ok-next.ensures.numbers)
 
 pub pending_of-requires : goal.pending_of-requires
 pending_of-requires g c = (both_hold (begins_with_point c.args.pending.items) _ (c.requires.pends c.in_ok-next.ensures.fits)).0
