@@ -82,7 +82,7 @@ both_all : {X : Type 0} (P Q : X → Type 0) (xs : List X) → AllByRecursion P 
 both_all P Q [] p q = tt
 both_all P Q (x ∷ xs) p q = ((p.0, q.0), both_all P Q xs p.1 q.1)
 
-found_all : (tasks : TasksValue) → AllByRecursion (λ e. get tasks e.0 ≡ Some e.1) (entries tasks)
+pub found_all : (tasks : TasksValue) → AllByRecursion (λ e. get tasks e.0 ≡ Some e.1) (entries tasks)
 found_all tasks = recursion_from_All (λ (e : List ℕ × TaskValue). get tasks e.0 ≡ Some e.1) (entries tasks)
     (All-from_get_or (λ (e : List ℕ × TaskValue). get tasks e.0 ≡ Some e.1) (entries tasks) ([], empty) (λ i lt.
     get-entries tasks (get_or (entries tasks) i ([], empty)).0 ∙ find_found (get_or (entries tasks) i ([], empty)).0 (entries tasks) i ([], empty) (entries_sorted tasks) lt (tied_itself nat_list_cmp_total (get_or (entries tasks) i ([], empty)).0)))

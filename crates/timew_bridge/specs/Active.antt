@@ -1,5 +1,6 @@
 -- The task that was started last.
 use Rattle.std.specs.Prelude.{ℕ, cond, nat_lt, nat_le, List, [], ◌∷◌, codes, Option, Some, None}
+use Rattle.std.specs.List.{flat_map}
 use Rattle.std.specs.FinMap.{entries}
 use Rattle.tw_model.specs.Ops.{TaskValue, TasksValue}
 use Rattle.tw_urgency.specs.Status.{has_status}
@@ -27,3 +28,11 @@ latest_of now (e ∷ es) = later (started now e) (latest_of now es)
 -- the task that was started last; of those that were at once, the one with the greatest uuid
 abbrev pub latest : TasksValue → (now : ℕ) → Option Active
 latest tasks now = latest_of now (entries tasks)
+
+abbrev pub uuid_if : Option Active → List (List ℕ)
+uuid_if None = []
+uuid_if (Some a) = a.uuid ∷ []
+
+-- the uuids of the tasks that are active, in byte order
+abbrev pub active_uuids : TasksValue → (now : ℕ) → List (List ℕ)
+active_uuids tasks now = flat_map (λ e. uuid_if (started now e)) (entries tasks)

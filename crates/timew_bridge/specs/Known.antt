@@ -11,7 +11,7 @@ use Rattle.timew_bridge.specs.declared.active.Active.{Active}
 use Rattle.timew_bridge.specs.declared.known.Known.{Known}
 use Rattle.timew_bridge.specs.declared.drivers.Drivers.{Drivers}
 use Rattle.timew_bridge.specs.Label.{label_of}
-use Rattle.timew_bridge.specs.Active.{latest}
+use Rattle.timew_bridge.specs.Active.{latest, active_uuids}
 use Rattle.timew_bridge.specs.Track.{ended_if, let_go_at}
 
 -- of a task with this start: whether it was started, and the text of when it was changed
@@ -33,6 +33,7 @@ label_in tasks (Some a) = label_of (get tasks a.uuid)
 -- all that intervals ask of tasks at a moment
 pub record AreDrivers (tasks : TasksValue) (now : ℕ) (d : Drivers) : Type 0 where
   pub known : d.known.items ≡ all_known tasks
+  pub started : d.started.items ≡ active_uuids tasks now
   pub active : d.active ≡ latest tasks now
   pub label : d.label ≡ label_in tasks d.active
 

@@ -5,6 +5,8 @@ ghost use Rattle.std.specs.List.{AllByRecursion};
 ghost use Rattle.tw_world.specs.declared.moment.TheConstants.{MOMENT_LIMIT};
 ghost use Rattle.timew_interval.specs.Edit.{edited};
 ghost use Rattle.timew_interval.specs.Interval.{AreRows};
+ghost use Rattle.timew_bridge.specs.Active.{latest};
+ghost use Rattle.timew_bridge.specs.Candidates.{ChangedAmong};
 ghost use Rattle.timew_bridge.specs.Tail.{IsClosed, IsTailOf};
 ghost use Rattle.timew_bridge.specs.Label.{label_of};
 ghost use Rattle.timew_bridge.specs.Track.{is_tracked, followed, tracked};
@@ -13,11 +15,13 @@ ghost use Rattle.tw_model.specs.Ops.{TasksValue};
 ghost use Rattle.uuid.specs.Text.{hyphenated_text, lower};
 
 use crate::active::{Active, latest};
+use crate::candidates::latest_among;
 use crate::closing::{all_given_way, all_let_go, all_released};
 use crate::drivers::Drivers;
 use crate::free::{free_from, is_tracked};
 use crate::label::label_of;
 use std::alloc::Global;
+use std::collections::BTreeSet;
 use timew_interval::{Edit, Interval, Intervals, Texts};
 use tw_model::Tasks;
 use tw_world::{Memory, Moment, Text};
@@ -115,19 +119,21 @@ fn drive(
     }
 }
 
-// The same by the tasks themselves.
+// The same by the tasks themselves, of which this one was started last.
 fn drive_by(
     alloc: Global,
     tasks: &Tasks,
+    active: Option<Active>,
     front: &[Interval],
     last: Vec<Interval>,
     now: u64,
 ) -> Result<Vec<Interval>, Memory>
-    requires { AllByRecursion IsClosed front.now }
+    requires closed { AllByRecursion IsClosed front.now }
+    requires latest { active ≡ latest tasks.now now }
     ensures { IfOk result (λ next. front.now ++ next.items ≡ tracked tasks.now (front.now ++ last.items) now) }
 {
     let last = all_let_go(alloc, tasks, now, last)?;
-    match latest(tasks, now) {
+    match active {
         Some(active) => {
             let label = label_of(alloc, tasks, active.uuid)?;
             Ok(follow(alloc, &label, active, front, last, now)?)
@@ -189,6 +195,29 @@ pub fn track_tail(
     Ok(Edit { at, count, rows })
 }
 
+fn track_tail_to(
+    alloc: Global,
+    tasks: &Tasks,
+    active: Option<Active>,
+    rows: &Intervals,
+    edit: Edit,
+    now: Moment,
+) -> Result<Edit, Memory>
+    requires tail { IsTailOf rows.now edit }
+    requires latest { active ≡ latest tasks.now now.seconds }
+    ensures tracked { IfOk result (λ e. edited e rows.now ≡ tracked tasks.now (edited edit rows.now) now.seconds) }
+    ensures tail { IfOk result (IsTailOf rows.now) }
+{
+    let Edit {
+        at,
+        count,
+        rows: last,
+    } = edit;
+    let (front, _) = rows.as_slice().split_at(at);
+    let rows = drive_by(alloc, tasks, active, front, last, now.seconds)?;
+    Ok(Edit { at, count, rows })
+}
+
 /// The same by the tasks themselves, of which it looks at the start of each. It takes no memory for each task.
 pub fn track_tail_by(
     alloc: Global,
@@ -201,14 +230,27 @@ pub fn track_tail_by(
     ensures tracked { IfOk result (λ e. edited e rows.now ≡ tracked tasks.now (edited edit rows.now) now.seconds) }
     ensures tail { IfOk result (IsTailOf rows.now) }
 {
-    let Edit {
-        at,
-        count,
-        rows: last,
-    } = edit;
-    let (front, _) = rows.as_slice().split_at(at);
-    let rows = drive_by(alloc, tasks, front, last, now.seconds)?;
-    Ok(Edit { at, count, rows })
+    track_tail_to(alloc, tasks, latest(tasks, now.seconds), rows, edit, now)
+}
+
+/// The same by the tasks after a command that changed none but the named ones. It looks at these and at the ones that were active before,
+/// in time that grows with their number and the logarithm of the number of tasks.
+pub fn track_tail_among(
+    alloc: Global,
+    before: &Drivers,
+    named: &BTreeSet<Uuid>,
+    tasks: &Tasks,
+    rows: &Intervals,
+    edit: Edit,
+    now: Moment,
+) -> Result<Edit, Memory>
+    requires tail { IsTailOf rows.now edit }
+    requires changed { (old : TasksValue) × AreDrivers old now.seconds before.now × ChangedAmong named.now.keys old tasks.now }
+    ensures tracked { IfOk result (λ e. edited e rows.now ≡ tracked tasks.now (edited edit rows.now) now.seconds) }
+    ensures tail { IfOk result (IsTailOf rows.now) }
+{
+    let active = latest_among(alloc, before, named, tasks, now.seconds)?;
+    track_tail_to(alloc, tasks, active, rows, edit, now)
 }
 
 /// The intervals after tasks have driven them at a moment, as `track_tail_by` does an edit.

@@ -4,6 +4,7 @@
 #![tactic(auto)]
 
 mod active;
+mod candidates;
 mod closing;
 mod drivers;
 mod driving;
@@ -14,4 +15,4 @@ pub mod laws;
 mod named;
 
 pub use drivers::Drivers;
-pub use driving::{tail_of, track, track_tail, track_tail_by};
+pub use driving::{tail_of, track, track_tail, track_tail_among, track_tail_by};
