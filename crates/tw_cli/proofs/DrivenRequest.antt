@@ -1,5 +1,5 @@
 -- What is known of a request once its command is made, whatever input it takes.
-use Rattle.std.proofs.Common.{◌≡◌, ◌⊎◌, inl, inr, ◌∙◌, ap, sym, subst, refl, ℕ, List, true, false, Option, Some, None, Result, Ok, Err, IfOk, IfErr}
+use Rattle.std.proofs.Common.{◌≡◌, ◌⊎◌, inl, inr, ◌∙◌, ap, sym, subst, refl, ℕ, List, length, true, false, Option, Some, None, Result, Ok, Err, IfOk, IfErr}
 use Rattle.std.specs.Global.{Vec}
 use Rattle.tw_world.specs.Disk.{DiskModel, FaultsRise}
 use Rattle.tw_world.specs.Folder.{FolderModel}
@@ -23,7 +23,7 @@ use Rattle.tw_cli.specs.Driving.{is_driving, AreUnopened}
 use Rattle.tw_cli.specs.Hours.{HoursCan, HoursBy}
 use Rattle.tw_cli.specs.Input.{WithInput, with_input}
 use Rattle.tw_cli.specs.Opening.{Stays}
-use Rattle.tw_cli.specs.Ready.{IsBefore, KnowsTasks, HoursRefused, IsMade, EndsUnready, EndsReady, MadeEnds}
+use Rattle.tw_cli.specs.Ready.{IsBefore, LeadsFrom, KnowsTasks, HoursRefused, IsMade, EndsUnready, EndsReady, MadeEnds}
 use Rattle.tw_cli.specs.Run.{HeldBack, CanCarryOut, NotCarried, Shows}
 use Rattle.tw_cli.specs.declared.carry.Made.{Made}
 use Rattle.tw_cli.specs.declared.carry.CarryError.{CarryError}
@@ -35,6 +35,7 @@ use Rattle.tw_cli.proofs.Carrying.{held_back, passes_limit, has_answers, leaves_
 use Rattle.tw_cli.proofs.Endings.{carry_fails}
 use Rattle.tw_cli.proofs.Openings.{rose_later, opens_to, stays_open}
 use Rattle.tw_cli.proofs.Taking.{took_same}
+use Rattle.tw_cli.proofs.Leading.{carried_leads}
 use Rattle.tw_cli.proofs.Driven.{written_run, hours_done, hours_failed, spares_hours, failed_wants}
 
 module _ {D S P F J : Type 0} (m : DiskModel D) (sources : SourceModel S) (hooks : SpawnerModel P) (folders : FolderModel F) (tracks : DiskModel J) (request : Request) (ids : IdWords) (d0 mid d1 : D) (i0 i1 : S) (p0 p1 : P) (f0 f1 : F) (j0 j1 : J)
@@ -55,12 +56,25 @@ module _ {D S P F J : Type 0} (m : DiskModel D) (sources : SourceModel S) (hooks
   pub made_live : is_closed made.ready.prepared.journal ≡ false
   made_live = ap is_closed with.2.decided.decided.prepared.journal ∙ with.2.live
 
-  pub made_knows : KnowsTasks made.at.seconds made.before
+  pub made_knows : KnowsTasks made.at.seconds made.before (prepared_state made.ready.prepared)
   made_knows = by made.before with.2.before
     where
-      by : (before : Option Before) → IsBefore taken (held_state with.2.replica) before → KnowsTasks made.at.seconds before
+      old : State
+      old = held_state with.2.replica
+
+      new : State
+      new = prepared_state made.ready.prepared
+
+      leads : LeadsFrom old.tasks (length old.pending) new
+      leads = carried_leads taken ids with.2.decided.answers old (record { step = with.2.decided.decided.step; new = new; text = made.ready.text.items }) with.2.decided.decided.is
+
+      by : (before : Option Before) → IsBefore taken old before → KnowsTasks made.at.seconds before new
       by None b = tt
-      by (Some x) b = ((held_state with.2.replica).tasks, subst (λ (t : ℕ). AreDrivers (held_state with.2.replica).tasks t x.drivers) (sym (ap (λ (t : Moment). t.seconds) with.2.at)) b.1)
+      by (Some x) b = (
+        old.tasks,
+        subst (λ (t : ℕ). AreDrivers old.tasks t x.drivers) (sym (ap (λ (t : Moment). t.seconds) with.2.at)) b.1,
+        subst (λ (n : ℕ). LeadsFrom old.tasks n new) (sym b.2) leads,
+      )
 
   pub made_shows : (result : Result (Vec ℕ) CarryError) → Ends result → IfOk result (λ text. Shows m sources hooks request ids d0 d1 i0 i1 p0 p1 text.items)
   made_shows (Err e) ends = tt

@@ -1,5 +1,5 @@
 -- The steps by which a command drives hours: what intervals ask of its tasks, the change that is ready, and the change that is written.
-use Rattle.std.specs.Prelude.{◌≡◌, ◌⊎◌, ◌<◌, ◌^◌, ℕ, Bool, true, false, List, length, Option, Some, None, Result, Ok, Err}
+use Rattle.std.specs.Prelude.{◌≡◌, ◌⊎◌, ◌<◌, ◌^◌, ℕ, Bool, true, false, List, length, drop, Option, Some, None, Result, Ok, Err}
 use Rattle.std.specs.Global.{Vec}
 use Rattle.tw_world.specs.Disk.{DiskModel, Rose}
 use Rattle.tw_world.specs.Disk as disk
@@ -8,6 +8,7 @@ use Rattle.tw_world.specs.Folder.{FolderModel}
 use Rattle.tw_world.specs.declared.ids.IdWords.{IdWords}
 use Rattle.tw_spawn.specs.Spawner.{SpawnerModel}
 use Rattle.tw_model.specs.Ops.{TasksValue}
+use Rattle.tw_model.specs.LocalOps.{apply_all_local}
 use Rattle.tw_state.specs.State.{State}
 use Rattle.tw_replica.specs.Opening.{IsOpenedReplica}
 use Rattle.tw_replica.specs.Replica.{held_state, is_replica_closed, IsLengthKept, RecordsAfter, with_more}
@@ -50,10 +51,17 @@ SparesHours (HoursTooLong bytes) = ⊥
 SparesHours Track = ⊥
 SparesHours e = Unit {0}
 
--- there are tasks of which they ask this
-abbrev pub KnowsTasks : (now : ℕ) → Option Before → Type 0
-KnowsTasks now None = Unit {0}
-KnowsTasks now (Some b) = (tasks : TasksValue) × AreDrivers tasks now b.drivers
+-- if a step made operations, they lead from these tasks to those of its state
+abbrev pub LeadsFrom : (tasks : TasksValue) → (pending : ℕ) → (new : State) → Type 0
+LeadsFrom tasks pending new = pending < length new.pending → new.tasks ≡ apply_all_local tasks (drop pending new.pending)
+
+-- there are tasks of which they ask this, and from which a step led to a state
+abbrev pub KnowsBefore : (now : ℕ) → Before → (new : State) → Type 0
+KnowsBefore now b new = (tasks : TasksValue) × AreDrivers tasks now b.drivers × LeadsFrom tasks b.pending new
+
+abbrev pub KnowsTasks : (now : ℕ) → Option Before → (new : State) → Type 0
+KnowsTasks now None new = Unit {0}
+KnowsTasks now (Some b) new = KnowsBefore now b new
 
 -- a change is prepared for a journal of this length
 abbrev pub CanBeWritten : {J : Type 0} → DiskModel J → J → Option PreparedChange → Type 0

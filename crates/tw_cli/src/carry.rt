@@ -5,7 +5,7 @@ ghost use Rattle.tw_world.specs.Crash as crash;
 ghost use Rattle.tw_journal.specs.Journal.{is_closed};
 ghost use Rattle.tw_journal.specs.Record.{rows};
 ghost use Rattle.tw_replica.specs.Replica.{JournalGrowsBy};
-ghost use Rattle.tw_replica.specs.Prepared.{IsLengthReady, prepared_bodies};
+ghost use Rattle.tw_replica.specs.Prepared.{IsLengthReady, prepared_bodies, prepared_state};
 ghost use Rattle.tw_cli.specs.Cause.{carry_cause, ended};
 ghost use Rattle.tw_cli.specs.Hooks.{HooksKept};
 ghost use Rattle.tw_cli.specs.Input.{IsInputKept, WithInput};
@@ -154,7 +154,7 @@ fn write_made<D: Disk, F: Folder, J: Disk>(
 ) -> Result<Vec<u8>, CarryError>
     requires length { IsLengthReady D.model made.ready.prepared disk.old }
     requires live { is_closed made.ready.prepared.journal ≡ false }
-    requires before { KnowsTasks made.at.seconds made.before }
+    requires before { KnowsTasks made.at.seconds made.before (prepared_state made.ready.prepared) }
     ensures ends { MadeEnds D.model F.model J.model made disk.old disk.new folder.old folder.new track.old track.new result }
     ensures growth { JournalGrowsBy D.model made.ready.prepared.journal disk.old disk.new
         (min (length (rows (prepared_bodies made.ready.prepared))) (2 ^ 30)) }

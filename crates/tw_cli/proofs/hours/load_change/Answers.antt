@@ -2,6 +2,7 @@ use Rattle.std.proofs.Common.{◌≡◌, ◌∙◌, ap, sym, subst, List}
 use Rattle.tw_journal.specs.Journal.{journal_end}
 use Rattle.tw_journal.specs.declared.journal.Journal.{Journal}
 use Rattle.tw_model.specs.Ops.{TasksValue}
+use Rattle.tw_replica.specs.Prepared.{prepared_state}
 use Rattle.timew_interval.specs.Edit.{edited, IsEditOf}
 use Rattle.timew_store.specs.Prepared.{PrepareRefused}
 use Rattle.timew_store.specs.Store.{rows_after, is_store_closed}
@@ -32,8 +33,8 @@ returns-in-Err-Memory-clause-refused g c =
 pub returns-in-Err-TooLong-clause-refused : goal.returns-in-Err-TooLong-clause-refused
 returns-in-Err-TooLong-clause-refused g c =
     passes_hours g.F.Folder.model g.J.Disk.model c.in-Ok.store c.args.folder.now c.load.new.folder c.args.track.now c.load.new.disk c.in-Ok.ensures.loaded g.met.F.Folder.seen_may_stay g.met.J.Disk.seen_may_stay
-    c.args.now.seconds c.args.before.now c.args.after.now c.in-Ok-edit_by.edit c.in-Err-TooLong.bytes
-    (subst (λ (rows : List Interval). (tasks : TasksValue) → AreDrivers tasks c.args.now.seconds c.args.before.now → edited c.in-Ok-edit_by.edit rows ≡ driven tasks c.args.after.now rows c.args.now.seconds) c.intervals.ensures c.in-Ok-edit_by.ensures.driven)
+    c.args.now.seconds c.args.before.now.drivers (prepared_state c.args.after.now).tasks c.in-Ok-edit_by.edit c.in-Err-TooLong.bytes
+    (subst (λ (rows : List Interval). (tasks : TasksValue) → AreDrivers tasks c.args.now.seconds c.args.before.now.drivers → edited c.in-Ok-edit_by.edit rows ≡ driven tasks (prepared_state c.args.after.now).tasks rows c.args.now.seconds) c.intervals.ensures c.in-Ok-edit_by.ensures.driven)
     (subst (PrepareRefused c.in-Ok.store (rows_after c.in-Ok-edit_by.edit c.in-Ok.store)) c.in-Err-TooLong.field-0-is c.in-Err-TooLong.ensures.refused)
 
 -- a store that was loaded is not closed
@@ -48,6 +49,6 @@ returns-in-Ok-prepare-clause-ready g c = record {
   edit = c.in-Ok-edit_by.edit;
   loads = c.in-Ok.ensures.loaded;
   prepared = c.in-Ok-prepare.ensures.prepared;
-  rows = subst (λ (rows : List Interval). (tasks : TasksValue) → AreDrivers tasks c.args.now.seconds c.args.before.now → edited c.in-Ok-edit_by.edit rows ≡ driven tasks c.args.after.now rows c.args.now.seconds) c.intervals.ensures c.in-Ok-edit_by.ensures.driven;
+  rows = subst (λ (rows : List Interval). (tasks : TasksValue) → AreDrivers tasks c.args.now.seconds c.args.before.now.drivers → edited c.in-Ok-edit_by.edit rows ≡ driven tasks (prepared_state c.args.after.now).tasks rows c.args.now.seconds) c.intervals.ensures c.in-Ok-edit_by.ensures.driven;
   length = c.in-Ok.ensures.length.0 ∙ ap (λ (j : Journal). journal_end j) (sym c.in-Ok-prepare.ensures.prepared.journal);
 }

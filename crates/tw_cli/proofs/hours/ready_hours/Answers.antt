@@ -1,14 +1,13 @@
 use Rattle.std.proofs.Common.{◌∙◌, ap, sym, subst, refl, inl, inr, None, Some, Option, List, length}
-use Rattle.tw_model.specs.Ops.{TasksValue}
 use Rattle.tw_model.specs.declared.Op.{Op}
 use Rattle.tw_replica.specs.Prepared.{prepared_state}
-use Rattle.tw_cli.specs.Ready.{KnowsTasks, IsReadyChange, AreReady, ChangeRefused, HoursRefused}
+use Rattle.tw_cli.specs.Ready.{KnowsTasks, AreReady, HoursRefused}
 use Rattle.tw_cli.specs.declared.hours.Before.{Before}
 use Rattle.tw_cli.proofs.Growth.{nothing_longer}
 use Rattle.tw_cli.proofs.hours.ready_hours.Goals as goal
 
 pub load_change-requires : goal.load_change-requires
-load_change-requires g c = subst (KnowsTasks c.args.now.seconds) c.in-Some.is c.requires
+load_change-requires g c = subst (λ (before : Option Before). KnowsTasks c.args.now.seconds before (prepared_state c.args.prepared.now)) c.in-Some.is c.requires
 
 -- nothing is driven
 pub returns-in_default-clause-ready : goal.returns-in_default-clause-ready
@@ -32,7 +31,7 @@ pub returns-in-Ok-clause-ready : goal.returns-in-Ok-clause-ready
 returns-in-Ok-clause-ready g c =
     subst (λ (before : Option Before). AreReady g.F.Folder.model g.J.Disk.model c.args.now.seconds before (prepared_state c.args.prepared.now) c.args.folder.now c.load_change.new.folder c.args.track.now c.load_change.new.track (Some c.in-Ok.change)) (sym c.in-Some.is) (
       λ same. c.if-before-len.false (same ∙ sym (c.len.ensures ∙ ap (λ (ops : List Op). length ops) c.pending.ensures)),
-      subst (λ (tasks : TasksValue). IsReadyChange g.F.Folder.model g.J.Disk.model c.args.now.seconds c.in-Some.before.drivers tasks c.args.folder.now c.load_change.new.folder c.args.track.now c.load_change.new.track c.in-Ok.change) c.tasks.ensures c.in-Ok.ensures.ready,
+      c.in-Ok.ensures.ready,
     )
 
 pub returns-in-Ok-clause-any_moment : goal.returns-in-Ok-clause-any_moment
@@ -42,7 +41,7 @@ returns-in-Ok-clause-any_moment g c = inr c.load_change.ensures.any_moment
 pub returns-in-Err-clause-refused : goal.returns-in-Err-clause-refused
 returns-in-Err-clause-refused g c =
     subst (λ (before : Option Before). HoursRefused g.F.Folder.model g.J.Disk.model c.args.folder.now c.load_change.new.folder c.args.track.now c.load_change.new.track c.args.now.seconds before (prepared_state c.args.prepared.now).tasks c.in-Err.error) (sym c.in-Some.is)
-    (subst (λ (tasks : TasksValue). ChangeRefused g.F.Folder.model g.J.Disk.model c.args.folder.now c.load_change.new.folder c.args.track.now c.load_change.new.track c.args.now.seconds c.in-Some.before.drivers tasks c.in-Err.error) c.tasks.ensures c.in-Err.ensures.refused)
+    c.in-Err.ensures.refused
 
 pub returns-in-Err-clause-any_moment : goal.returns-in-Err-clause-any_moment
 returns-in-Err-clause-any_moment g c = inr c.load_change.ensures.any_moment
