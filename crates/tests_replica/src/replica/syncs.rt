@@ -62,9 +62,9 @@ fn is_carried(
 // More operations than are read at once.
 fn many(alloc: Global) -> Result<SyncOps, Memory> {
     let mut ops = SyncOps::new(alloc);
-    for n in 1..301 {
+    for n in 0..300_u32 {
         let create = SyncOp::Create {
-            uuid: Uuid::from_u128(n),
+            uuid: Uuid::from_u128(n as u128),
         };
         ops.push(&create)?;
     }
