@@ -9,7 +9,7 @@ use Rattle.tw_bodies.specs.Body.{Step}
 use Rattle.tw_path.specs.Path.{Reached}
 use Rattle.tw_outcome.specs.End.{ServerChain, starts_at}
 use Rattle.tw_sync.specs.Start.{Start, from_state}
-use Rattle.tw_sync.specs.Sync.{server_chain, RecordsOfSync, LeavesEnd, IsEndIn}
+use Rattle.tw_sync.specs.Sync.{RecordsOfSync, LeavesEnd, IsEndIn}
 use Rattle.tw_sync.proofs.EndsSeen.{ends_after}
 use Rattle.tw_sync.proofs.CursorInChain.{lies_grown}
 
