@@ -8,7 +8,7 @@ use Rattle.tw_model.proofs.LocalOps.{all_taken_back}
 use Rattle.tw_state.specs.State.{State, split_group, in_front, misfit, unless, moved_to, is_idle}
 use Rattle.tw_state.specs.Sound.{IsUndone}
 use Rattle.tw_state.proofs.Soundness.{undo_leads_back}
-use Rattle.tw_sync.specs.LaterOps.{Follows, CommitFollows, UndoStaysBehind, SentForFollowing}
+use Rattle.tw_sync.specs.LaterOps.{Follows, CommitKeepsLaterOps, UndoStaysBehind, SentForFollowing}
 use Rattle.tw_sync.proofs.PendingOps.{plain-append, back-append, fits_from, some_state}
 use Rattle.tw_path.proofs.Sending.{sent_stays}
 use Rattle.tw_outcome.specs.End.{starts_at}
@@ -39,7 +39,7 @@ committed_follows renumber ops old new e = by (is_idle renumber ops) refl e
     by true idle f = idle_follows renumber ops old new idle f
     by false idle f = moved_follows renumber ops old new f
 
-pub commit_follows : CommitFollows
+pub commit_follows : CommitKeepsLaterOps
 commit_follows old new after renumber more ops f e =
     let c : Follows new after ops = committed_follows renumber ops new after e in
     record { base = c.base ∙ f.base; start = c.start ∙ f.start; pending = c.pending ∙ ap (λ xs. xs ++ ops) f.pending ∙ append_assoc old.pending more ops }

@@ -16,8 +16,8 @@ pub record Follows (old new : State) (more : List Op) : Type 0 where
   pub pending : new.pending ≡ old.pending ++ more
 
 -- a commit puts its operations after what follows already
-abbrev pub CommitFollows : Type 0
-CommitFollows = (old new after : State) (renumber : Bool) (more ops : List Op) → Follows old new more → committed renumber ops new ≡ Some after
+abbrev pub CommitKeepsLaterOps : Type 0
+CommitKeepsLaterOps = (old new after : State) (renumber : Bool) (more ops : List Op) → Follows old new more → committed renumber ops new ≡ Some after
     → Follows old after (more ++ ops)
 
 -- an undo that does not reach into what was pending, since an undo point comes after it, leaves that and a part of what follows

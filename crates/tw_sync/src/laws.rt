@@ -1,7 +1,7 @@
 //! Laws of chains, positions and ends of a sync. Each function does nothing: its contract is the law.
 ghost use Rattle.tw_sync.specs.Laws.{NewReplicaAgrees, AgreesIsKept, FoldIsOne, PendingActsOnTheFold, AgreeingReplicasAreEqual, SentIsSound};
 ghost use Rattle.tw_sync.specs.Laws.{AddedWasSent};
-ghost use Rattle.tw_sync.specs.LaterOps.{CommitFollows, UndoStaysBehind, SentForFollowing};
+ghost use Rattle.tw_sync.specs.LaterOps.{CommitKeepsLaterOps, UndoStaysBehind, SentForFollowing};
 ghost use Rattle.tw_sync.specs.World.{ReachedIsGood, ReachedFollows};
 ghost use Rattle.tw_sync.specs.Positions.{ChainStarts, ChainPulls, ChainFits, ChainPushes, OwnVersionsCancelAt, OwnVersionCancelsIn, OwnVersionsCancelEachTime};
 ghost use Rattle.tw_sync.specs.LocalSteps.{CommitAgrees, UndoAgrees};
@@ -91,7 +91,7 @@ pub fn undo_agrees()
 
 /// A commit puts its operations after what was pending and what came later.
 pub fn a_commit_follows()
-    ensures { CommitFollows }
+    ensures { CommitKeepsLaterOps }
 {}
 
 /// An undo that does not reach into what was pending leaves it, and a part of what came later.
