@@ -12,6 +12,7 @@ mod server;
 mod server_words;
 mod settings;
 mod start;
+mod streams;
 mod task;
 mod task_paths;
 mod timew;
@@ -24,6 +25,7 @@ use server::run_server;
 use start::{Part, StartError, part_of, take_first, words};
 use std::alloc::Global;
 use std::process::ExitCode;
+use streams::stand_ins;
 use task::run_task;
 use timew::run_timew;
 
@@ -45,9 +47,14 @@ fn run(rt: &HostRuntime, alloc: Global) -> Result<u8, StartError> {
 
 fn main(rt: HostRuntime) -> ExitCode {
     let alloc = rt.alloc();
+    let stand_ins = match stand_ins(&rt) {
+        Ok(stand_ins) => stand_ins,
+        Err(error) => return ExitCode::from(print_error(&rt, error)),
+    };
     let status = match run(&rt, alloc) {
         Ok(status) => status,
         Err(error) => print_error(&rt, error),
     };
+    drop(stand_ins);
     ExitCode::from(status)
 }
