@@ -3,3 +3,4 @@ pub mod Slashes
 pub mod Spaces
 pub mod Utf8
 pub mod Decimals
+pub mod NoReasons

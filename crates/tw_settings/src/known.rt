@@ -2,7 +2,8 @@
 ghost use Rattle.std.specs.Prelude.{◌≡◌, is_some};
 ghost use Rattle.uuid.specs.Text.{parsed};
 ghost use Rattle.tw_text.specs.Decimal.{thousandths};
-ghost use Rattle.tw_settings.specs.Settings.{is_include, is_switch, is_number_to, is_value_of, is_readable_as, is_readable, is_allowed};
+ghost use Rattle.tw_time.specs.Tables.{look_up};
+ghost use Rattle.tw_settings.specs.Settings.{known, is_include, is_switch, is_number_to, is_value_of, is_readable_as, is_readable, is_allowed};
 
 use crate::address::parts_in;
 use tw_text::{read_decimal3, read_u64};
@@ -57,7 +58,7 @@ const KNOWN: [(&str, Kind); 24] = [
 ];
 
 #[tactic(auto, unfolding(crate::specs::Settings::is_include))]
-fn is_include(name: &str) -> bool
+pub(crate) fn is_include(name: &str) -> bool
     ensures { result ≡ is_include name.now }
 {
     name == "include" || name.as_bytes().starts_with(b"include ")
@@ -102,7 +103,7 @@ fn is_decimal(text: &str) -> bool
     read_decimal3(text).is_some()
 }
 
-fn is_value_of(kind: Kind, value: &str) -> bool
+pub(crate) fn is_value_of(kind: Kind, value: &str) -> bool
     ensures { result ≡ is_value_of kind value.now }
 {
     match kind {
@@ -125,12 +126,19 @@ fn is_readable_as(kind: Option<Kind>, value: &str) -> bool
     }
 }
 
+/// What the value of a name is, if the name is known.
+pub(crate) fn kind_of(name: &str) -> Option<Kind>
+    ensures { result ≡ look_up name.now known }
+{
+    look_up(name.as_bytes(), &KNOWN)
+}
+
 // Whether a value can be read, where the name is known.
 #[tactic(auto, unfolding(crate::specs::Settings::is_readable))]
 fn is_readable(name: &str, value: &str) -> bool
     ensures { result ≡ is_readable name.now value.now }
 {
-    is_readable_as(look_up(name.as_bytes(), &KNOWN), value)
+    is_readable_as(kind_of(name), value)
 }
 
 /// Whether a value may come after a name: none may, and one that can be read.

@@ -41,7 +41,8 @@ pub(crate) fn trimmed(text: &str) -> &str
     text.trim_start_matches(' ').trim_end_matches(' ')
 }
 
-fn uncommented(line: &str) -> &str
+/// A line without its comment.
+pub(crate) fn uncommented(line: &str) -> &str
     ensures { result.now ≡ uncommented line.now }
 {
     match line.split_once('#') {
@@ -78,7 +79,8 @@ fn assigned(text: &str) -> Option<(&str, &str)>
     }
 }
 
-fn is_blank(text: &[u8]) -> bool
+/// Whether a text has nothing but spaces.
+pub(crate) fn is_blank(text: &[u8]) -> bool
     ensures { result ≡ list_all (λ b. b == 32) text.now }
 {
     text.iter().all(|b| *b == b' ')

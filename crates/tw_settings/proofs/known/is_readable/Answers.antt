@@ -1,10 +1,7 @@
 use Rattle.std.proofs.Common.{◌∙◌, ap}
-use Rattle.tw_time.specs.Tables.{look_up}
-use Rattle.tw_settings.specs.Settings.{known, is_readable, is_readable_as}
+use Rattle.tw_settings.specs.Settings.{is_readable, is_readable_as}
 use Rattle.tw_settings.proofs.known.is_readable.Goals as goal
 
 pub returns : goal.returns
 unfolding is_readable
-returns c =
-    c.is_readable_as.ensures
-    ∙ ap (λ kind. is_readable_as kind c.args.value.now) (c.look_up.ensures ∙ ap (λ text. look_up text known) c.as_bytes.ensures.value)
+returns c = c.is_readable_as.ensures ∙ ap (λ kind. is_readable_as kind c.args.value.now) c.kind_of.ensures
