@@ -19,12 +19,12 @@ use Rattle.tw_http.proofs.HeadSteps.{found_here, not_here}
 
 -- ---- the end of the head
 
-begins-append : (mark xs ys : List ℕ) → length mark ≤ length xs → begins_with mark (xs ++ ys) ≡ begins_with mark xs
+pub begins-append : (mark xs ys : List ℕ) → length mark ≤ length xs → begins_with mark (xs ++ ys) ≡ begins_with mark xs
 begins-append [] xs ys h = refl
 begins-append (c ∷ mark) [] ys h = absurd (omega (arith, h))
 begins-append (c ∷ mark) (b ∷ xs) ys h = ap (λ t. b == c && t) (begins-append mark xs ys (omega (arith, h)))
 
-begins-long : (mark xs : List ℕ) → begins_with mark xs ≡ true → length mark ≤ length xs
+pub begins-long : (mark xs : List ℕ) → begins_with mark xs ≡ true → length mark ≤ length xs
 begins-long [] xs e = omega arith
 begins-long (c ∷ mark) [] e = absurd (false≢true e)
 begins-long (c ∷ mark) (b ∷ xs) e = let rest = begins-long mark xs (and_parts (b == c) (begins_with mark xs) e).1 in omega (arith, rest)
@@ -84,10 +84,10 @@ bind-same : {A B : Type 0} (x : Result A HttpError) (f g : A → Result B HttpEr
 bind-same (Ok a) f g r h e = h a e
 bind-same (Err fault) f g r h e = e
 
-too_long : (n : ℕ) (rest : List ℕ) → nat_lt max_body n ≡ true → body_of n rest ≡ Err TooLong
+pub too_long : (n : ℕ) (rest : List ℕ) → nat_lt max_body n ≡ true → body_of n rest ≡ Err TooLong
 too_long n rest t = rw t refl
 
-not_yet : (n : ℕ) (rest : List ℕ) → nat_lt max_body n ≡ false → nat_lt (length rest) n ≡ true → body_of n rest ≡ Err NotYet
+pub not_yet : (n : ℕ) (rest : List ℕ) → nat_lt max_body n ≡ false → nat_lt (length rest) n ≡ true → body_of n rest ≡ Err NotYet
 not_yet n rest f t = rw (f, t) refl
 
 pub there : (n : ℕ) (rest : List ℕ) → nat_lt max_body n ≡ false → nat_lt (length rest) n ≡ false → body_of n rest ≡ Ok (take n rest)

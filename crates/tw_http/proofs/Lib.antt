@@ -3,6 +3,7 @@ pub mod Options
 pub mod HeadSteps
 pub mod Numbers
 pub mod Deciding
+pub mod Ending
 pub mod OneAnswer
 pub mod Visible
 pub mod Uuids

@@ -1,5 +1,5 @@
 -- Laws of messages.
-use Rattle.std.specs.Prelude.{◌≡◌, ℕ, List, ◌++◌, Result, Ok}
+use Rattle.std.specs.Prelude.{◌≡◌, ℕ, List, ◌++◌, Option, Result, Ok}
 use Rattle.tw_protocol.specs.Chain.{IsUuid}
 use Rattle.tw_protocol.specs.Snapshots.{Account, IsAccount}
 use Rattle.tw_http.specs.declared.message.Asked.{Asked}
@@ -9,6 +9,7 @@ use Rattle.tw_http.specs.declared.message.HttpError.{HttpError}
 use Rattle.tw_http.specs.Messages.{response_text}
 use Rattle.tw_http.specs.Requests.{IsRequestAnswer}
 use Rattle.tw_http.specs.Responses.{IsResponseAnswer}
+use Rattle.tw_http.specs.Lengths.{IsResponseLen}
 use Rattle.tw_http.specs.Serving.{kind_of, response_to, AccountFits}
 
 abbrev pub RequestHasOneAnswer : Type 0
@@ -16,6 +17,9 @@ RequestHasOneAnswer = (bytes : List ℕ) (r s : Result Request HttpError) → Is
 
 abbrev pub ResponseHasOneAnswer : Type 0
 ResponseHasOneAnswer = (what : Asked) (bytes : List ℕ) (r s : Result Response HttpError) → IsResponseAnswer what bytes r → IsResponseAnswer what bytes s → r ≡ s
+
+abbrev pub ResponseHasOneLength : Type 0
+ResponseHasOneLength = (bytes : List ℕ) (n m : Option ℕ) → IsResponseLen bytes n → IsResponseLen bytes m → n ≡ m
 
 -- the text of the server's answer by an account is read as that answer, whatever follows
 abbrev pub ServedIsRead : Type 0
