@@ -1,7 +1,8 @@
 -- What bytes are read as, if a request is awaited. The answer is determined, and each refusal comes in this order.
-use Rattle.std.specs.Prelude.{◌≡◌, ◌⊎◌, ℕ, ◌<◌, ◌≤◌, nat_eq, Bool, true, false, if◌then◌else◌}
+use Rattle.std.specs.Prelude.{◌≡◌, ◌⊎◌, ℕ, ◌-◌, ◌<◌, ◌≤◌, nat_eq, Bool, true, false, not, if◌then◌else◌}
 use Rattle.std.specs.Prelude.{List, [], codes, length, take, drop, map, bytes_eq, Option, Some, None, option_map, Result, Ok, Err}
-use Rattle.std.specs.List.{starts_with}
+use Rattle.std.specs.List.{starts_with, take_while, suffix_len}
+use Rattle.std.specs.Char.{is_ascii_whitespace}
 use Rattle.httparse.specs.Grammar.{RequestHead, ReadsRequest}
 use Rattle.httparse.specs.Spans.{name_and_value}
 use Rattle.tw_http.specs.declared.message.Request.{Request}
@@ -12,7 +13,7 @@ use Rattle.tw_http.specs.declared.message.HttpError.{HttpError}
 use Rattle.tw_http.specs.declared.message.HttpError.TheVariants.{Head, Path, Header}
 use Rattle.tw_http.specs.Messages.{max_head, max_lines, segment_type, snapshot_type, add_path, child_path, store_path, fetch_path}
 use Rattle.tw_http.specs.Heads.{◌>>=◌, or_err, head_len, no_head}
-use Rattle.tw_http.specs.Fields.{Fields, values_of, only, parsed_only, uuid_field}
+use Rattle.tw_http.specs.Fields.{Fields, same_name, values_of, only, parsed_only, uuid_field}
 use Rattle.tw_http.specs.Bodies.{body_len, body_of}
 
 -- what follows a prefix
@@ -55,9 +56,21 @@ has_body (at.Child parent) = false
 has_body (at.Store version) = true
 has_body at.Fetch = false
 
+-- parameters begin at a semicolon
+abbrev pub is_before_parameters : ℕ → Bool
+is_before_parameters c = not (nat_eq c 59)
+
+abbrev pub trimmed_end : List ℕ → List ℕ
+trimmed_end text = take (length text - suffix_len is_ascii_whitespace text) text
+
+-- a media type, without its parameters and the blanks before them
+abbrev pub media_type : List ℕ → List ℕ
+media_type value = trimmed_end (take_while is_before_parameters value)
+
+-- media types are the same in any case, whatever their parameters (RFC 9110, section 8.3.1)
 abbrev pub is_type : List ℕ → Option (List ℕ) → Bool
 is_type needed None = false
-is_type needed (Some v) = bytes_eq v needed
+is_type needed (Some v) = same_name (media_type v) needed
 
 -- a request with a body has the one type
 abbrev pub typed_as : Option (List ℕ) → Fields → Result (Unit {0}) HttpError

@@ -1,12 +1,12 @@
 // Reads a request.
-ghost use Rattle.std.specs.Prelude.{◌≡◌, ◌++◌, ◌≤◌, length, map, take, drop, All, option_map, List, ℕ};
+ghost use Rattle.std.specs.Prelude.{◌≡◌, ◌++◌, ◌≤◌, length, map, take, drop, take_while, All, option_map, List, ℕ};
 ghost use Rattle.httparse.specs.Spans.{IsHeaderWithin, header_bytes};
-ghost use Rattle.tw_http.specs.Requests.{after_prefix, uuid_after, posted, fetched, asked_of, content_type, has_body, is_type, typed_as};
+ghost use Rattle.tw_http.specs.Requests.{after_prefix, uuid_after, posted, fetched, asked_of, content_type, has_body, is_before_parameters, media_type, is_type, typed_as};
 ghost use Rattle.tw_http.specs.Requests.{request_made, request_after, IsRequestHeadAnswer, IsRequestAnswer};
 ghost use Rattle.tw_http.specs.Faults.{Unless, Decided};
 
 use crate::body::{body_len, body_of};
-use crate::fields::{only_value, read_uuid, uuid_field};
+use crate::fields::{only_value, read_uuid, same_name, uuid_field};
 use crate::head::{first_bytes, head_len, no_head};
 use crate::message::{Bytes, HttpError, Request};
 use httparse::Status;
@@ -193,9 +193,23 @@ fn is_type(needed: &[u8], value: Option<&[u8]>) -> bool
     ensures { result ≡ is_type needed.now (option_map (λ v. v.now) value.entry) }
 {
     match value {
-        Some(value) => value == needed,
+        Some(value) => same_name(media_type(value), needed),
         None => false,
     }
+}
+
+// A media type, without its parameters and the blanks before them.
+fn media_type(value: &[u8]) -> &[u8]
+    ensures { result.now ≡ media_type value.now }
+{
+    value[..type_len(value)].trim_ascii_end()
+}
+
+fn type_len(value: &[u8]) -> usize
+    ensures value { result ≡ length (take_while is_before_parameters value.now) }
+    ensures bound { result ≤ length value.now }
+{
+    value.iter().take_while(|c| **c != b';').count()
 }
 
 fn request_made(asked: Target, client: Uuid, body: Bytes) -> Request
