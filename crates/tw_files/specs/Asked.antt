@@ -1,14 +1,15 @@
 -- One exchange with a server.
-use Rattle.std.specs.Prelude.{◌≡◌, ◌⊎◌, ℕ, ◌+◌, List, Option, Result, Ok, Err, length}
-use Rattle.std.specs.Io.KnownBytes.{Appends, Consumes, IsAtEnd}
+use Rattle.std.specs.Prelude.{◌⊎◌, ℕ, ◌+◌, List, Option, Result, Ok, Err}
+use Rattle.std.specs.Io.KnownBytes.{Appends, Consumes}
 use Rattle.std.specs.declared.net.socket_addr.SocketAddr.{SocketAddr}
 use Rattle.tw_files.specs.declared.connection.Connection.{Connection}
 use Rattle.tw_files.specs.declared.connection.Limits.{Limits}
 use Rattle.tw_files.specs.Waits.{Begins}
+use Rattle.tw_files.specs.Framing.{EndsAt, IsWhole, IsNoMore}
 
--- how long a server may be silent, and take for all
+-- how long a server may be silent, and take for all: without bytes, and at most
 abbrev pub client_limits : Limits
-client_limits = record { silence_seconds = 30; whole_seconds = 120 }
+client_limits = record { silence_seconds = 30; whole_seconds = 120; most_seconds = 600 }
 
 -- whether a stream leads to an address, for which it was to wait so many nanoseconds at most
 abbrev pub Leads : Type 0 → Type 1
@@ -25,20 +26,21 @@ pub record Dialled {C S : Type 0} (is_of : SocketAddr → Type 0) (leads_to : Le
   pub led : leads_to connection.stream address 30_000_000_000
   pub limited : Begins has_shown client_limits connection
 
--- what is left of a connection was read, or as many bytes as the longest reply has
-pub record Replied {C S : Type 0} (remaining : Known S) (old new : Connection C S) (reply : List ℕ) : Type 0 where
+-- a reply was read from a connection, whole and no more
+pub record Replied {C S : Type 0} (remaining : Known S) (ends_at : EndsAt) (old new : Connection C S) (reply : List ℕ) : Type 0 where
   pub read : Consumes (remaining old.stream) (remaining new.stream) reply
-  pub whole : IsAtEnd (remaining new.stream) ⊎ (length reply ≡ 16793600)
+  pub whole : IsWhole ends_at (remaining new.stream) reply
+  pub no_more : IsNoMore ends_at reply
 
 -- a new connection to one of these addresses got the request, and gave the reply
 pub record Asked {C S : Type 0} (is_of : SocketAddr → Type 0) (leads_to : Leads S) (has_shown : C → ℕ → Type 0)
-    (contents remaining : Known S) (request reply : List ℕ) : Type 0 where
+    (contents remaining : Known S) (ends_at : EndsAt) (request reply : List ℕ) : Type 0 where
   pub begun : Connection C S
   pub sent : Connection C S
   pub ended : Connection C S
   pub dialled : Dialled is_of leads_to has_shown begun
   pub got : Appends (contents begun.stream) (contents sent.stream) request
-  pub replied : Replied remaining sent ended reply
+  pub replied : Replied remaining ends_at sent ended reply
 
 -- one connection was opened; or none, if nothing came of it
 abbrev pub OpensOne : {D A E : Type 0} → (has_opened : D → ℕ → Type 0) → (old new : D) → Result A E → Type 0

@@ -1,14 +1,13 @@
 // The client's side of one exchange with a server.
-ghost use Rattle.std.specs.Prelude.{◌≡◌, ◌⊎◌, length, OnOk, IfOk};
-ghost use Rattle.std.specs.Io.KnownBytes.{Consumes, IsAtEnd};
+ghost use Rattle.std.specs.Prelude.{OnOk, IfOk};
 ghost use Rattle.tw_files.specs.Asked.{Asked, Dialled, OpensOne};
 
 use crate::connection::{Connection, Limits};
 use crate::dialer::Dialer;
+use crate::reply::{Framing, read_reply};
 use crate::stream::write_whole;
 use crate::timed_stream::Timer;
 use std::io;
-use std::io::Read;
 use std::time::Duration;
 
 /// Why an exchange brought no reply.
@@ -25,32 +24,32 @@ const CONNECT_SECONDS: u64 = 30;
 const LIMITS: Limits = Limits {
     silence_seconds: 30,
     whole_seconds: 120,
+    most_seconds: 600,
 };
-
-// The bytes of the longest reply: a head of 16,384 and a body of 16,777,216.
-const MAX_REPLY: usize = 16_793_600;
-
-const PIECE: usize = 65_536;
 
 /// Sends a request over a connection of its own to the first address of the host that takes one, and makes `reply`
 /// what comes back: all of it, or its first 16,793,600 bytes. It waits 30 seconds at most for an address, a
-/// read or a write, and 120 for all reads and writes. After an error `reply` holds any bytes.
-pub fn ask<D: Dialer, C: Timer + Drop>(
+/// read or a write, and 120 for all reads and writes, with a millisecond more for each byte, up to 600 seconds. After
+/// an error `reply` holds any bytes.
+///
+/// A reply ends where `framing` says, or else where the other end stops. What follows it may be read with its last piece.
+pub fn ask<D: Dialer, C: Timer + Drop, N: Framing>(
     dialer: &mut D,
     clock: C,
+    framing: &N,
     host: &str,
     port: u16,
     request: &[u8],
     reply: &mut Vec<u8>,
 ) -> Result<(), AskError>
     ensures opened { OpensOne D.has_opened dialer.old dialer.new result }
-    ensures asked { OnOk result (Asked (D.is_of host.now port) D.leads_to C.has_shown D.Stream.contents D.Stream.remaining request.now reply.new.items) }
+    ensures asked { OnOk result (Asked (D.is_of host.now port) D.leads_to C.has_shown D.Stream.contents D.Stream.remaining N.ends_at request.now reply.new.items) }
 {
     let mut connection = dial(dialer, clock, host, port)?;
     if !write_whole(&mut connection, request) {
         return Err(AskError::Failed);
     }
-    read_reply(&mut connection, reply)?;
+    read_reply(&mut connection, framing, reply)?;
     Ok(())
 }
 
@@ -78,26 +77,4 @@ fn dial<D: Dialer, C: Timer + Drop>(
         }
     }
     Err(AskError::Failed)
-}
-
-// Makes `reply` what is left of a stream, or the first bytes of it, as many as the longest reply has.
-fn read_reply<S: Read>(stream: &mut S, reply: &mut Vec<u8>) -> Result<(), AskError>
-    ensures bytes { OnOk result (Consumes (S.remaining stream.old) (S.remaining stream.new) reply.new.items) }
-    ensures whole { OnOk result (IsAtEnd (S.remaining stream.new) ⊎ (length reply.new.items ≡ 16793600)) }
-{
-    reply.clear();
-    let mut piece = [0; PIECE];
-    while reply.len() < MAX_REPLY {
-        let room = PIECE.min(MAX_REPLY - reply.len());
-        match stream.read(&mut piece[..room]) {
-            Ok(0) => return Ok(()),
-            Ok(count) => {
-                if reply.extend_from_slice(&piece[..count]).is_err() {
-                    return Err(AskError::Memory);
-                }
-            }
-            Err(_) => return Err(AskError::Failed),
-        }
-    }
-    Ok(())
 }

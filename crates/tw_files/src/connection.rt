@@ -1,9 +1,9 @@
-// A connection that no one can hold for ever.
+// A connection that no one can hold for ever, nor for long with few bytes.
 ghost use Rattle.std.specs.Prelude.{◌≡◌, ◌⊎◌, ◌+◌, ◌*◌, ◌≤◌, min, ℕ, IfOk, OnOk, OnErr};
 ghost use Rattle.std.specs.Duration.{as_nanos};
 ghost use Rattle.std.specs.Io.{ReadsAtMost, WritesAtMost};
 ghost use Rattle.std.specs.Io.KnownBytes.{ReadConsumes, WriteAppends};
-ghost use Rattle.tw_files.specs.Waits.{Begins, MayWait, Waited, IsReadOn, IsClosed};
+ghost use Rattle.tw_files.specs.Waits.{Begins, MayWait, Waited, end_by, Gains, IsReadOn, IsClosed};
 
 use crate::timed_stream::{TimedStream, Timer};
 use std::io;
@@ -15,8 +15,10 @@ use std::time::Duration;
 pub struct Limits {
     /// How long one read or write waits for the other end.
     pub silence_seconds: u64,
-    /// How long the connection lasts, all reads and writes together.
+    /// How long the connection lasts, all reads and writes together, if no byte goes through it. Each byte adds a millisecond.
     pub whole_seconds: u64,
+    /// How long it lasts at most.
+    pub most_seconds: u64,
 }
 
 // What may come after a message before the connection is closed: two seconds, and 64 MiB.
@@ -31,6 +33,7 @@ pub struct Connection<C: Timer, S: TimedStream> {
     stream: S,
     silence: Duration,
     end: Duration,
+    last: Duration,
 }
 
 impl<C: Timer, S: TimedStream> Connection<C, S> {
@@ -42,12 +45,15 @@ impl<C: Timer, S: TimedStream> Connection<C, S> {
         ensures begun { IfOk result (Begins C.has_shown limits) }
         ensures stream { IfOk result (λ c. c.stream ≡ stream) }
     {
-        let end = end_after(&clock, limits.whole_seconds)?;
+        let start = clock.elapsed()?;
+        let end = end_after(start, limits.whole_seconds)?;
+        let last = end_after(start, limits.most_seconds)?;
         Ok(Connection {
             clock,
             stream,
             silence: Duration::from_secs(limits.silence_seconds),
             end,
+            last,
         })
     }
 
@@ -58,6 +64,39 @@ impl<C: Timer, S: TimedStream> Connection<C, S> {
     {
         let left = self.end.saturating_sub(self.clock.elapsed()?);
         Ok(shorter(left, self.silence))
+    }
+
+    // Reads as the limits allow. The end stays.
+    fn read_some(&mut self, buf: &mut [u8]) -> io::Result<usize>
+        ensures bound { ReadsAtMost result buf.new }
+        ensures bytes { ReadConsumes (S.remaining self.old.stream) (S.remaining self.new.stream) result buf.new }
+        ensures waited { OnOk result (Waited C.has_shown S.waited self.old self.new) }
+        ensures limits { self.new ≡ record self.old { stream = self.new.stream } }
+        ensures sent { S.contents self.new.stream ≡ S.contents self.old.stream }
+        ensures ended { S.is_ended self.old.stream → S.is_ended self.new.stream }
+        ensures failed { OnErr result (C.may_fail ⊎ S.may_fail) }
+    {
+        let wait = self.wait()?;
+        self.stream.read_within(buf, wait)
+    }
+
+    // Writes as the limits allow. The end stays.
+    fn write_some(&mut self, buf: &[u8]) -> io::Result<usize>
+        ensures bound { WritesAtMost result buf.now }
+        ensures bytes { WriteAppends (S.contents self.old.stream) (S.contents self.new.stream) result buf.now }
+        ensures waited { OnOk result (Waited C.has_shown S.waited self.old self.new) }
+        ensures limits { self.new ≡ record self.old { stream = self.new.stream } }
+    {
+        let wait = self.wait()?;
+        self.stream.write_within(buf, wait)
+    }
+
+    // Moves the end on by what so many bytes add.
+    fn go_on(&mut self, count: usize)
+        ensures end { as_nanos self.new.end ≡ end_by self.old count }
+        ensures limits { self.new ≡ record self.old { end = self.new.end } }
+    {
+        self.end = later(self.end, count, self.last);
     }
 
     // Brings the end nearer, to so many seconds from now.
@@ -76,6 +115,7 @@ impl<C: Timer, S: TimedStream> Connection<C, S> {
     // Tells the other end that no more is sent. What still comes may take two seconds.
     fn say_end(&mut self) -> io::Result<()>
         ensures ended { OnOk result (S.is_ended self.new.stream) }
+        ensures nearer { as_nanos self.new.end ≤ as_nanos self.old.end }
         ensures rest { S.remaining self.new.stream ≡ S.remaining self.old.stream }
         ensures sent { S.contents self.new.stream ≡ S.contents self.old.stream }
         ensures failed { OnErr result (C.may_fail ⊎ S.may_fail) }
@@ -84,16 +124,17 @@ impl<C: Timer, S: TimedStream> Connection<C, S> {
         self.stream.end_writing()
     }
 
-    // Reads what still comes: to its end, or 64 MiB of it. It stops where a call fails.
+    // Reads what still comes: to its end, or 64 MiB of it. It stops where a call fails, and adds no time.
     fn read_on(&mut self)
         ensures read { C.may_fail ⊎ S.may_fail ⊎ IsReadOn S.remaining self.old self.new }
+        ensures limits { self.new ≡ record self.old { stream = self.new.stream } }
         ensures ended { S.is_ended self.old.stream → S.is_ended self.new.stream }
         ensures sent { S.contents self.new.stream ≡ S.contents self.old.stream }
     {
         let mut piece = [0; 65_536];
         let mut count = 0;
         while count < LAST_BYTES {
-            match self.read(&mut piece) {
+            match self.read_some(&mut piece) {
                 Ok(0) | Err(_) => return,
                 Ok(more) => count += more,
             }
@@ -105,6 +146,7 @@ impl<C: Timer, S: TimedStream> Connection<C, S> {
     #[tactic(auto, using(crate::proofs::Closing::closed))]
     pub fn close(&mut self)
         ensures closed { C.may_fail ⊎ S.may_fail ⊎ IsClosed S.is_ended S.remaining self.old self.new }
+        ensures nearer { as_nanos self.new.end ≤ as_nanos self.old.end }
         ensures sent { S.contents self.new.stream ≡ S.contents self.old.stream }
     {
         if self.say_end().is_ok() {
@@ -113,13 +155,23 @@ impl<C: Timer, S: TimedStream> Connection<C, S> {
     }
 }
 
-// The time of so many seconds from now.
-fn end_after<C: Timer>(clock: &C, seconds: u64) -> io::Result<Duration>
-    ensures { IfOk result (λ end. (time : ℕ) × C.has_shown clock.now time × (as_nanos end ≡ time + seconds * 1_000_000_000)) }
+// The time of so many seconds after a start.
+fn end_after(start: Duration, seconds: u64) -> io::Result<Duration>
+    ensures { IfOk result (λ end. as_nanos end ≡ as_nanos start + seconds * 1_000_000_000) }
 {
-    match clock.elapsed()?.checked_add(Duration::from_secs(seconds)) {
+    match start.checked_add(Duration::from_secs(seconds)) {
         Some(end) => Ok(end),
         None => Err(io::Error::from(io::ErrorKind::InvalidData)),
+    }
+}
+
+// The end after so many more bytes: a millisecond later for each, and never after `last`.
+fn later(end: Duration, count: usize, last: Duration) -> Duration
+    ensures { as_nanos result ≡ min (as_nanos last) (as_nanos end + count * 1_000_000) }
+{
+    match end.checked_add(Duration::from_millis(count as u64)) {
+        Some(end) => shorter(last, end),
+        None => last,
     }
 }
 
@@ -136,15 +188,17 @@ impl<C: Timer, S: TimedStream> Read for Connection<C, S> {
         ensures bound { ReadsAtMost result buf.new }
         ensures bytes { ReadConsumes (S.remaining self.old.stream) (S.remaining self.new.stream) result buf.new }
 
-        // The wait of the stream is the one that the limits allow, and they stay.
+        // The wait of the stream is the one that the limits allow. Then the end is later by what was read, and the rest of them stays.
         ensures waited { OnOk result (Waited C.has_shown S.waited self.old self.new) }
-        ensures limits { self.new ≡ record self.old { stream = self.new.stream } }
+        ensures end { Gains self.old self.new result }
+        ensures limits { self.new ≡ record self.old { stream = self.new.stream; end = self.new.end } }
         ensures sent { S.contents self.new.stream ≡ S.contents self.old.stream }
         ensures ended { S.is_ended self.old.stream → S.is_ended self.new.stream }
         ensures failed { OnErr result (C.may_fail ⊎ S.may_fail) }
     {
-        let wait = self.wait()?;
-        self.stream.read_within(buf, wait)
+        let count = self.read_some(buf)?;
+        self.go_on(count);
+        Ok(count)
     }
 }
 
@@ -157,10 +211,12 @@ impl<C: Timer, S: TimedStream> Write for Connection<C, S> {
 
         // As for a read.
         ensures waited { OnOk result (Waited C.has_shown S.waited self.old self.new) }
-        ensures limits { self.new ≡ record self.old { stream = self.new.stream } }
+        ensures end { Gains self.old self.new result }
+        ensures limits { self.new ≡ record self.old { stream = self.new.stream; end = self.new.end } }
     {
-        let wait = self.wait()?;
-        self.stream.write_within(buf, wait)
+        let count = self.write_some(buf)?;
+        self.go_on(count);
+        Ok(count)
     }
 
     fn flush(&mut self) -> io::Result<()> {

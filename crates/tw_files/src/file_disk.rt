@@ -67,8 +67,8 @@ impl<F: OffsetFile> FileDisk<F> {
         })
     }
 
-    // Has it no byte?
-    pub(crate) fn is_empty(&self) -> bool
+    /// Has it no byte?
+    pub fn is_empty(&self) -> bool
         ensures { IsTrue result ↔ (self.now.len ≡ 0) }
     {
         self.len == 0

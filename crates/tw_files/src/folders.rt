@@ -8,9 +8,15 @@ ghost use Rattle.tw_files.specs.Folders.{EachOnWay};
 
 use crate::offset_file::OffsetFile;
 use std::alloc::Global;
-use std::fs::{DirEntry, File, OpenOptions};
+use std::fs::{DirBuilder, DirEntry, File, OpenOptions};
 use std::io::ErrorKind;
+use std::os::unix::fs::{DirBuilderExt, OpenOptionsExt};
 use std::{fs, io};
+
+// The rights of what is made: its owner's alone. What is there keeps its own.
+pub const OWN_FILE: u32 = 0o600;
+
+const OWN_FOLDER: u32 = 0o700;
 
 /// What the system offers of folders, and of the files in them, by their paths.
 pub trait Folders {
@@ -94,11 +100,15 @@ impl Folders for &HostRuntime {
             .read(true)
             .write(true)
             .create(true)
+            .mode(OWN_FILE)
             .open(*self, path)
     }
 
     fn make_folder(&mut self, folder: &str) -> io::Result<()> {
-        fs::create_dir_all(*self, folder)
+        DirBuilder::new()
+            .recursive(true)
+            .mode(OWN_FOLDER)
+            .create(*self, folder)
     }
 
     fn sync_names(&mut self, folder: &str) -> io::Result<()> {
@@ -124,6 +134,7 @@ impl Folders for &HostRuntime {
         OpenOptions::new()
             .write(true)
             .create(true)
+            .mode(OWN_FILE)
             .open(*self, path)
     }
 

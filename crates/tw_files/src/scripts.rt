@@ -4,9 +4,11 @@ ghost use Rattle.std.specs.String.{string_bytes};
 ghost use Rattle.std.specs.Io.{ReadsAtMost};
 ghost use Rattle.std.specs.Io.KnownBytes.{ReadConsumes};
 
+use crate::folders::OWN_FILE;
 use std::alloc::Global;
 use std::fs::{DirEntry, File, OpenOptions};
 use std::io::{ErrorKind, Read, Write};
+use std::os::unix::fs::OpenOptionsExt;
 use std::process::{Child, Command, Stdio};
 use std::{fs, io};
 
@@ -139,6 +141,7 @@ fn input_file(rt: &HostRuntime, spare: &str, input: &[u8]) -> io::Result<File> {
         .write(true)
         .create(true)
         .truncate(true)
+        .mode(OWN_FILE)
         .open(rt, spare)?;
     file.write_all(input)?;
     drop(file);

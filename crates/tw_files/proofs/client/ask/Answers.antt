@@ -8,5 +8,5 @@ returns-clause-asked g c = record {
   ended = c.read_reply.new.stream;
   dialled = c.in_ok-connection.ensures.dialled;
   got = c.if-not-write_whole.ensures.whole refl;
-  replied = record { read = c.in_ok-read_reply.ensures.bytes; whole = c.in_ok-read_reply.ensures.whole };
+  replied = record { read = c.in_ok-read_reply.ensures.bytes; whole = c.in_ok-read_reply.ensures.whole; no_more = c.in_ok-read_reply.ensures.no_more };
 }
