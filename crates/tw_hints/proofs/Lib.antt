@@ -1,0 +1,3 @@
+mod Joined
+mod Newlines
+mod Utf8

@@ -1,0 +1,6 @@
+pub mod Lines
+pub mod Words
+pub mod Settings
+pub mod Causes
+pub mod Timew
+pub mod Zone
