@@ -50,6 +50,6 @@ last_status Closed = Some 3
 last_status (Damaged offset) = Some 7
 last_status Memory = None
 
--- how long a client may be silent, and take for all
+-- how long a client may be silent, and take for all: without bytes, and at most
 abbrev pub server_limits : Limits
-server_limits = record { silence_seconds = 10; whole_seconds = 120 }
+server_limits = record { silence_seconds = 10; whole_seconds = 10; most_seconds = 600 }

@@ -6,12 +6,12 @@ use Rattle.jiff.specs.Types.{TimeZone, UTC}
 use Rattle.tw_time.specs.Civil.{ReadsZone}
 use Rattle.tw_time.specs.declared.zone.ZoneError.TheVariants.{Rule}
 use Rattle.tw.specs.declared.start.StartError.{StartError}
-use Rattle.tw.specs.declared.start.StartError.TheVariants.{CommandLine, Memory}
+use Rattle.tw.specs.declared.start.StartError.TheVariants.{CommandLine, Zone, Memory}
 
--- the zone of a text, and a faulty command line if it is of none
+-- the zone of a text, and the error if it is of none
 abbrev pub ReadsRule : List ℕ → Result TimeZone StartError → Type 0
 ReadsRule text (Ok zone) = ReadsZone text (Ok zone)
-ReadsRule text (Err e) = (e ≡ CommandLine) × ReadsZone text (Err Rule)
+ReadsRule text (Err e) = (e ≡ Zone) × ReadsZone text (Err Rule)
 
 -- the zone of a variable, which is UTC if it is not set
 abbrev pub ReadsVariable : {Z : Type 0} → Result (String Z) VarError → Result TimeZone StartError → Type 0

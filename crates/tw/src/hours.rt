@@ -1,9 +1,11 @@
 // The working hours.
 
-use crate::disk::{busy, disk_at};
+use crate::disk::{Opened, disk_at};
+use crate::hint::hint_new;
 use crate::start::{StartError, variable};
 use crate::timew_paths::{months_path, timew_folder, undo_path};
 use std::alloc::Global;
+use std::fs;
 use std::fs::File;
 use std::io::ErrorKind;
 use tw_files::{FileDisk, FileFolder, open_folder};
@@ -23,22 +25,35 @@ pub fn hours_folder(rt: &HostRuntime, alloc: Global) -> Result<String, StartErro
 }
 
 /// Opens both, or none if one of them can't be opened. The journal's file is locked before the folder of the months is looked at.
-pub fn open_hours<'a>(rt: &'a HostRuntime, alloc: Global) -> Result<Option<Hours<'a>>, StartError> {
+pub fn open_hours<'a>(rt: &'a HostRuntime, alloc: Global) -> Result<Opened<Hours<'a>>, StartError> {
     let folder = hours_folder(rt, alloc)?;
     match track_in(rt, alloc, folder.as_str())? {
-        Some(track) => with_months(rt, alloc, folder.as_str(), track),
-        None => Ok(None),
+        Ok(track) => with_months(rt, alloc, folder.as_str(), track),
+        Err(kind) => Ok(Err(kind)),
     }
 }
 
-fn track_in(
+/// The journal of the changes in the folder of the hours.
+pub fn track_in(
     rt: &HostRuntime,
     alloc: Global,
     folder: &str,
-) -> Result<Option<FileDisk<File>>, StartError> {
+) -> Result<Opened<FileDisk<File>>, StartError> {
     let path = undo_path(alloc, folder)?;
-    let busy = busy(rt)?;
-    disk_at(rt, path.as_str(), busy)
+    let opened = disk_at(rt, path.as_str())?;
+    if let Ok(disk) = &opened
+        && disk.is_empty()
+        && !has_months(rt, alloc, folder)?
+    {
+        hint_new(rt, alloc, "store of hours", folder);
+    }
+    Ok(opened)
+}
+
+// Whether there may be month files. With those of another program a folder is no new store.
+fn has_months(rt: &HostRuntime, alloc: Global, folder: &str) -> Result<bool, StartError> {
+    let path = months_path(alloc, folder)?;
+    Ok(fs::exists(rt, path.as_str()).unwrap_or(true))
 }
 
 fn with_months<'a>(
@@ -46,11 +61,13 @@ fn with_months<'a>(
     alloc: Global,
     folder: &str,
     track: FileDisk<File>,
-) -> Result<Option<Hours<'a>>, StartError> {
+) -> Result<Opened<Hours<'a>>, StartError> {
     let path = months_path(alloc, folder)?;
     match open_folder(alloc, rt, path.as_str()) {
-        Ok(months) => Ok(Some(Hours { months, track })),
-        Err(error) if error.kind() == ErrorKind::OutOfMemory => Err(StartError::Memory),
-        Err(_) => Ok(None),
+        Ok(months) => Ok(Ok(Hours { months, track })),
+        Err(error) => match error.kind() {
+            ErrorKind::OutOfMemory => Err(StartError::Memory),
+            kind => Ok(Err(Some(kind))),
+        },
     }
 }

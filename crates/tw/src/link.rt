@@ -2,11 +2,23 @@
 ghost use Rattle.std.specs.Prelude.{◌≡◌, None, Err, OnOk, IsErrOf, IsSomeAnd};
 ghost use Rattle.tw_world.specs.Disk.{Rose};
 ghost use Rattle.tw_http.specs.Link.{IsExchange, IsAnswered};
+ghost use Rattle.tw_http.specs.Lengths.{ResponseEndsAt};
 ghost use Rattle.tw_files.specs.Asked.{Asked, OpensOne};
 
 use tw_cli::Address;
-use tw_files::{AskError, Dialer, Timer, ask};
-use tw_http::{Link, LinkError};
+use tw_files::{AskError, Dialer, Framing, Timer, ask};
+use tw_http::{Link, LinkError, response_len};
+
+// A reply ends where its head says.
+struct Responses;
+
+impl Framing for Responses {
+    ghost ends_at = { ResponseEndsAt };
+
+    fn len_of(&self, bytes: &[u8]) -> Option<usize> {
+        response_len(bytes)
+    }
+}
 
 /// A server by its host, a name or an address, and its port, with how many exchanges it was asked for and how many of
 /// them failed. Each exchange is a connection of its own, and fails if there is no address. It tells nothing of what it brings.
@@ -49,7 +61,7 @@ impl<S: Dialer + Timer + Copy> Link for TcpLink<S> {
         ensures unaddressed { self.old.address ≡ None → result ≡ Err LinkError.Failed }
         // A connection to the server's address got the request, and gave the reply. It is the one that this value of the system opened.
         ensures asked { OnOk result (IsSomeAnd self.old.address (λ address. Asked (S.is_of address.host address.port) S.leads_to S.has_shown
-            S.Stream.contents S.Stream.remaining request.now reply.new.items)) }
+            S.Stream.contents S.Stream.remaining ResponseEndsAt request.now reply.new.items)) }
         ensures opened { OpensOne S.has_opened self.old.system self.new.system result }
         ensures well { OnOk result (self.new.faults ≡ self.old.faults) }
     {
@@ -60,7 +72,16 @@ impl<S: Dialer + Timer + Copy> Link for TcpLink<S> {
         };
         let host = address.host.as_str();
         let clock = self.system;
-        match ask(&mut self.system, clock, host, address.port, request, reply) {
+        let port = address.port;
+        match ask(
+            &mut self.system,
+            clock,
+            &Responses,
+            host,
+            port,
+            request,
+            reply,
+        ) {
             Ok(()) => Ok(()),
             Err(AskError::Memory) => Err(LinkError::Memory),
             Err(AskError::Failed) => {

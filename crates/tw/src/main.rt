@@ -3,11 +3,16 @@
 //! the calls of `tw_cli`, `timew_cli` and `tw_server`, and ends with the status that they give.
 #![tactic(auto)]
 
+mod asked;
 mod disk;
 mod help;
+mod hint;
 mod hours;
+mod input;
 mod link;
+mod log;
 mod print;
+mod reasons;
 mod server;
 mod server_words;
 mod settings;
@@ -21,6 +26,7 @@ mod zone;
 
 use help::{HELP, VERSION};
 use print::{print, print_error};
+use reasons::hint_start;
 use server::run_server;
 use start::{Part, StartError, part_of, take_first, words};
 use std::alloc::Global;
@@ -40,7 +46,10 @@ fn run(rt: &HostRuntime, alloc: Global) -> Result<u8, StartError> {
         Some(Part::Version) => Ok(print(rt, VERSION)),
         Some(Part::Task) => run_task(rt, alloc, &words),
         Some(Part::Timew) => run_timew(rt, alloc, &words),
-        Some(Part::Server) => run_server(rt, alloc, &words),
+        Some(Part::Server) => match run_server(rt, alloc, &words) {
+            Err(StartError::CommandLine) => Err(StartError::Service),
+            ended => ended,
+        },
         None => Err(StartError::CommandLine),
     }
 }
@@ -53,7 +62,11 @@ fn main(rt: HostRuntime) -> ExitCode {
     };
     let status = match run(&rt, alloc) {
         Ok(status) => status,
-        Err(error) => print_error(&rt, error),
+        Err(error) => {
+            let status = print_error(&rt, error);
+            hint_start(&rt, alloc, error);
+            status
+        }
     };
     drop(stand_ins);
     ExitCode::from(status)

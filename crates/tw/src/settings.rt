@@ -11,12 +11,17 @@ use std::{fs, io};
 /// The bytes of the settings file, which `TASKRC` names, else `.taskrc` in the folder that `HOME` names. There are none
 /// if that file is not there, or neither variable is set.
 pub fn settings(rt: &HostRuntime, alloc: Global) -> Result<Vec<u8>, StartError> {
-    let taskrc = variable(rt, "TASKRC")?;
-    let home = variable(rt, "HOME")?;
-    match settings_path(taskrc, home)? {
+    match settings_file(rt)? {
         Some(path) => settings_in(alloc, fs::read(rt, path.as_str())),
         None => Ok(Vec::new(alloc)),
     }
+}
+
+/// The path of that file, if a variable names one.
+pub fn settings_file(rt: &HostRuntime) -> Result<Option<String>, StartError> {
+    let taskrc = variable(rt, "TASKRC")?;
+    let home = variable(rt, "HOME")?;
+    settings_path(taskrc, home)
 }
 
 fn settings_path(taskrc: Option<String>, home: Option<String>) -> Result<Option<String>, StartError>

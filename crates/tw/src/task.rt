@@ -1,15 +1,18 @@
 // `tw task`.
 
-use crate::disk::{busy, disk_at};
+use crate::disk::{Opened, disk_at};
+use crate::hint::hint_new;
 use crate::hours::{Hours, open_hours};
+use crate::input::Input;
 use crate::link::TcpLink;
+use crate::reasons::{hint_task, reason_of};
 use crate::settings::settings;
 use crate::start::{StartError, moment, seed};
 use crate::task_paths::{replica_path, task_folder};
 use crate::zone::zone;
 use std::alloc::Global;
 use std::fs::File;
-use tw_cli::{link_address, needs_hours, needs_store, task_run};
+use tw_cli::{Outcome, link_address, needs_hours, needs_store, task_run};
 use tw_files::{FailingFolder, FileDisk, ProcessSpawner, Stream, StreamSource};
 use tw_http::Link;
 use tw_spawn::Spawner;
@@ -48,17 +51,31 @@ fn run_in(
     let opened = if needs_store(alloc, words, settings, now, zone)? {
         store_in(rt, alloc, folder)?
     } else {
-        None
+        Err(None)
     };
     match opened {
-        Some(mut disk) => run_over(
-            rt, alloc, words, settings, now, zone, &mut ids, &mut disk, folder,
-        ),
-        None => {
-            let mut disk = FailingDisk::new();
-            run_over(
+        Ok(mut disk) => {
+            let outcome = run_over(
                 rt, alloc, words, settings, now, zone, &mut ids, &mut disk, folder,
-            )
+            )?;
+            hint_task(rt, alloc, words, settings, folder, None, &outcome.cause);
+            Ok(outcome.status)
+        }
+        Err(kind) => {
+            let mut disk = FailingDisk::new();
+            let outcome = run_over(
+                rt, alloc, words, settings, now, zone, &mut ids, &mut disk, folder,
+            )?;
+            hint_task(
+                rt,
+                alloc,
+                words,
+                settings,
+                folder,
+                reason_of(kind),
+                &outcome.cause,
+            );
+            Ok(outcome.status)
         }
     }
 }
@@ -67,10 +84,15 @@ fn store_in(
     rt: &HostRuntime,
     alloc: Global,
     folder: &str,
-) -> Result<Option<FileDisk<File>>, StartError> {
+) -> Result<Opened<FileDisk<File>>, StartError> {
     let path = replica_path(alloc, folder)?;
-    let busy = busy(rt)?;
-    disk_at(rt, path.as_str(), busy)
+    let opened = disk_at(rt, path.as_str())?;
+    if let Ok(disk) = &opened
+        && disk.is_empty()
+    {
+        hint_new(rt, alloc, "store", folder);
+    }
+    Ok(opened)
 }
 
 // Carries the words out over a disk, the hooks of the folder, and a link to the server that the settings name.
@@ -84,7 +106,7 @@ fn run_over<D: Disk>(
     ids: &mut IdWords,
     disk: &mut D,
     folder: &str,
-) -> Result<u8, StartError> {
+) -> Result<Outcome, StartError> {
     let mut link = TcpLink::new(rt, link_address(alloc, words, settings)?);
     let mut hooks = ProcessSpawner::new(alloc, rt, folder)?;
     over_hours(
@@ -104,17 +126,17 @@ fn over_hours<D: Disk, L: Link, P: Spawner>(
     disk: &mut D,
     link: &mut L,
     hooks: &mut P,
-) -> Result<u8, StartError> {
+) -> Result<Outcome, StartError> {
     let opened = if needs_hours(alloc, words, settings, now, zone)? {
         open_hours(rt, alloc)?
     } else {
-        None
+        Err(None)
     };
     match opened {
-        Some(Hours { months, track }) => Ok(run_beside(
+        Ok(Hours { months, track }) => Ok(run_beside(
             rt, alloc, words, settings, now, zone, ids, disk, link, hooks, months, track,
         )),
-        None => {
+        Err(_) => {
             let months = FailingFolder::new();
             let track = FailingDisk::new();
             Ok(run_beside(
@@ -138,11 +160,11 @@ fn run_beside<D: Disk, L: Link, P: Spawner, F: Folder + Drop, J: Disk + Drop>(
     hooks: &mut P,
     mut months: F,
     mut track: J,
-) -> u8 {
-    let mut input = StreamSource::new(rt.stdin());
+) -> Outcome {
+    let mut input = StreamSource::new(Input::new(rt));
     let mut out = Stream::new(rt.stdout());
     let mut err = Stream::new(rt.stderr());
-    let outcome = task_run(
+    task_run(
         alloc,
         words,
         settings,
@@ -157,6 +179,5 @@ fn run_beside<D: Disk, L: Link, P: Spawner, F: Folder + Drop, J: Disk + Drop>(
         hooks,
         &mut months,
         &mut track,
-    );
-    outcome.status
+    )
 }

@@ -1,13 +1,13 @@
 // `tw timew`.
 
-use crate::disk::{busy, disk_at};
-use crate::hours::hours_folder;
+use crate::hours::{hours_folder, track_in};
+use crate::reasons::{hint_timew, reason_of};
 use crate::start::{StartError, moment};
-use crate::timew_paths::{months_path, undo_path};
+use crate::timew_paths::months_path;
 use crate::zone::zone;
 use std::alloc::Global;
 use std::io::ErrorKind;
-use timew_cli::timew_run;
+use timew_cli::{Outcome, timew_run};
 use timew_words::{WordsError, read_words};
 use tw_files::{FailingFolder, Stream, open_folder};
 use tw_time::Zone;
@@ -19,19 +19,31 @@ pub fn run_timew(rt: &HostRuntime, alloc: Global, words: &Vec<String>) -> Result
     let zone = zone(rt)?;
     let now = moment(rt)?;
     let folder = hours_folder(rt, alloc)?;
-    let path = undo_path(alloc, folder.as_str())?;
     // The journal's file is locked before the folder of the months is looked at.
     let opened = if are_good(alloc, words, now, &zone)? {
-        disk_at(rt, path.as_str(), busy(rt)?)?
+        track_in(rt, alloc, folder.as_str())?
     } else {
-        None
+        Err(None)
     };
     match opened {
-        Some(mut disk) => over_months(rt, alloc, words, now, &zone, folder.as_str(), &mut disk),
-        None => {
+        Ok(mut disk) => {
+            let outcome = over_months(rt, alloc, words, now, &zone, folder.as_str(), &mut disk)?;
+            hint_timew(rt, alloc, words, folder.as_str(), None, &outcome.cause);
+            Ok(outcome.status)
+        }
+        Err(kind) => {
             let mut months = FailingFolder::new();
             let mut disk = FailingDisk::new();
-            Ok(run_over(rt, alloc, words, now, &zone, &mut months, &mut disk))
+            let outcome = run_over(rt, alloc, words, now, &zone, &mut months, &mut disk);
+            hint_timew(
+                rt,
+                alloc,
+                words,
+                folder.as_str(),
+                reason_of(kind),
+                &outcome.cause,
+            );
+            Ok(outcome.status)
         }
     }
 }
@@ -59,7 +71,7 @@ fn over_months<D: Disk>(
     zone: &Zone,
     folder: &str,
     journal: &mut D,
-) -> Result<u8, StartError> {
+) -> Result<Outcome, StartError> {
     let path = months_path(alloc, folder)?;
     match open_folder(alloc, rt, path.as_str()) {
         Ok(mut months) => Ok(run_over(rt, alloc, words, now, zone, &mut months, journal)),
@@ -79,8 +91,8 @@ fn run_over<F: Folder, D: Disk>(
     zone: &Zone,
     months: &mut F,
     journal: &mut D,
-) -> u8 {
+) -> Outcome {
     let mut out = Stream::new(rt.stdout());
     let mut err = Stream::new(rt.stderr());
-    timew_run(alloc, words, now, zone, months, journal, &mut out, &mut err).status
+    timew_run(alloc, words, now, zone, months, journal, &mut out, &mut err)
 }
