@@ -5,14 +5,15 @@ use std::io;
 use std::net::{Ipv4Addr, SocketAddr};
 use std::test::Fail;
 use std::time::Duration;
-use tw_files::{AskError, Dialer, TimedStream, ask};
+use tw_files::{AskError, Dialer, Framing, TimedStream, ask};
 
 // The bytes of the longest reply: a head of 16,384 and a body of 16,777,216.
 const LONGEST: usize = 16_793_600;
 
-// Gives so many bytes, at most so many at a time, and takes three.
+// Gives so many of one byte, at most so many at a time, and takes three.
 #[derive(Drop)]
 struct Answer {
+    byte: u8,
     left: usize,
     piece: usize,
 }
@@ -32,7 +33,7 @@ impl TimedStream for Answer {
 
     fn read_within(&mut self, buffer: &mut [u8], _wait: Duration) -> io::Result<usize> {
         let count = buffer.len().min(self.piece).min(self.left);
-        buffer[..count].fill(b'x');
+        buffer[..count].fill(self.byte);
         self.left -= count;
         Ok(count)
     }
@@ -50,6 +51,7 @@ impl TimedStream for Answer {
 #[derive(Drop)]
 struct TwoAddresses {
     alloc: Global,
+    byte: u8,
     bytes: usize,
     piece: usize,
 }
@@ -75,6 +77,7 @@ impl Dialer for TwoAddresses {
     fn connect(&mut self, address: SocketAddr, _wait: Duration) -> io::Result<Answer> {
         if address == SocketAddr::from((Ipv4Addr::new(127, 0, 0, 2), 8080)) {
             return Ok(Answer {
+                byte: self.byte,
                 left: self.bytes,
                 piece: self.piece,
             });
@@ -83,18 +86,37 @@ impl Dialer for TwoAddresses {
     }
 }
 
-// A port, the bytes that its second address gives, how many at a time, and how many the reply has.
-type Row = (u16, usize, usize, Result<usize, AskError>);
+// The length of a reply is its first byte. A zero is none.
+struct FirstByte;
 
-const ROWS: [Row; 3] = [
-    (8080, 5, 2, Ok(5)),
-    (8081, 5, 2, Err(AskError::Failed)),
-    (8080, LONGEST + 1, LONGEST, Ok(LONGEST)),
+impl Framing for FirstByte {
+    ghost use Rattle.std.specs.Prelude.{◌≡◌, ◌<◌, ◌∷◌, List, ℕ};
+
+    ghost ends_at = { λ bytes n. (0 < n) × (rest : List ℕ) × (bytes ≡ n ∷ rest) };
+
+    fn len_of(&self, bytes: &[u8]) -> Option<usize> {
+        match bytes {
+            [] | [0, ..] => None,
+            [first, ..] => Some(usize::from(*first)),
+        }
+    }
+}
+
+// A port, the byte that its second address gives, how often, how many at a time, and how many the reply has.
+type Row = (u16, u8, usize, usize, Result<usize, AskError>);
+
+const ROWS: [Row; 6] = [
+    (8080, 0, 5, 2, Ok(5)),
+    (8081, 0, 5, 2, Err(AskError::Failed)),
+    (8080, 0, LONGEST + 1, LONGEST, Ok(LONGEST)),
+    (8080, 7, 20, 2, Ok(7)),
+    (8080, 7, 20, 20, Ok(20)),
+    (8080, 7, 6, 4, Ok(6)),
 ];
 
-fn is_all_x(bytes: &[u8]) -> bool {
-    for byte in bytes {
-        if *byte != b'x' {
+fn is_all(byte: u8, bytes: &[u8]) -> bool {
+    for other in bytes {
+        if *other != byte {
             return false;
         }
     }
@@ -103,14 +125,15 @@ fn is_all_x(bytes: &[u8]) -> bool {
 
 // Whether a reply is read as a row says.
 fn is_read(rt: &HostRuntime, row: &Row, reply: &mut Vec<u8>) -> bool {
-    let (port, bytes, piece, want) = *row;
+    let (port, byte, bytes, piece, want) = *row;
     let mut host = TwoAddresses {
         alloc: rt.alloc(),
+        byte,
         bytes,
         piece,
     };
-    match ask(&mut host, rt, "host", port, b"request", reply) {
-        Ok(()) => want == Ok(reply.len()) && is_all_x(reply),
+    match ask(&mut host, rt, &FirstByte, "host", port, b"request", reply) {
+        Ok(()) => want == Ok(reply.len()) && is_all(byte, reply),
         Err(error) => want == Err(error),
     }
 }

@@ -1,9 +1,11 @@
 // A command that is sent in two versions.
 
+use crate::given::Given;
+use crate::runs::run_given;
 use crate::stores::SECOND;
+use crate::world::{On, Row, Then, World};
 use std::alloc::Global;
 use std::test::Fail;
-use tests_machine::{Given, On, Row, Then, World, run_given};
 use tw_server::Fate;
 
 // Puts a task that is made by five operations, one of which has 400,000 bytes.

@@ -1,9 +1,11 @@
 // Stops and failing calls while a task is added or taken back.
 
+use crate::given::{Ended, Given};
+use crate::link::link_over;
+use crate::runs::{disk_of, image_of, run_given};
 use crate::stores::{NONE, ONE, SECOND, TWO, side_of, with_adds};
 use std::alloc::Global;
 use std::test::Fail;
-use tests_machine::{Ended, Given, disk_of, image_of, link_over, run_given};
 use tw_cli::Cause;
 use tw_world::MemoryDisk;
 

@@ -1,9 +1,12 @@
 // Syncs that get false replies.
 
+use crate::given::Given;
+use crate::link::link_over;
+use crate::runs::{machine, run_alone, run_given};
 use crate::stores::{NONE, ONE, SECOND, with_adds};
+use crate::world::SETTINGS;
 use std::alloc::Global;
 use std::test::Fail;
-use tests_machine::{Given, SETTINGS, link_over, machine, run_alone, run_given};
 use tw_cli::Cause;
 use tw_http::{Link, LinkError};
 use tw_sync::ReplyKind;

@@ -1,8 +1,9 @@
 // Stores of a few tasks, and what they export.
 
+use crate::given::Given;
+use crate::runs::{disk_of, machine, run_alone};
 use std::alloc::Global;
 use std::test::Fail;
-use tests_machine::{Given, disk_of, machine, run_alone};
 use tw_world::MemoryDisk;
 
 /// The second of each run, 2023-11-14T22:13:20Z.

@@ -1,11 +1,12 @@
 // Stops and failing calls during a sync.
 
+use crate::given::{Ended, Given};
+use crate::link::Exchange;
+use crate::runs::{disk_of, image_of, run_given};
 use crate::stores::SECOND;
+use crate::world::{On, Row, SETTINGS, Then, World};
 use std::alloc::Global;
 use std::test::Fail;
-use tests_machine::{
-    Ended, Exchange, Given, On, Row, SETTINGS, Then, World, disk_of, image_of, run_given,
-};
 use tw_cli::Cause;
 use tw_server::Fate;
 use tw_world::MemoryDisk;
