@@ -29,5 +29,5 @@ _tw() {
     done < <(sh "$script/words" "$begun" "${words[@]:1}" 2>/dev/null)
 }
 
+# If task and timew are functions of tw: . ~/.local/share/bash-completion/completions/tw; complete -F _tw task timew
 complete -F _tw tw
-# If task and timew are functions or wrappers of tw: complete -F _tw task timew

@@ -18,4 +18,4 @@ end
 
 complete -c tw -f -n 'not __tw_wants_file' -a '(__tw_complete)'
 complete -c tw -F -n __tw_wants_file
-# If task and timew are functions or wrappers of tw: complete -c task -f -a '(__tw_complete)', and so for timew.
+# If task and timew are functions of tw: complete -c task -w 'tw task'; complete -c timew -w 'tw timew'
