@@ -122,6 +122,17 @@ SecondBecome m old new before after change = OnSecond m old before (λ magic bod
 abbrev pub SecondLeave : {D : Type 0} → DiskModel D → Journal → (before after : D) → (List ℕ → List (List ℕ) → List ℕ → Type 0) → Type 0
 SecondLeave m journal before after P = OnSecond m journal before (λ magic bodies. LeavesOnly m before after (P magic bodies))
 
+-- whichever records the journal is open on by this magic, this holds of them
+abbrev pub OnOpen : {D : Type 0} → DiskModel D → (magic : List ℕ) → Journal → D → (List (List ℕ) → Type 0) → Type 0
+OnOpen m magic journal disk P = (bodies : List (List ℕ)) → IsOpenOn m magic journal disk bodies → P bodies
+
+-- whichever these are, the journal is open on what became of them, or a crash of the call leaves only files of which this holds
+abbrev pub OpenBecome : {D : Type 0} → DiskModel D → (magic : List ℕ) (old new : Journal) (before after : D) → (List (List ℕ) → List (List ℕ)) → Type 0
+OpenBecome m magic old new before after change = OnOpen m magic old before (λ bodies. IsOpenOn m magic new after (change bodies))
+
+abbrev pub OpenLeave : {D : Type 0} → DiskModel D → (magic : List ℕ) → Journal → (before after : D) → (List (List ℕ) → List ℕ → Type 0) → Type 0
+OpenLeave m magic journal before after P = OnOpen m magic journal before (λ bodies. LeavesOnly m before after (P bodies))
+
 -- a file has these records, or those
 abbrev pub RecordsOrThose : List ℕ → (bodies those : List (List ℕ)) → List ℕ → Type 0
 RecordsOrThose magic bodies those file = Records magic file bodies ⊎ Records magic file those

@@ -3,6 +3,7 @@ ghost use Rattle.std.specs.Prelude.{◌≡◌, ◌⊎◌, ◌<◌, ◌≤◌, �
 ghost use Rattle.tw_world.specs.Disk.{Rose, FaultsRise};
 ghost use Rattle.tw_journal.specs.Writes.{MakesOfStable, LeavesOfStable};
 ghost use Rattle.tw_journal.specs.Checkpoint.{IsCopying};
+ghost use Rattle.tw_journal.specs.Form.{version_of};
 ghost use Rattle.tw_journal.specs.Upgrade.{set_apart, upgrade_offset, HasAtMost, IsUpgraded, LeavesUpgrading};
 
 use crate::checkpoint::{make_room, write_record};
@@ -13,30 +14,34 @@ use crate::settle::settle;
 use crate::writes::write_byte;
 use tw_world::{Disk, DiskError};
 
-// The last byte of a magic of the first version, and of the second.
+// The last byte of a magic of the first version.
 const FIRST: u8 = 49;
-
-const SECOND: u8 = 50;
 
 impl Journal {
     ghost use Rattle.std.specs.Prelude.{true, false};
     ghost use Rattle.tw_journal.specs.Record.{IsLongerBy};
     ghost use Rattle.tw_journal.specs.Journal.{AppendRefused, journal_end, journal_version, is_closed, can_checkpoint};
-    ghost use Rattle.tw_journal.specs.Upgrade.{upgraded, upgrade_size, SecondBecome, SecondLeave, RecordsOrThose, LeavesRowOrOne};
+    ghost use Rattle.tw_journal.specs.Upgrade.{upgraded, upgrade_size, OpenBecome, OpenLeave, SecondBecome, SecondLeave, RecordsOrThose, LeavesRowOrOne};
 
-    /// Brings a file of the first version to the second, for a journal that was opened by a magic which ends in 2. A row
+    /// Brings a file of the first version to the second, for a journal that was opened by this magic, which ends in 2. A row
     /// becomes one record with this body, in a file with areas. In a file with areas the version alone is written; its records
     /// stay, and `body` is not used.
     ///
     /// A crash at any moment of the call leaves the records from before it, or those after it; after `Ok` each crash leaves these.
     /// After `Disk` the journal is closed. Takes no memory.
-    pub fn upgrade<D: Disk>(&mut self, disk: &mut D, body: &[u8]) -> Result<(), AppendError>
+    pub fn upgrade<D: Disk>(
+        &mut self,
+        disk: &mut D,
+        magic: &[u8; 8],
+        body: &[u8],
+    ) -> Result<(), AppendError>
+        requires second { version_of magic.now ≡ 50 }
         requires first { journal_version self.old ≡ 49 }
         requires length { is_closed self.old ≡ false → D.model.len disk.old ≡ journal_end self.old }
 
-        ensures upgraded { OnOk result (SecondBecome D.model self.old self.new disk.old disk.new (λ bodies. upgraded self.old bodies body.now)) }
-        ensures any_moment { SecondLeave D.model self.old disk.old disk.new (λ magic bodies. RecordsOrThose magic bodies (upgraded self.old bodies body.now)) }
-        ensures growth { SecondLeave D.model self.old disk.old disk.new (λ magic bodies. IsLongerBy D.model disk.old (length body.now + 29)) }
+        ensures upgraded { OnOk result (OpenBecome D.model magic.now self.old self.new disk.old disk.new (λ bodies. upgraded self.old bodies body.now)) }
+        ensures any_moment { OpenLeave D.model magic.now self.old disk.old disk.new (λ bodies. RecordsOrThose magic.now bodies (upgraded self.old bodies body.now)) }
+        ensures growth { OpenLeave D.model magic.now self.old disk.old disk.new (λ bodies. IsLongerBy D.model disk.old (length body.now + 29)) }
         ensures length { is_closed self.new ≡ false → D.model.len disk.new ≡ journal_end self.new }
         ensures kept { FaultsRise D.model disk.old disk.new }
 
@@ -49,13 +54,14 @@ impl Journal {
             return Err(AppendError::Closed);
         }
         if self.can_checkpoint() {
-            return self.write_version(disk);
+            return self.write_version(disk, magic[7]);
         }
-        self.replace_row(disk, body)
+        self.replace_row(disk, magic[7], body)
     }
 
     // Writes the second version into a file with areas.
-    fn write_version<D: Disk>(&mut self, disk: &mut D) -> Result<(), AppendError>
+    fn write_version<D: Disk>(&mut self, disk: &mut D, version: u8) -> Result<(), AppendError>
+        requires second { version ≡ 50 }
         requires open { is_closed self.old ≡ false }
         requires areas { can_checkpoint self.old ≡ true }
         requires length { D.model.len disk.old ≡ journal_end self.old }
@@ -68,16 +74,22 @@ impl Journal {
         ensures end { journal_end self.new ≡ journal_end self.old }
         ensures refused { IfErr result (λ e. AppendRefused D.model self.old self.new disk.old disk.new 0 e) }
     {
-        if let Err(_) = write_byte(disk, VERSION, SECOND) {
+        if let Err(_) = write_byte(disk, VERSION, version) {
             self.closed = true;
             return Err(AppendError::Disk);
         }
-        self.version = SECOND;
+        self.version = version;
         Ok(())
     }
 
     // Replaces a row by one record.
-    fn replace_row<D: Disk>(&mut self, disk: &mut D, body: &[u8]) -> Result<(), AppendError>
+    fn replace_row<D: Disk>(
+        &mut self,
+        disk: &mut D,
+        version: u8,
+        body: &[u8],
+    ) -> Result<(), AppendError>
+        requires second { version ≡ 50 }
         requires open { is_closed self.old ≡ false }
         requires row { can_checkpoint self.old ≡ false }
         requires first { journal_version self.old ≡ 49 }
@@ -95,7 +107,7 @@ impl Journal {
             return Err(AppendError::TooLong { bytes: size as u64 });
         }
         let at = upgrade_offset(self.end);
-        if let Err(_) = move_apart(disk, self.end, at, body) {
+        if let Err(_) = move_apart(disk, version, self.end, at, body) {
             self.closed = true;
             return Err(AppendError::Disk);
         }
@@ -103,7 +115,7 @@ impl Journal {
         self.firsts.truncate(0);
         self.selector = 2;
         self.start = at;
-        self.version = SECOND;
+        self.version = version;
         self.end = at + size as u64;
         self.count = 1;
         Ok(())
@@ -142,7 +154,14 @@ fn set_apart<D: Disk>(disk: &mut D, end: u64, at: u64, body: &[u8]) -> Result<u6
 }
 
 // Replaces a row by one record, whole or not at all.
-fn move_apart<D: Disk>(disk: &mut D, end: u64, at: u64, body: &[u8]) -> Result<(), DiskError>
+fn move_apart<D: Disk>(
+    disk: &mut D,
+    version: u8,
+    end: u64,
+    at: u64,
+    body: &[u8],
+) -> Result<(), DiskError>
+    requires second { version ≡ 50 }
     requires len { D.model.len disk.old ≡ end }
     requires below { end < 2 ^ 56 }
     requires row { 13 ≤ end }
@@ -163,6 +182,6 @@ fn move_apart<D: Disk>(disk: &mut D, end: u64, at: u64, body: &[u8]) -> Result<(
         start: at,
         version: FIRST,
     };
-    settle(disk, SECOND, apart, at + body.len() as u64 + 5, len)?;
+    settle(disk, version, apart, at + body.len() as u64 + 5, len)?;
     Ok(())
 }

@@ -9,6 +9,7 @@ ghost use Rattle.tw_replica.specs.Opening.{state_body, renewed, IsReplaced, IsIn
 
 use crate::error::OpenError;
 use crate::open::shorten::{MAX_RECORD, body_of_state};
+use crate::replica::MAGIC;
 use std::alloc::Global;
 use tw_journal::Journal;
 use tw_state::Core;
@@ -89,7 +90,7 @@ pub(crate) fn renew<D: Disk>(
     if size > MAX_RECORD {
         return Err(RenewingError::TooLong { bytes: size as u64 });
     }
-    match journal.upgrade(disk, &body) {
+    match journal.upgrade(disk, &MAGIC, &body) {
         Ok(()) => Ok(()),
         Err(_) => Err(RenewingError::Disk),
     }

@@ -1,6 +1,6 @@
 use Rattle.std.proofs.Common.{◌≡◌, ◌<◌, ◌^◌, ◌∷◌, [], length, arith, sym, ◌∙◌, ap, subst, List, ℕ}
 use Rattle.tw_journal.specs.Record.{IsRecordLength}
-use Rattle.tw_journal.specs.Upgrade.{set_apart, marked, IsSettled}
+use Rattle.tw_journal.specs.Upgrade.{set_apart, marked, ended_form, IsSettled}
 use Rattle.tw_journal.specs.declared.form.Form.{Form}
 use Rattle.tw_journal.proofs.UpgradeFiles.{after_apart, after_mark, after_settle, row_there}
 use Rattle.tw_journal.proofs.upgrade.move_apart.Goals as goal
@@ -38,7 +38,7 @@ returns-in_err-settle-clause-any_moment g c = λ magic bodies first.
     let seen : m.seen c.write_byte.new.disk ≡ marked (set_apart c.args.at c.args.body.now (m.seen c.args.disk.now)) = mark.0 ∙ ap (λ (s : List ℕ). marked s) apart.0 in
     let row = row_there m c.args.disk.now magic c.args.body.now bodies c.args.end c.args.at first fits long c.requires.behind.0 c.requires.behind.1 c.requires.near small c.write_byte.new.disk seen in
     after_settle m c.args.disk.now magic c.args.body.now bodies c.args.end c.args.at first fits long c.requires.behind.0 c.requires.behind.1 c.requires.near small c.write_byte.new.disk c.settle.new.disk two seen
-    (c.settle.ensures.any_moment magic (c.args.body.now ∷ []) told_2 mark.1 first.second row)
+    (c.settle.ensures.any_moment magic (c.args.body.now ∷ []) told_2 mark.1 (first.second ∙ sym c.requires.second) row)
 
 pub returns-clause-any_moment : goal.returns-clause-any_moment
 returns-clause-any_moment g c = λ magic bodies first.
@@ -55,7 +55,7 @@ returns-clause-any_moment g c = λ magic bodies first.
     let seen : m.seen c.write_byte.new.disk ≡ marked (set_apart c.args.at c.args.body.now (m.seen c.args.disk.now)) = mark.0 ∙ ap (λ (s : List ℕ). marked s) apart.0 in
     let row = row_there m c.args.disk.now magic c.args.body.now bodies c.args.end c.args.at first fits long c.requires.behind.0 c.requires.behind.1 c.requires.near small c.write_byte.new.disk seen in
     after_settle m c.args.disk.now magic c.args.body.now bodies c.args.end c.args.at first fits long c.requires.behind.0 c.requires.behind.1 c.requires.near small c.write_byte.new.disk c.settle.new.disk two seen
-    (c.settle.ensures.any_moment magic (c.args.body.now ∷ []) told_2 mark.1 first.second row)
+    (c.settle.ensures.any_moment magic (c.args.body.now ∷ []) told_2 mark.1 (first.second ∙ sym c.requires.second) row)
 
 pub returns-clause-done : goal.returns-clause-done
 returns-clause-done g c = λ magic bodies first.
@@ -69,4 +69,4 @@ returns-clause-done g c = λ magic bodies first.
     let mark = c.in_ok-write_byte.ensures.done told in
     let seen : m.seen c.write_byte.new.disk ≡ marked (set_apart c.args.at c.args.body.now (m.seen c.args.disk.now)) = mark.0 ∙ ap (λ (s : List ℕ). marked s) apart.0 in
     let row = row_there m c.args.disk.now magic c.args.body.now bodies c.args.end c.args.at first fits long c.requires.behind.0 c.requires.behind.1 c.requires.near small c.write_byte.new.disk seen in
-    subst (λ (f : Form). IsSettled m magic f c.settle.new.disk (c.args.body.now ∷ [])) c.in_ok-settle.ensures.form (c.in_ok-settle.ensures.done magic (c.args.body.now ∷ []) told_2 mark.1 first.second row)
+    subst (λ (f : Form). IsSettled m magic f c.settle.new.disk (c.args.body.now ∷ [])) (c.in_ok-settle.ensures.form ∙ ap (λ (v : ℕ). ended_form v (record { selector = 4; start = c.args.at; version = 49 })) c.requires.second) (c.in_ok-settle.ensures.done magic (c.args.body.now ∷ []) told_2 mark.1 (first.second ∙ sym c.requires.second) row)

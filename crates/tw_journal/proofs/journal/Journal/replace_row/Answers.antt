@@ -1,4 +1,4 @@
-use Rattle.std.proofs.Common.{◌+◌, inl, arith, refl, ap, length}
+use Rattle.std.proofs.Common.{◌+◌, ◌∙◌, inl, arith, refl, sym, ap, length}
 use Rattle.tw_journal.specs.Checkpoint.{IsReplacing}
 use Rattle.tw_journal.proofs.Offsets.{left_records}
 use Rattle.tw_journal.proofs.Forms.{below_test}
@@ -24,7 +24,7 @@ returns-clause-upgraded g c = λ magic bodies was second.
     let made = c.in_default.ensures.done magic bodies (first_row m magic c.args.self.now c.args.disk.now bodies was (below_test 2 c.args.self.now.selector c.requires.row) c.requires.first second) in
     record {
       rest = made.rest;
-      version = made.version;
+      version = made.version ∙ sym c.requires.second;
       open_now = was.open_now;
       end = upgraded_end m magic _ c.move_apart.new.disk _ made.rest;
       count = refl;

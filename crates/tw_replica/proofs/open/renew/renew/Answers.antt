@@ -43,7 +43,7 @@ returns-in-Ok-clause-replaced g c =
     let fits : is_on_old_row journal ≡ true → IsStep (checkpoint state) × (length (state_body state) + 5 ≤ 2 ^ 30) = λ old.
     let row = row_has_no_areas journal old in (c.in_ok-body.ensures.is row, omega (arith, c.len-size.ensures, c.if-size-gt-MAX_RECORD.false, ap length (c.in_ok-body.ensures.body ∙ body_of_row journal state row))) in
     record {
-      records = λ bodies on. subst (IsOpenOn m magic c.upgrade.new.self c.upgrade.new.disk) (ap (upgraded journal bodies) body ∙ renewed_is journal state bodies first) (c.in-Ok.ensures.upgraded magic bodies on refl);
+      records = λ bodies on. subst (IsOpenOn m magic c.upgrade.new.self c.upgrade.new.disk) (ap (upgraded journal bodies) body ∙ renewed_is journal state bodies first) (c.in-Ok.ensures.upgraded bodies on);
       stands = λ bodies on stands. renewed_stands journal state bodies stands fits;
       length = c.upgrade.ensures.length c.in-Ok.ensures.accepted.2;
       live = c.in-Ok.ensures.accepted.2;
@@ -60,7 +60,7 @@ returns-in-Ok-clause-any_moment g c = λ bodies on stands.
     let fits : is_on_old_row journal ≡ true → IsStep (checkpoint state) × (length (state_body state) + 5 ≤ 2 ^ 30) = λ old.
     let row = row_has_no_areas journal old in (c.in_ok-body.ensures.is row, omega (arith, c.len-size.ensures, c.if-size-gt-MAX_RECORD.false, ap length (c.in_ok-body.ensures.body ∙ body_of_row journal state row))) in
     opens_renewed m c.args.disk.now c.upgrade.new.disk bodies (renewed journal state bodies) state stands (renewed_stands journal state bodies stands fits)
-    (subst (λ (l : List (List ℕ)). LeavesOnly m c.args.disk.now c.upgrade.new.disk (RecordsOrThose magic bodies l)) (ap (upgraded journal bodies) body ∙ renewed_is journal state bodies first) (c.upgrade.ensures.any_moment magic bodies on refl))
+    (subst (λ (l : List (List ℕ)). LeavesOnly m c.args.disk.now c.upgrade.new.disk (RecordsOrThose magic bodies l)) (ap (upgraded journal bodies) body ∙ renewed_is journal state bodies first) (c.upgrade.ensures.any_moment bodies on))
 
 pub returns-clause-any_moment : goal.returns-clause-any_moment
 returns-clause-any_moment g c = λ bodies on stands.
@@ -72,14 +72,14 @@ returns-clause-any_moment g c = λ bodies on stands.
     let fits : is_on_old_row journal ≡ true → IsStep (checkpoint state) × (length (state_body state) + 5 ≤ 2 ^ 30) = λ old.
     let row = row_has_no_areas journal old in (c.in_ok-body.ensures.is row, omega (arith, c.len-size.ensures, c.if-size-gt-MAX_RECORD.false, ap length (c.in_ok-body.ensures.body ∙ body_of_row journal state row))) in
     opens_renewed m c.args.disk.now c.upgrade.new.disk bodies (renewed journal state bodies) state stands (renewed_stands journal state bodies stands fits)
-    (subst (λ (l : List (List ℕ)). LeavesOnly m c.args.disk.now c.upgrade.new.disk (RecordsOrThose magic bodies l)) (ap (upgraded journal bodies) body ∙ renewed_is journal state bodies first) (c.upgrade.ensures.any_moment magic bodies on refl))
+    (subst (λ (l : List (List ℕ)). LeavesOnly m c.args.disk.now c.upgrade.new.disk (RecordsOrThose magic bodies l)) (ap (upgraded journal bodies) body ∙ renewed_is journal state bodies first) (c.upgrade.ensures.any_moment bodies on))
 
 pub returns-in-Ok-clause-growth : goal.returns-in-Ok-clause-growth
 returns-in-Ok-clause-growth g c = λ bodies on most le.
     let first : journal_version c.args.journal.now ≡ 49 = omega (arith, c.version.ensures, c.if-version-ne-FIRST.false) in
-    grows_once g.D.Disk.model c.args.disk.now c.upgrade.new.disk (length c.deref.result.now + 29) most (2 ^ 30 + 24) (le first) (omega (arith, c.len-size.ensures, c.if-size-gt-MAX_RECORD.false, ap length c.deref.ensures.value)) (c.upgrade.ensures.growth magic bodies on refl)
+    grows_once g.D.Disk.model c.args.disk.now c.upgrade.new.disk (length c.deref.result.now + 29) most (2 ^ 30 + 24) (le first) (omega (arith, c.len-size.ensures, c.if-size-gt-MAX_RECORD.false, ap length c.deref.ensures.value)) (c.upgrade.ensures.growth bodies on)
 
 pub returns-clause-growth : goal.returns-clause-growth
 returns-clause-growth g c = λ bodies on most le.
     let first : journal_version c.args.journal.now ≡ 49 = omega (arith, c.version.ensures, c.if-version-ne-FIRST.false) in
-    grows_once g.D.Disk.model c.args.disk.now c.upgrade.new.disk (length c.deref.result.now + 29) most (2 ^ 30 + 24) (le first) (omega (arith, c.len-size.ensures, c.if-size-gt-MAX_RECORD.false, ap length c.deref.ensures.value)) (c.upgrade.ensures.growth magic bodies on refl)
+    grows_once g.D.Disk.model c.args.disk.now c.upgrade.new.disk (length c.deref.result.now + 29) most (2 ^ 30 + 24) (le first) (omega (arith, c.len-size.ensures, c.if-size-gt-MAX_RECORD.false, ap length c.deref.ensures.value)) (c.upgrade.ensures.growth bodies on)
