@@ -1,13 +1,6 @@
 pub mod OffsetFile
 pub mod FileDisk
-pub mod Stream
-pub mod StreamPeer
-pub mod StreamSource
 pub mod Folders
-pub mod Waits
-pub mod Framing
-pub mod Asked
 pub mod FileFolder
 pub mod FolderFiles
 pub mod ProcessSpawner
-pub mod Noted

@@ -1,5 +1,6 @@
 -- Hooks that the system runs. They tell neither names nor runs.
-use Rattle.std.specs.Prelude.{◌≡◌, ◌⊎◌, ℕ, List, [], ◌++◌, length, codes, false, string_bytes, Option, Some, None}
+use Rattle.std.specs.Prelude.{◌≡◌, ◌⊎◌, ℕ, List, [], ◌+◌, ◌-◌, ◌^◌, ◌≤◌, ◌++◌, length, codes, false, string_bytes, Option, Some, None}
+use Rattle.std.specs.Option.{ForSome}
 use Rattle.std.specs.Io.KnownBytes.{Consumes, IsAtEnd}
 use Rattle.tw_spawn.specs.Spawner.{SpawnerModel}
 use Rattle.tw_files.specs.declared.process_spawner.ProcessSpawner.{ProcessSpawner}
@@ -44,6 +45,18 @@ pub record IsRead {P : Type 0} (remaining : Known P) (old new : P) (output : Lis
   pub kept : Consumes (remaining old) (remaining filled) output
   pub whole : IsAtEnd (remaining filled) ⊎ (length output ≡ 16777217)
   pub ignored : ReadsOn (remaining filled) (remaining new)
+
+-- a script is still to write more than can be counted
+abbrev pub IsEndless : Option (List ℕ) → Type 0
+IsEndless rest = ForSome rest (λ all. 2 ^ 64 - 1 ≤ length all)
+
+-- a script was given up, or writes without end
+abbrev pub BringsNoStatus : {P : Type 0} → (is_given_up : P → Type 0) → Known P → Type 0
+BringsNoStatus {P = P} is_given_up remaining = (script : P) × (is_given_up script ⊎ IsEndless (remaining script))
+
+-- why the output of a script was not read: a call has failed, or some script writes without end
+abbrev pub IsUnread : {P : Type 0} → (has_failed : P → Type 0) → Known P → P → Type 0
+IsUnread {P = P} has_failed remaining script = has_failed script ⊎ ((begun : P) × IsEndless (remaining begun))
 
 -- a script was started over this input, all that it writes was read, and it ended with this status
 pub record RanScript {P : Type 0} (is_run : IsRun P) (remaining : Known P) (ended : P → ℕ → Type 0)

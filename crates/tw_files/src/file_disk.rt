@@ -40,6 +40,7 @@ pub fn write_all_at<F: OffsetFile>(file: &mut F, at: u64, bytes: &[u8]) -> bool
     ensures whole { IsTrue result → Overwrites (F.contents file.old) (F.contents file.new) at bytes.now }
     ensures len { KeepsLength (F.contents file.old) (F.contents file.new) (at + length bytes.now) }
     ensures at { (path : List ℕ) → F.is_at file.old path → F.is_at file.new path }
+    ensures failed { IsFalse result → F.may_fail }
 {
     let mut done = 0;
     while done < bytes.len() {
@@ -58,6 +59,7 @@ impl<F: OffsetFile> FileDisk<F> {
         F: Drop,
         ensures file { IfOk result (λ disk. disk.file ≡ file) }
         ensures faults { IfOk result (λ disk. disk.faults ≡ 0) }
+        ensures only { OnErr result F.may_fail }
     {
         let len = file.byte_len()?;
         Ok(FileDisk {
@@ -77,6 +79,7 @@ impl<F: OffsetFile> FileDisk<F> {
     // Makes what the file holds stable.
     pub(crate) fn stabilize(&mut self) -> io::Result<()>
         ensures stable { OnOk result (F.is_stable self.new.file) }
+        ensures only { OnErr result F.may_fail }
         ensures contents { F.contents self.new.file ≡ F.contents self.old.file }
         ensures at { (path : List ℕ) → F.is_at self.old.file path → F.is_at self.new.file path }
         ensures len { self.new.len ≡ self.old.len }
@@ -111,7 +114,13 @@ impl<F: OffsetFile> Disk for FileDisk<F> {
 
     ghost only_now = { λ disk c left. left };
 
-    fn size(&mut self) -> Result<u64, DiskError> {
+    fn size(&mut self) -> Result<u64, DiskError>
+        ensures size { IfOk result (λ n. (n ≡ self.old.len) × (n < 2 ^ 56)) }
+        ensures reads { Reads file_model self.old self.new }
+        ensures failed { IsErrOf result DiskError.Failed → Rose self.old.faults self.new.faults }
+
+        ensures only { OnErr result (2 ^ 56 ≤ self.old.len) }
+    {
         if self.len >= MAX_LEN {
             return Err(self.fail());
         }
@@ -128,6 +137,7 @@ impl<F: OffsetFile> Disk for FileDisk<F> {
         // What the file holds there, if it says what it holds.
         ensures there { OnOk result (Holds (F.contents self.old.file) at out.new) }
         ensures well { OnOk result (self.new ≡ self.old) }
+        ensures only { OnErr result (F.may_fail ⊎ IsShorter (F.contents self.old.file) (at + length out.old)) }
     {
         prove!(at <= self.len);
         if read_all_at(&self.file, at, out) {
@@ -146,6 +156,7 @@ impl<F: OffsetFile> Disk for FileDisk<F> {
         // Each byte is written, if the file says what it holds.
         ensures whole { OnOk result (Overwrites (F.contents self.old.file) (F.contents self.new.file) at bytes.now) }
         ensures well { OnOk result (self.new.faults ≡ self.old.faults) }
+        ensures only { OnErr result F.may_fail }
     {
         prove!(at <= self.len);
         if write_all_at(&mut self.file, at, bytes) {
@@ -164,6 +175,7 @@ impl<F: OffsetFile> Disk for FileDisk<F> {
         // The file has that length, if it says what it holds.
         ensures cut { OnOk result (Resizes (F.contents self.old.file) (F.contents self.new.file) len) }
         ensures well { OnOk result (self.new.faults ≡ self.old.faults) }
+        ensures only { OnErr result (F.may_fail ⊎ (2 ^ 56 ≤ len)) }
     {
         if len >= MAX_LEN {
             return Err(self.fail());
@@ -187,6 +199,7 @@ impl<F: OffsetFile> Disk for FileDisk<F> {
         ensures stable { OnOk result (F.is_stable self.new.file) }
         ensures contents { F.contents self.new.file ≡ F.contents self.old.file }
         ensures well { OnOk result (self.new.faults ≡ self.old.faults) }
+        ensures only { OnErr result F.may_fail }
     {
         if self.file.stabilize().is_ok() {
             return Ok(());

@@ -84,6 +84,7 @@ impl<S: Folders> FileFolder<S> {
         ensures kept { IfOk result (λ folder. (other : List ℕ) → S.has_stable_names system other → S.has_stable_names folder.system other) }
         ensures path { IfOk result (λ folder. string_bytes folder.path ≡ path.now) }
         ensures faults { IfOk result (λ folder. folder.faults ≡ 0) }
+        ensures failed { IfErr result (FailsAlone S.File.may_fail) }
     {
         let mut system = system;
         let owned = String::from_str(alloc, path)?;
@@ -243,7 +244,8 @@ impl<S: Folders> Folder for FileFolder<S> {
 
 // Whether a folder has no file yet. It is made, with those on the way to it, if it is not there.
 fn is_new<S: Folders>(alloc: Global, system: &mut S, path: &str) -> io::Result<bool>
-    ensures { S.is_new system.old path.now → IfOk result (λ new. new ≡ true) }
+    ensures new { S.is_new system.old path.now → IfOk result (λ new. new ≡ true) }
+    ensures failed { IfErr result (FailsAlone S.File.may_fail) }
 {
     match system.list(alloc, path) {
         Ok(names) => Ok(names.len() == 0),
@@ -267,6 +269,7 @@ pub fn open_folder<S: Folders + Drop>(
     ensures way { S.is_new system path.now → IfOk result (λ folder. EachOnWay (S.has_stable_names (folder_system folder)) path.now) }
     ensures path { IfOk result (λ folder. folder_path folder ≡ path.now) }
     ensures faults { IfOk result (λ folder. folder_model.faults folder ≡ 0) }
+    ensures only { IfErr result (FailsAlone S.File.may_fail) }
 {
     let mut system = system;
     if is_new(alloc, &mut system, path)? {

@@ -38,18 +38,22 @@ pub trait Folders {
 
     /// Opens a file that is there, to be read and written.
     fn open(&mut self, path: &str) -> io::Result<Self::File>
-        ensures at { IfOk result (λ file. Self.File.is_at file path.now) };
+        ensures at { IfOk result (λ file. Self.File.is_at file path.now) }
+        ensures failed { IfErr result (λ e. FailsAlone Self.File.may_fail e ⊎ (error_kind e ≡ ErrorKind.NotFound)) };
 
     /// Opens a file in the same way, and makes an empty one if it is not there.
     fn open_or_make(&mut self, path: &str) -> io::Result<Self::File>
-        ensures at { IfOk result (λ file. Self.File.is_at file path.now) };
+        ensures at { IfOk result (λ file. Self.File.is_at file path.now) }
+        ensures failed { IfErr result (FailsAlone Self.File.may_fail) };
 
     /// Makes a folder, with those on the way to it, if it is not there.
-    fn make_folder(&mut self, folder: &str) -> io::Result<()>;
+    fn make_folder(&mut self, folder: &str) -> io::Result<()>
+        ensures failed { IfErr result (FailsAlone Self.File.may_fail) };
 
     /// Makes the names in a folder stable.
     fn sync_names(&mut self, folder: &str) -> io::Result<()>
         ensures settled { OnOk result (has_stable_names self.new folder.now) }
+        ensures failed { IfErr result (FailsAlone Self.File.may_fail) }
         ensures kept { (other : List ℕ) → has_stable_names self.old other → has_stable_names self.new other }
         ensures files { (path : List ℕ) (bytes : Option (List ℕ)) → has self.old path bytes → has self.new path bytes };
 
@@ -58,6 +62,7 @@ pub trait Folders {
         ensures none { is_new self.old folder.now → IfOk result (λ names. names.items ≡ []) }
         ensures all { IfOk result (λ names. lists self.new folder.now (Some (map string_bytes names.items))) }
         ensures failed { IfErr result (λ e. FailsAlone Self.File.may_fail e ⊎ lists self.new folder.now None) }
+        ensures missing { IfErr result (λ e. error_kind e ≢ ErrorKind.NotFound → FailsAlone Self.File.may_fail e) }
         ensures stay { FilesStay has lists self.old self.new };
 
     /// Opens a file to be read, if there is one.
@@ -184,7 +189,8 @@ fn passed_over(done: io::Result<()>, kind: ErrorKind) -> io::Result<()>
 
 /// Makes the names in all folders on the way to a file stable.
 pub fn sync_way<S: Folders>(system: &mut S, path: &str) -> io::Result<()>
-    ensures { OnOk result (EachOnWay (S.has_stable_names system.new) path.now) }
+    ensures settled { OnOk result (EachOnWay (S.has_stable_names system.new) path.now) }
+    ensures failed { IfErr result (FailsAlone S.File.may_fail) }
 {
     if !path.starts_with("/") {
         system.sync_names(".")?;

@@ -31,7 +31,8 @@ pub trait OffsetFile {
     ghost may_fail: { Type 0 };
 
     /// Takes the lock of the file, which lasts until the file is closed, also by a program's death.
-    fn lock(&self, busy: Busy) -> io::Result<()>;
+    fn lock(&self, busy: Busy) -> io::Result<()>
+        ensures failed { OnErr result may_fail };
 
     /// How many bytes the file has.
     fn byte_len(&self) -> io::Result<u64>
@@ -47,6 +48,8 @@ pub trait OffsetFile {
     fn write_some(&mut self, bytes: &[u8], at: u64) -> io::Result<usize>
         ensures bound { WritesAtMost result bytes.now }
         ensures bytes { IfOk result (λ count. Overwrites (contents self.old) (contents self.new) at (take count bytes.now)) }
+        ensures some { IfOk result (λ count. count ≡ 0 → 0 < length bytes.now → may_fail) }
+        ensures failed { OnErr result may_fail }
         ensures len { KeepsLength (contents self.old) (contents self.new) (at + length bytes.now) }
         ensures at { (path : List ℕ) → is_at self.old path → is_at self.new path };
 
@@ -54,10 +57,12 @@ pub trait OffsetFile {
         ensures resized { OnOk result (Resizes (contents self.old) (contents self.new) len) }
         ensures len { OnOk result (HasLength (contents self.new) len) }
         ensures kept { OnErr result (KeepsLength (contents self.old) (contents self.new) 0) }
+        ensures failed { OnErr result may_fail }
         ensures at { (path : List ℕ) → is_at self.old path → is_at self.new path };
 
     fn stabilize(&mut self) -> io::Result<()>
         ensures stable { OnOk result (is_stable self.new) }
+        ensures failed { OnErr result may_fail }
         ensures contents { contents self.new ≡ contents self.old }
         ensures at { (path : List ℕ) → is_at self.old path → is_at self.new path };
 }

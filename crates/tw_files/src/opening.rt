@@ -1,6 +1,7 @@
 // Opening a journal's file.
-ghost use Rattle.std.specs.Prelude.{◌≡◌, IfOk};
+ghost use Rattle.std.specs.Prelude.{◌≡◌, IfOk, IfErr};
 ghost use Rattle.tw_files.specs.FileDisk.{disk_file, disk_len, file_model};
+ghost use Rattle.tw_files.specs.FolderFiles.{FailsAlone};
 ghost use Rattle.tw_files.specs.Folders.{EachOnWay};
 
 use crate::file_disk::FileDisk;
@@ -12,6 +13,7 @@ use std::path::Path;
 // Opens a file, and makes it, with its folder, if it is not there.
 fn open_or_make<S: Folders>(system: &mut S, path: &str) -> io::Result<S::File>
     ensures at { IfOk result (λ file. S.File.is_at file path.now) }
+    ensures failed { IfErr result (FailsAlone S.File.may_fail) }
 {
     match system.open(path) {
         Err(error) if error.kind() == io::ErrorKind::NotFound => {
@@ -36,6 +38,7 @@ pub fn open_disk<S: Folders>(
     ensures stable { IfOk result (λ disk. disk_len disk ≡ 0 → S.File.is_stable (disk_file disk)) }
     ensures faults { IfOk result (λ disk. file_model.faults disk ≡ 0) }
     ensures settled { IfOk result (λ disk. disk_len disk ≡ 0 → EachOnWay (S.has_stable_names system.new) path.now) }
+    ensures failed { IfErr result (FailsAlone S.File.may_fail) }
 {
     let file = open_or_make(system, path)?;
     file.lock(busy)?;

@@ -1,9 +1,11 @@
 // The hooks of a data folder, run by the system.
-ghost use Rattle.std.specs.Prelude.{◌≡◌, ◌≢◌, ◌⊎◌, ◌≤◌, ◌++◌, length, map, string_bytes, IfOk, IfSome, OnOk, IsErrOf};
+ghost use Rattle.std.specs.Prelude.{◌≡◌, ◌≢◌, ◌⊎◌, ◌≤◌, ◌++◌, length, map, string_bytes, None, IfOk, IfErr, IfSome, OnOk, OnErr, IsErrOf};
 ghost use Rattle.std.specs.IoError.{error_kind};
 ghost use Rattle.std.specs.Io.KnownBytes.{Consumes, IsAtEnd};
 ghost use Rattle.tw_world.specs.Disk.{Rose};
 ghost use Rattle.tw_spawn.specs.Spawner.{SpawnerKept, HasNames, RunsNone, RunsOne};
+ghost use Rattle.tw_files.specs.FolderFiles.{FailsAlone};
+ghost use Rattle.tw_files.specs.ProcessSpawner.{IsEndless, IsUnread, BringsNoStatus};
 ghost use Rattle.tw_files.specs.ProcessSpawner.{hook_path, hooks_folder, path_in, folder_in, RanScript, ReadsOn, IsRead, AreFiles};
 
 use crate::scripts::{OpenScript, Scripts};
@@ -42,6 +44,7 @@ fn read_output<P: OpenScript>(script: &mut P, output: &mut Vec<u8>) -> io::Resul
     ensures bytes { OnOk result (Consumes (P.remaining script.old) (P.remaining script.new) output.new.items) }
     ensures most { OnOk result (length output.new.items ≤ 16777217) }
     ensures whole { OnOk result (IsAtEnd (P.remaining script.new) ⊎ (length output.new.items ≡ 16777217)) }
+    ensures failed { IfErr result (FailsAlone (P.has_failed script.new)) }
 {
     output.clear();
     let mut piece = [0; PIECE];
@@ -58,7 +61,8 @@ fn read_output<P: OpenScript>(script: &mut P, output: &mut Vec<u8>) -> io::Resul
 
 // Reads on to the end of what a script writes, and keeps none of it: a program whose output is full does not end by itself.
 fn read_on<P: OpenScript>(script: &mut P) -> io::Result<()>
-    ensures { OnOk result (ReadsOn (P.remaining script.old) (P.remaining script.new)) }
+    ensures read { OnOk result (ReadsOn (P.remaining script.old) (P.remaining script.new)) }
+    ensures failed { OnErr result (P.has_failed script.new ⊎ IsEndless (P.remaining script.old)) }
 {
     let mut piece = [0; PIECE];
     let mut turn = 0;
@@ -74,13 +78,16 @@ fn read_on<P: OpenScript>(script: &mut P) -> io::Result<()>
 
 // Reads all that a script writes, and keeps as much as it may.
 fn read_all<P: OpenScript>(script: &mut P, output: &mut Vec<u8>) -> io::Result<()>
-    ensures { OnOk result (IsRead P.remaining script.old script.new output.new.items) }
+    ensures read { OnOk result (IsRead P.remaining script.old script.new output.new.items) }
+    ensures failed { IfErr result (FailsAlone (IsUnread P.has_failed P.remaining script.new)) }
 {
-    read_output(script, output)?;
-    read_on(script)
+    match read_output(script, output) {
+        Ok(()) => read_on(script),
+        Err(error) => Err(error),
+    }
 }
 
-// Runs a script to its end, and gives its status, or `None` if a signal ended it. It is waited for in every case.
+// Runs a script to its end, and gives its status, or `None` if a signal ended it. It is waited for in every case, and stopped if it can't be read.
 fn run_script<S: Scripts>(
     alloc: Global,
     system: &mut S,
@@ -89,9 +96,14 @@ fn run_script<S: Scripts>(
     input: &[u8],
     output: &mut Vec<u8>,
 ) -> io::Result<Option<u8>>
-    ensures { IfOk result (λ s. IfSome s (RanScript S.Script.is_run S.Script.remaining S.Script.ended path.now input.now output.new.items)) }
+    ensures ran { IfOk result (λ s. IfSome s (RanScript S.Script.is_run S.Script.remaining S.Script.ended path.now input.now output.new.items)) }
+    ensures none { IfOk result (λ s. s ≡ None → BringsNoStatus S.Script.is_given_up S.Script.remaining) }
+    ensures failed { IfErr result (FailsAlone (S.may_fail ⊎ BringsNoStatus S.Script.is_given_up S.Script.remaining)) }
 {
-    let mut script = system.start(alloc, path, spare, input)?;
+    let mut script = match system.start(alloc, path, spare, input) {
+        Ok(script) => script,
+        Err(error) => return Err(error),
+    };
     if let Err(error) = read_all(&mut script, output) {
         let _ = script.stop();
         let _ = script.finish();
@@ -109,8 +121,10 @@ fn run_hook<S: Scripts>(
     input: &[u8],
     output: &mut Vec<u8>,
 ) -> io::Result<Option<u8>>
-    ensures { let path = hook_path folder.now name.now in
+    ensures ran { let path = hook_path folder.now name.now in
         IfOk result (λ s. IfSome s (RanScript S.Script.is_run S.Script.remaining S.Script.ended path input.now output.new.items)) }
+    ensures none { IfOk result (λ s. s ≡ None → BringsNoStatus S.Script.is_given_up S.Script.remaining) }
+    ensures failed { IfErr result (FailsAlone (S.may_fail ⊎ BringsNoStatus S.Script.is_given_up S.Script.remaining)) }
 {
     let path = path_of(alloc, folder, "/hooks/", name)?;
     let spare = path_of(alloc, folder, "/hooks.", "input")?;
@@ -119,7 +133,8 @@ fn run_hook<S: Scripts>(
 
 // The names of the files of a folder, and none if it is not there.
 fn files_of<S: Scripts>(alloc: Global, system: &mut S, folder: &str) -> io::Result<Vec<String>>
-    ensures { IfOk result (λ names. AreFiles (S.lists system.new (hooks_folder folder.now)) (map string_bytes names.items)) }
+    ensures files { IfOk result (λ names. AreFiles (S.lists system.new (hooks_folder folder.now)) (map string_bytes names.items)) }
+    ensures failed { IfErr result (FailsAlone S.may_fail) }
 {
     let path = path_of(alloc, folder, "/hooks", "")?;
     match system.files(alloc, path.as_str()) {
@@ -183,6 +198,7 @@ impl<S: Scripts> Spawner for ProcessSpawner<S> {
         // They are the files of the folder of hooks, and no call that ends well counts a fault.
         ensures files { IfOk result (λ names. AreFiles (S.lists self.new.system (folder_in self.old)) (map string_bytes names.items)) }
         ensures well { OnOk result (self.new.faults ≡ self.old.faults) }
+        ensures only { IsErrOf result SpawnError.Failed → S.may_fail }
     {
         match files_of(alloc, &mut self.system, self.folder.as_str()) {
             Ok(names) => Ok(names),
@@ -198,6 +214,9 @@ impl<S: Scripts> Spawner for ProcessSpawner<S> {
         // The script of that name was run to its end, and no call that ends well counts a fault.
         ensures script { IfOk result (RanScript S.Script.is_run S.Script.remaining S.Script.ended (path_in self.old name.now) input.now output.new.items) }
         ensures well { OnOk result (self.new.faults ≡ self.old.faults) }
+
+        // One that brings no status was not started, or was given up: it is stopped if a call has failed.
+        ensures only { IsErrOf result SpawnError.Failed → S.may_fail ⊎ BringsNoStatus S.Script.is_given_up S.Script.remaining }
     {
         match run_hook(
             self.alloc,

@@ -1,8 +1,9 @@
 // Scripts of the system, and the programs that they become.
-ghost use Rattle.std.specs.Prelude.{ℕ, List, Option, None, map, option_map, IfOk, IfSome};
+ghost use Rattle.std.specs.Prelude.{◌≡◌, ℕ, List, Option, None, map, option_map, IfOk, IfErr, IfSome, OnErr};
 ghost use Rattle.std.specs.String.{string_bytes};
 ghost use Rattle.std.specs.Io.{ReadsAtMost};
 ghost use Rattle.std.specs.Io.KnownBytes.{ReadConsumes};
+ghost use Rattle.tw_files.specs.FolderFiles.{FailsAlone};
 
 use crate::folders::OWN_FILE;
 use std::alloc::Global;
@@ -23,17 +24,28 @@ pub trait OpenScript {
     /// Holds if it ended with this status.
     ghost ended: { Self → ℕ → Type 0 };
 
+    /// Holds if a call of it has failed.
+    ghost has_failed: { Self → Type 0 };
+
+    /// Holds if it brings no status: it was stopped after a call had failed, or waiting for it failed, or a signal ended it.
+    ghost is_given_up: { Self → Type 0 };
+
     /// Reads what it writes, and waits for that.
     fn read_some(&mut self, buffer: &mut [u8]) -> io::Result<usize>
         ensures bound { ReadsAtMost result buffer.new }
-        ensures bytes { ReadConsumes (remaining self.old) (remaining self.new) result buffer.new };
+        ensures bytes { ReadConsumes (remaining self.old) (remaining self.new) result buffer.new }
+        ensures failed { OnErr result (has_failed self.new) };
 
     /// Ends it.
-    fn stop(&mut self) -> io::Result<()>;
+    fn stop(&mut self) -> io::Result<()>
+        ensures stopped { has_failed self.old → is_given_up self.new };
 
     /// Waits for its end, and gives its status, or `None` if a signal ended it.
     fn finish(&mut self) -> io::Result<Option<u8>>
-        ensures { IfOk result (λ status. IfSome status (ended self.new)) };
+        ensures ended { IfOk result (λ status. IfSome status (ended self.new)) }
+        ensures none { IfOk result (λ status. status ≡ None → is_given_up self.new) }
+        ensures failed { OnErr result (is_given_up self.new) }
+        ensures stopped { is_given_up self.old → is_given_up self.new };
 }
 
 /// What the system offers of scripts.
@@ -44,9 +56,13 @@ pub trait Scripts {
     /// with `None`, if it is not there.
     ghost lists: { Self → List ℕ → Option (List (List ℕ)) → Type 0 };
 
+    /// Holds if the system may refuse to list a folder, or to start a script.
+    ghost may_fail: { Type 0 };
+
     /// The names of the files in a folder, in any order, and none if it is not there. A name that is no text is left out.
     fn files(&mut self, alloc: Global, folder: &str) -> io::Result<Option<Vec<String>>>
-        ensures { IfOk result (λ names. lists self.new folder.now (option_map (λ names. map string_bytes names.items) names)) };
+        ensures files { IfOk result (λ names. lists self.new folder.now (option_map (λ names. map string_bytes names.items) names)) }
+        ensures failed { IfErr result (FailsAlone may_fail) };
 
     /// Starts the script of a path by `sh`, with these bytes as its standard input. They are in a file of the path `spare`
     /// until it is started, since a pipe holds few, and then that name is gone.
@@ -57,7 +73,8 @@ pub trait Scripts {
         spare: &str,
         input: &[u8],
     ) -> io::Result<Self::Script>
-        ensures { IfOk result (λ script. Self.Script.is_run script path.now input.now) };
+        ensures run { IfOk result (λ script. Self.Script.is_run script path.now input.now) }
+        ensures failed { IfErr result (FailsAlone may_fail) };
 }
 
 // The system's programs tell nothing of what they write.
@@ -67,6 +84,10 @@ impl OpenScript for Child {
     ghost remaining = { λ script. None };
 
     ghost ended = { λ script status. Unit {0} };
+
+    ghost has_failed = { λ script. Unit {0} };
+
+    ghost is_given_up = { λ script. Unit {0} };
 
     fn read_some(&mut self, buffer: &mut [u8]) -> io::Result<usize> {
         match &mut self.stdout {
@@ -91,6 +112,8 @@ impl Scripts for &HostRuntime {
     type Script = Child;
 
     ghost lists = { λ system folder names. Unit {0} };
+
+    ghost may_fail = { Unit {0} };
 
     fn files(&mut self, alloc: Global, folder: &str) -> io::Result<Option<Vec<String>>> {
         let entries = match fs::read_dir(*self, folder) {
