@@ -4,3 +4,4 @@ pub mod Spaces
 pub mod Utf8
 pub mod Decimals
 pub mod NoReasons
+pub mod EmptyValues

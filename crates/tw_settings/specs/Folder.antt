@@ -1,23 +1,31 @@
 -- The folder of the tasks: task(1), under "FILES", and taskrc(5), under "FILES".
 use Rattle.std.specs.Prelude.{ℕ, cond, List, [], ◌∷◌, ◌++◌, Option, Some, None, nat_eq, drop, codes}
 use Rattle.std.specs.List.{starts_with}
-use Rattle.tw_model.specs.Maps.{same_bytes}
 use Rattle.tw_terms.specs.Cuts.{parts}
-use Rattle.tw_settings.specs.Settings.{Pair, setting_in}
+use Rattle.tw_settings.specs.Settings.{Pair, setting_in, value_behind, value_of}
 
--- the value of a name after a line, before which it had this one; a line that is no setting is passed over
+-- what a line sets, before what later lines set; a line that is no setting is passed over
+abbrev pub set_before : Option (Option Pair) → List Pair → List Pair
+set_before None later = later
+set_before (Some None) later = later
+set_before (Some (Some x)) later = x ∷ later
+
+-- what lines set
+abbrev pub set_by : List (List ℕ) → List Pair
+set_by [] = []
+set_by (line ∷ lines) = set_before (setting_in line) (set_by lines)
+
+-- the value of a name after a line, before which it had this one
 abbrev pub value_with : (name : List ℕ) → Option (List ℕ) → Option (Option Pair) → Option (List ℕ)
-value_with name value None = value
-value_with name value (Some None) = value
-value_with name value (Some (Some x)) = cond (same_bytes x.0 name) (Some x.1) value
+value_with name value set = value_behind name value (set_before set [])
 
-abbrev pub value_behind_lines : (name : List ℕ) → Option (List ℕ) → List (List ℕ) → Option (List ℕ)
-value_behind_lines name value [] = value
-value_behind_lines name value (line ∷ lines) = value_behind_lines name (value_with name value (setting_in line)) lines
+-- what the lines of a text set
+abbrev pub settings_of : List ℕ → List Pair
+settings_of text = set_by (parts 10 text)
 
 -- the value of the last line that sets `data.location`
 abbrev pub location_in : List ℕ → Option (List ℕ)
-location_in settings = value_behind_lines (codes "data.location") None (parts 10 settings)
+location_in text = value_of (codes "data.location") (settings_of text)
 
 -- below the home folder, if that is known
 abbrev pub home_folder : Option (List ℕ) → List ℕ
@@ -36,6 +44,10 @@ located (Some []) home = home_folder home
 located (Some (b ∷ bs)) home = expanded (b ∷ bs) home
 
 -- the folder that a variable names, else the one of the settings
+abbrev pub folder_set : (taskdata home : Option (List ℕ)) → List Pair → List ℕ
+folder_set (Some folder) home pairs = folder
+folder_set None home pairs = located (value_of (codes "data.location") pairs) home
+
+-- the same by the lines of a text
 abbrev pub folder_in : (settings : List ℕ) → (taskdata home : Option (List ℕ)) → List ℕ
-folder_in settings (Some folder) home = folder
-folder_in settings None home = located (location_in settings) home
+folder_in settings taskdata home = folder_set taskdata home (settings_of settings)

@@ -6,3 +6,4 @@ pub mod Weights
 pub mod Switches
 pub mod Servers
 pub mod Folder
+pub mod Readings

@@ -17,10 +17,14 @@ switched (Some value) = cond (is_off value) false true
 abbrev pub is_set_on : List ℕ → List Pair → Bool
 is_set_on name pairs = switched (value_of name pairs)
 
+-- a word for on
+unfoldable pub is_on : List ℕ → Bool
+is_on value = same_bytes value (codes "on") || same_bytes value (codes "yes") || same_bytes value (codes "1")
+
 -- off where nothing else is said
 abbrev pub turned_on : Option (List ℕ) → Bool
 turned_on None = false
-turned_on (Some value) = cond (is_off value) false true
+turned_on (Some value) = is_on value
 
 -- whether a name is on, if it is off by default
 abbrev pub is_turned_on : List ℕ → List Pair → Bool

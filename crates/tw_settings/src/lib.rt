@@ -6,6 +6,7 @@
 mod address;
 mod folder;
 mod known;
+pub mod laws;
 mod pair;
 mod reasons;
 mod server;

@@ -1,6 +1,6 @@
 // What settings turn on and off: `timetrack`, and of taskrc(5) the variables `gc`, `recurrence`, `hooks` and `recurrence.limit`.
 ghost use Rattle.std.specs.Prelude.{◌≡◌, ◌≤◌, codes};
-ghost use Rattle.tw_settings.specs.Switches.{is_off, is_set_on, is_turned_on, recurrence_limit};
+ghost use Rattle.tw_settings.specs.Switches.{is_off, is_on, is_set_on, is_turned_on, recurrence_limit};
 
 use crate::settings::Settings;
 use tw_text::read_u64;
@@ -11,6 +11,16 @@ fn is_off(value: &str) -> bool
 {
     match value {
         "off" | "no" | "0" => true,
+        _ => false,
+    }
+}
+
+#[tactic(auto, unfolding(crate::specs::Switches::is_on))]
+fn is_on(value: &str) -> bool
+    ensures { result ≡ is_on value.now }
+{
+    match value {
+        "on" | "yes" | "1" => true,
         _ => false,
     }
 }
@@ -46,12 +56,12 @@ impl Settings {
         self.is_set_on("hooks")
     }
 
-    /// Whether active tasks drive intervals of time, which they do only if it is set. It takes no memory.
+    /// Whether active tasks drive intervals of time, which they do only if it is set on. It takes no memory.
     pub fn timetrack(&self) -> bool
         ensures { result ≡ is_turned_on (codes "timetrack") self.now }
     {
         match self.get("timetrack") {
-            Some(value) => !is_off(value),
+            Some(value) => is_on(value),
             None => false,
         }
     }
