@@ -68,7 +68,7 @@ one_out id (x ∷ front) r back number =
     ∙ ap (λ (l : List Interval). x ∷ l) (one_out id front r back number)
 
 -- rows behind one have not begun before it ends
-back_free : (end : Option ℕ) (back : List Interval) (s : ℕ) → goes_past end s ≡ true → IsBefore end back → AreRows back → at back s ≡ None
+pub back_free : (end : Option ℕ) (back : List Interval) (s : ℕ) → goes_past end s ≡ true → IsBefore end back → AreRows back → at back s ≡ None
 back_free end [] s past before are = refl
 back_free end (r ∷ back) s past before are =
     ap (λ (b : Bool). cond b (Some (content r)) (at back s)) (ap (λ (b : Bool). b && goes_past r.end s) (not_begun end r.start s past before)) ∙ back_free end back s past (before_next end r back before are.0.end are.1) are.2

@@ -5,6 +5,7 @@ ghost use Rattle.timew_interval.specs.declared.interval.Interval.{Interval};
 ghost use Rattle.timew_cmd.specs.Commands.Split.{middle, split, SameSeconds, IsHalved};
 ghost use Rattle.timew_cmd.specs.Seconds.{TrackGivesTags, StartGivesTags, ContinueGivesTags, StopFrees, CancelFrees};
 ghost use Rattle.timew_cmd.specs.Seconds.{MoveMoves, LengthenMoves, ShortenMoves, JoinTakes};
+ghost use Rattle.timew_cmd.specs.Seconds.{TagAddsTags, UntagTakesTags, AnnotateSetsText, DeleteFrees};
 
 /// Intervals that are split leave each second what it had.
 pub fn a_split_leaves_each_second()
@@ -39,6 +40,26 @@ pub fn stop_frees_the_seconds_from_the_moment_on()
 /// After `cancel` each second from the start of the open interval on is free, and every earlier one has what it had.
 pub fn cancel_frees_the_seconds_of_the_open_interval()
     ensures { CancelFrees }
+{}
+
+/// After `tag` each second of these intervals, or of the open one, has the tags too, and every other second has what it had.
+pub fn tag_gives_its_seconds_more_tags()
+    ensures { TagAddsTags }
+{}
+
+/// After `untag` each second of these intervals, or of the open one, has the tags no more, and every other second has what it had.
+pub fn untag_takes_tags_of_its_seconds()
+    ensures { UntagTakesTags }
+{}
+
+/// After `annotate` each second of the interval, or of the open one, has the text and its tags, and every other second has what it had.
+pub fn annotate_gives_its_seconds_the_text()
+    ensures { AnnotateSetsText }
+{}
+
+/// After `delete` each second of these intervals is free, and every other second has what it had.
+pub fn delete_frees_its_seconds()
+    ensures { DeleteFrees }
 {}
 
 /// After `move` the seconds from the new start on, as many as the interval had, have what it says. Those that only it had are free, and all

@@ -1,10 +1,11 @@
 -- A moment of a day is the day's first second and the second that its clock shows.
-use Rattle.std.proofs.Common.{◌≡◌, ℕ, ◌+◌, ◌-◌, ◌*◌, ◌/◌, ◌%◌, ◌<◌, pos, ◌+ℤ◌, ◌*ℤ◌, ◌≤ℤ◌, Bool, true, false, not, List, ◌++◌, take, drop, length, Option, Some, None, option_and_then, codes, refl, sym, ap, ◌∙◌, arith}
+use Rattle.std.proofs.Common.{◌≡◌, ℕ, ◌+◌, ◌-◌, ◌*◌, ◌/◌, ◌%◌, ◌<◌, pos, ◌+ℤ◌, ◌*ℤ◌, ◌≤ℤ◌, Bool, true, false, not, ◌==◌, List, ◌++◌, take, drop, length, Option, Some, None, option_and_then, codes, refl, sym, ap, ◌∙◌, arith}
 use Rattle.jiff_core.proofs.SignedLemmas.{signed_arith}
 use Rattle.jiff.specs.Types.{Date, Time, DateTime, UTC}
 use Rattle.jiff.specs.Words.{epoch_day}
 use Rattle.jiff.proofs.ZoneFacts.{offset_at-UTC}
 use Rattle.std.specs.Result.{result_ok}
+use Rattle.std.proofs.lemmas.Bool.Decides.{nat_tests}
 use Rattle.std.proofs.lemmas.List.{length-take}
 use Rattle.tw_time.specs.declared.form.Parts.{Parts}
 use Rattle.tw_time.specs.Placed.{at_civil}
@@ -108,6 +109,18 @@ sized_moment : (text : List ℕ) → length text < 16 → basic_moment text ≡ 
 unfolding basic_moment
 sized_moment text short =
     ap (option_and_then (λ (p : Parts). result_ok (at_civil p UTC))) (filled_after-length (codes "YYYYMMDDThhmmssZ") text no_parts (λ same. absurd (omega (arith, short, same))))
+
+-- the text of a moment has 16 bytes
+pub moment_size : (text : List ℕ) (at : ℕ) → basic_moment text ≡ Some at → length text ≡ 16
+unfolding basic_moment
+moment_size text at is = by_case (length text == 16) refl
+  where
+    by_case : (b : Bool) → (length text == 16) ≡ b → length text ≡ 16
+    by_case true same = grind (arith, nat_tests)
+    by_case false other =
+        let none : basic_moment text ≡ None = ap (option_and_then (λ (p : Parts). result_ok (at_civil p UTC))) (filled_after-length (codes "YYYYMMDDThhmmssZ") text no_parts (λ same. let no : true ≡ false = ap (λ (n : ℕ). n == 16) same ∙ other in absurd (cc))) in
+        let no : None ≡ Some at = sym none ∙ is in
+        absurd (cc)
 
 -- too few bytes have no moment
 pub no_moment_at : (bytes : List ℕ) → length bytes < 16 → None ≡ moment_at bytes

@@ -29,3 +29,7 @@ pub mod RisingMonths
 pub mod MonthsAfter
 pub mod MonthsPut
 pub mod Edits
+pub mod LongerTexts
+pub mod ReadTails
+pub mod SpelledTails
+pub mod SpelledLines

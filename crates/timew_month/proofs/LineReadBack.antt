@@ -16,7 +16,7 @@ use Rattle.timew_interval.proofs.SameBytes.{same_bytes_itself}
 use Rattle.timew_interval.specs.ReadBack.{IsPrinted, IsWritable}
 use Rattle.timew_month.proofs.TailReadBack.{tail_back}
 
-after_front : (front rest : List ℕ) → after front (front ++ rest) ≡ Some rest
+pub after_front : (front rest : List ℕ) → after front (front ++ rest) ≡ Some rest
 after_front front rest =
     ap (λ (l : List ℕ). cond (same_bytes l front) (Some (drop (length front) (front ++ rest))) None) (take_at front rest (length front) refl)
     ∙ ap (λ b. cond b (Some (drop (length front) (front ++ rest))) None) (same_bytes_itself front)

@@ -21,7 +21,7 @@ use Rattle.timew_interval.proofs.Placed.{true_or_false}
 use Rattle.timew_interval.proofs.Tests.{both, is_less}
 
 -- a byte that is no control character
-plain : (r : Reading) (b : ℕ) → not (nat_lt b 32 || (b == 127)) ≡ true → stepped r b ≡ moved r.mode b r
+pub plain : (r : Reading) (b : ℕ) → not (nat_lt b 32 || (b == 127)) ≡ true → stepped r b ≡ moved r.mode b r
 plain r b is = not_so (nat_lt b 32 || (b == 127)) is
   where
     not_so : (c : Bool) → not c ≡ true → cond c (in_mode Failed r) (moved r.mode b r) ≡ moved r.mode b r
@@ -32,7 +32,7 @@ pub neither : (a b : Bool) → a || b ≡ false → (a ≡ false) × (b ≡ fals
 neither true b is = absurd (cc)
 neither false b is = (refl, is)
 
-pushed : (x t : List ℕ) (b : ℕ) → (x ++ b ∷ []) ++ t ≡ x ++ b ∷ t
+pub pushed : (x t : List ℕ) (b : ℕ) → (x ++ b ∷ []) ++ t ≡ x ++ b ∷ t
 pushed x t b = append_assoc x (b ∷ []) t
 
 -- a byte in a tag without quotes
@@ -72,13 +72,13 @@ abbrev Next : Mode → Mode → Type 0
 Next mode slash = ((r : Reading) (b : ℕ) → is_escaped b ≡ false → moved mode b r ≡ with_byte mode b r)
     × ((r : Reading) → moved mode 92 r ≡ in_mode slash r) × ((r : Reading) (b : ℕ) → is_escaped b ≡ true → moved slash b r ≡ with_byte mode b r)
 
-of_tag : Next Quoted Escaped
+pub of_tag : Next Quoted Escaped
 of_tag = (quoted_byte, λ r. refl, λ r b is. ap (λ c. cond c (with_byte Quoted b r) (in_mode Failed r)) is)
 
 of_note : Next Quote Backslash
 of_note = (quote_byte, λ r. refl, λ r b is. ap (λ c. cond c (with_byte Quote b r) (in_mode Failed r)) is)
 
-quoted_more : (mode slash : Mode) → Next mode slash → (t x : List ℕ) (tags : List (List ℕ)) → is_printable t ≡ true → fold stepped (record { mode = mode; text = x; tags = tags }) (escaped t) ≡ record { mode = mode; text = x ++ t; tags = tags }
+pub quoted_more : (mode slash : Mode) → Next mode slash → (t x : List ℕ) (tags : List (List ℕ)) → is_printable t ≡ true → fold stepped (record { mode = mode; text = x; tags = tags }) (escaped t) ≡ record { mode = mode; text = x ++ t; tags = tags }
 quoted_more mode slash next [] x tags print = ap (λ (l : List ℕ). let r : Reading = record { mode = mode; text = l; tags = tags } in r) (sym (append-nil x))
 quoted_more mode slash next (b ∷ t) x tags print =
     let here : Reading = record { mode = mode; text = x; tags = tags } in
@@ -114,7 +114,7 @@ long_tag [] is = absurd (cc)
 long_tag (b ∷ t) is = grind (arith, nat_tests)
 
 -- a space follows a tag, or the end
-tag_ended : (t : List ℕ) (tags : List (List ℕ)) (r : Reading) → IsGoodTag t → IsRead t tags r → (stepped r 32 ≡ record { mode = Ahead; text = []; tags = add_tag t tags }) × (ended r ≡ Some (add_tag t tags, []))
+pub tag_ended : (t : List ℕ) (tags : List (List ℕ)) (r : Reading) → IsGoodTag t → IsRead t tags r → (stepped r 32 ≡ record { mode = Ahead; text = []; tags = add_tag t tags }) × (ended r ≡ Some (add_tag t tags, []))
 tag_ended t tags r good (inl bare) = (
   ap (λ (x : Reading). stepped x 32) bare ∙ ap (λ c. cond c (record { mode = Ahead; text = []; tags = add_tag t tags }) (record { mode = Failed; text = t; tags = tags })) good.1,
   ap ended bare ∙ ap (λ c. cond c (Some (add_tag t tags, [])) None) good.1,
@@ -146,7 +146,7 @@ tags_read (next ∷ more) t tags good =
     (tags_read more next (add_tag t tags) good.1)
 
 -- an annotation after tags
-note_read : (tags : List (List ℕ)) (note : List ℕ) → is_printable note ≡ true → is_utf8 note ≡ true → ended (fold stepped (record { mode = Sign; text = []; tags = tags }) (32 ∷ quoted note)) ≡ Some (tags, note)
+pub note_read : (tags : List (List ℕ)) (note : List ℕ) → is_printable note ≡ true → is_utf8 note ≡ true → ended (fold stepped (record { mode = Sign; text = []; tags = tags }) (32 ∷ quoted note)) ≡ Some (tags, note)
 note_read tags note print utf8 =
     ap ended (fold-append stepped (record { mode = Quote; text = []; tags = tags }) (escaped note) (34 ∷ []) ∙ ap (λ (r : Reading). stepped r 34) (quoted_more Quote Backslash of_note note [] tags print))
     ∙ ap (λ c. cond c (Some (tags, note)) None) utf8

@@ -13,3 +13,4 @@ pub mod Exact
 pub mod Known
 pub mod Day
 pub mod MonthTexts
+pub mod Spelled

@@ -10,10 +10,21 @@ ghost use Rattle.timew_interval.specs.ReadBack.{IsWritable};
 ghost use Rattle.timew_month.specs.Changes.{changed_files, HasMonthText};
 ghost use Rattle.timew_month.specs.Month.{month_rows};
 ghost use Rattle.timew_month.specs.Rows.{rows_of};
+ghost use Rattle.timew_month.specs.Spelled.{TailsAreSpelled, LinesAreSpelled};
 
 /// The lines of intervals are read back as these intervals.
 pub fn lines_are_read_back()
     ensures { (rows : List Interval) → AllByRecursion IsWritable rows → month_rows (lines_text rows) ≡ Ok rows }
+{}
+
+/// What a line has after its moments is read if it is tags and an annotation as a line may have them, and nothing else is.
+pub fn tails_are_spelled()
+    ensures { TailsAreSpelled }
+{}
+
+/// A line is read if it spells an interval that does not end before it starts, and no other line is.
+pub fn lines_are_spelled()
+    ensures { LinesAreSpelled }
 {}
 
 /// After a change to intervals the month files hold these intervals, whatever they held before.

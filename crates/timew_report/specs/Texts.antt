@@ -1,13 +1,13 @@
 -- What the reports of hours print: timew(1).
-use Rattle.std.specs.Prelude.{ℕ, ◌-◌, min, false, List, [], ◌∷◌, ◌++◌, codes, map}
+use Rattle.std.specs.Prelude.{ℕ, ◌-◌, min, false, List, [], ◌∷◌, ◌++◌, codes, map, Result, Ok, Err}
 use Rattle.std.specs.List.{flat_map}
 use Rattle.std.specs.FinMap.{entries}
 use Rattle.tw_text.specs.Columns.{cell_text}
 use Rattle.tw_text.specs.Table.{Layout, table}
 use Rattle.tw_time.specs.Moments.{TimeZone, moment}
 use Rattle.tw_time.specs.Shown.{shown_day_text}
+use Rattle.tw_time.specs.declared.error.DateError.{DateError}
 use Rattle.timew_interval.specs.declared.interval.Interval.{Interval}
-use Rattle.timew_words.specs.Ranges.{or_else}
 use Rattle.timew_cmd.specs.Texts.{shown_text, length_text}
 use Rattle.timew_words.specs.declared.command.TimeReport.{TimeReport}
 use Rattle.timew_words.specs.declared.command.TimeReport.TheVariants.{Gaps, Days, Weeks, Totals}
@@ -40,10 +40,15 @@ gaps_text rows from to now zone =
 
 -- ---- days and weeks
 
+-- the Monday of a week that begins at this moment; the only week with moments that begins before the first one has that of 1969
+abbrev pub monday_text : TimeZone → Result ℕ DateError → List ℕ
+monday_text zone (Ok at) = shown_day_text zone at
+monday_text zone (Err e) = codes "1969-12-29"
+
 -- the day of a second, or the Monday of its week
 abbrev pub name_of : Span → TimeZone → ℕ → List ℕ
 name_of Day zone at = shown_day_text zone at
-name_of Week zone at = shown_day_text zone (or_else 0 (moment (codes "sow") at zone))
+name_of Week zone at = monday_text zone (moment (codes "sow") at zone)
 
 -- a day's name, and the time from its first tracked second to its end, or to that of the range
 abbrev pub day_line : Span → TimeZone → List Interval → (to now : ℕ) → ℕ → List ℕ

@@ -1,17 +1,18 @@
 // The time of each day, or of each week.
-ghost use Rattle.std.specs.Prelude.{◌≡◌, ◌<◌, ◌++◌, map, IfOk, OnOk};
+ghost use Rattle.std.specs.Prelude.{◌≡◌, ◌<◌, ◌++◌, codes, map, IfOk, OnOk};
 ghost use Rattle.std.specs.List.{AllByRecursion, flat_map};
+ghost use Rattle.tw_time.specs.Moments.{moment};
 ghost use Rattle.timew_interval.specs.Interval.{limit, AreRows};
 ghost use Rattle.timew_report.specs.Days.{end_of, days};
 ghost use Rattle.timew_report.specs.Held.{IsDay};
-ghost use Rattle.timew_report.specs.Texts.{name_of, line_text, day_line, days_text};
+ghost use Rattle.timew_report.specs.Texts.{monday_text, name_of, line_text, day_line, days_text};
 
 use crate::hours::{next_tracked, time_after, time_of};
 use crate::lines::{push_line, push_sum};
 use std::alloc::Global;
 use timew_interval::Interval;
 use timew_words::word_or;
-use tw_time::{Zone, print_day};
+use tw_time::{Zone, print_day, read_moment};
 use tw_world::{MOMENT_LIMIT, Memory};
 
 /// What a line is about.
@@ -75,6 +76,17 @@ fn days(
     Ok(found)
 }
 
+// The Monday of the week of a second.
+fn monday_of(zone: &Zone, at: u64) -> [u8; 10]
+    requires { at < limit }
+    ensures { result ≡ monday_text zone.now (moment (codes "sow") at zone.now) }
+{
+    match read_moment("sow", at, zone) {
+        Ok(monday) => print_day(monday, zone),
+        Err(_) => *b"1969-12-29",
+    }
+}
+
 // The name of a day, or of the Monday of its week.
 fn name_of(span: Span, zone: &Zone, at: u64) -> [u8; 10]
     requires { at < limit }
@@ -82,7 +94,7 @@ fn name_of(span: Span, zone: &Zone, at: u64) -> [u8; 10]
 {
     match span {
         Span::Day => print_day(at, zone),
-        Span::Week => print_day(word_or("sow", 0, at, zone), zone),
+        Span::Week => monday_of(zone, at),
     }
 }
 
