@@ -12,7 +12,7 @@ use Rattle.tw_replica.specs.declared.step.write.Prepared.{Prepared}
 use Rattle.tw_replica.specs.declared.replica.Replica.{Replica}
 use Rattle.tw_replica.proofs.PreparedWritten.{prepared_on}
 use Rattle.tw_sync.specs.Start.{Start}
-use Rattle.tw_sync.specs.Moved.{IsDoneStep}
+use Rattle.tw_sync.specs.Ends.Moved.{IsDoneStep}
 use Rattle.tw_sync.specs.Sync.{RecordsOfSync}
 use Rattle.tw_generate.specs.Links.{lone_link_model}
 use Rattle.tw_generate.specs.declared.link.LoneLink.{LoneLink}

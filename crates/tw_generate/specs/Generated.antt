@@ -13,7 +13,7 @@ use Rattle.tw_path.specs.Path.{Reached, is_batch}
 use Rattle.tw_outcome.specs.Start.{Starts}
 use Rattle.tw_outcome.specs.End.{ServerChain, End}
 use Rattle.tw_outcome.specs.End.Answer.{Done}
-use Rattle.tw_sync.specs.End.{counts_of}
+use Rattle.tw_sync.specs.Ends.End.{counts_of}
 use Rattle.tw_sync.specs.declared.report.SyncReport.{SyncReport}
 use Rattle.tw_urgency.specs.declared.coefficients.Coefficients.{Coefficients}
 use Rattle.tw_export.specs.Export.{export_text}

@@ -42,7 +42,7 @@ impl Machine {
     ghost use Rattle.tw_segment.specs.Segment.{segment_text};
     ghost use Rattle.tw_state.specs.State.{start};
     ghost use Rattle.tw_replica.specs.Replica.{held_state};
-    ghost use Rattle.tw_sync.specs.Answers.{IsLinkKept};
+    ghost use Rattle.tw_sync.specs.Replies.Answers.{IsLinkKept};
     ghost use Rattle.tw_sync.specs.Sync.{server_chain};
     ghost use Rattle.tw_urgency.specs.Urgency.{AreWeights};
     ghost use Rattle.tw_generate.specs.Generated.{HasChanged, IsSynced, exported};

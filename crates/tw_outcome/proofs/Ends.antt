@@ -17,14 +17,14 @@ use Rattle.tw_path.specs.Fold.{IsFold}
 use Rattle.tw_path.specs.Path.{Reached, Leg, passed, come, MayPass, IsPath, versions_of}
 use Rattle.tw_path.specs.Path.Leg.{Pull, Push}
 use Rattle.tw_path.specs.PathLaws.{StandsBeside}
-use Rattle.tw_path.proofs.Folds.{fold_grows}
+use Rattle.tw_path.proofs.Folds.{fold_grows, fold_is_one}
 use Rattle.tw_path.proofs.Paths.{path_stands_beside, path_applies, path_splits}
 use Rattle.tw_path.proofs.Versions.{path_folds, first_between}
 use Rattle.tw_outcome.specs.Agreement.{Agrees}
-use Rattle.tw_outcome.specs.Start.{starts_at, FromSnapshot, StartsSoundly}
+use Rattle.tw_outcome.specs.Start.{starts_at, IsNewReplica, FromSnapshot, StartsSoundly}
 use Rattle.tw_outcome.specs.End.{ServerChain, moved, stands_at, ends_at, IsStopped}
 use Rattle.tw_outcome.specs.End.Answer.{Done, Stopped, Unwritten}
-use Rattle.tw_outcome.specs.Laws.{StartStandsBeside, DoneIsSynced, DoneIsCarried, StoppedIsPartly, CarriedFits, StoppedStartsThere, IsBeyond, SnapshotLeadsOn, SnapshotEndsAlike, EndAgrees}
+use Rattle.tw_outcome.specs.Laws.{StartStandsBeside, DoneIsSynced, DoneIsCarried, StoppedIsPartly, CarriedFits, StoppedStartsThere, IsBeyond, SnapshotLeadsOn, SnapshotEndsAlike, IsPathIn, NewReplicasEndAlike, EndAgrees}
 
 -- ---- the start
 
@@ -162,7 +162,7 @@ fits_at old start chain a (inr s) = record {
 -- ---- an end
 
 -- the tasks at the end of a path are the fold, also if it has passed no version
-went_folds : (start : Reached) (chain : List Version) (legs : List Leg) → IsChain chain → IsFold chain start.at start.tasks → IsPath start legs → (legs ≡ []) ⊎ IsBetween chain start.at (come start legs).at (versions_of legs)
+pub went_folds : (start : Reached) (chain : List Version) (legs : List Leg) → IsChain chain → IsFold chain start.at start.tasks → IsPath start legs → (legs ≡ []) ⊎ IsBetween chain start.at (come start legs).at (versions_of legs)
     → IsFold chain (come start legs).at (come start legs).tasks
 went_folds start chain legs whole f p (inl none) = subst (λ ls. IsFold chain (come start ls).at (come start ls).tasks) (sym none) f
 went_folds start chain legs whole f p (inr b) = path_folds chain start legs whole f p b
@@ -201,3 +201,33 @@ end_agrees (Done report) old start new before after whole a sound (grows, d) =
 end_agrees Stopped old start new before after whole a sound (grows, s) =
     stopped_agrees old start new before after whole (agrees_is_kept old before.chain after.chain a grows) (fits_at old start after.chain (agrees_is_kept old before.chain after.chain a grows) sound) s
 end_agrees Unwritten old start new before after whole a sound (grows, k) = subst (λ s. Agrees s after.chain) (sym k.state) (agrees_is_kept old before.chain after.chain a grows)
+
+-- ---- a new replica
+
+-- from wherever its path starts, nothing is left there
+new_has_none : (old : State) (start : Reached) (chain : List Version) → IsNewReplica old → StartsSoundly chain old start → start.left ≡ []
+new_has_none old start chain fresh (inl is) = ap (λ r. r.left) is ∙ ap groups_of fresh.nothing
+new_has_none old start chain fresh (inr s) = ap (λ r. r.left) s.0.is
+
+-- its tasks are the fold, and nothing is left
+record IsFoldThere (chain : List Version) (r : Reached) : Type 0 where
+  folded : IsFold chain r.at r.tasks
+  none : r.left ≡ []
+
+fold_there : (old : State) (chain : List Version) (start : Reached) (legs : List Leg) → IsChain chain → IsNewReplica old → Agrees old chain → IsPathIn chain old start legs → IsFoldThere chain (come start legs)
+fold_there old chain start legs whole fresh a p = record {
+  folded = went_folds start chain legs whole (fits_at old start chain a p.soundly).folded p.path p.between;
+  none = none_left start legs (new_has_none old start chain fresh p.soundly) p.path;
+}
+
+-- two such places of one version are apart in what is carried alone
+alike : (old : State) (chain : List Version) (r t : Reached) → IsChain chain → IsFoldThere chain r → IsFoldThere chain t → r.at ≡ t.at → (stands_at old r ≡ stands_at old t) × (ends_at old r ≡ ends_at old t)
+alike old chain r t whole f g at =
+    let tasks : r.tasks ≡ t.tasks = fold_is_one chain t.at r.tasks t.tasks whole (subst (λ (v : List ℕ). IsFold chain v r.tasks) at f.folded) g.folded in
+    let left : r.left ≡ t.left = f.none ∙ sym g.none in (
+      λ i. stands_at old (record { at = at i; tasks = tasks i; left = left i; carried = [] }),
+      λ i. ends_at old (record { at = at i; tasks = tasks i; left = left i; carried = [] }),
+    )
+
+pub new_replicas_end_alike : NewReplicasEndAlike
+new_replicas_end_alike old chain one two legs more whole fresh a p q at = alike old chain (come one legs) (come two more) whole (fold_there old chain one legs whole fresh a p) (fold_there old chain two more whole fresh a q) at

@@ -1,14 +1,14 @@
 -- The laws of the ends of a sync.
-use Rattle.std.specs.Prelude.{◌≡◌, true, List, [], Some, None}
+use Rattle.std.specs.Prelude.{◌≡◌, ◌⊎◌, true, List, [], Some, None}
 use Rattle.tw_model.specs.Ops.{apply_all, FitAll}
-use Rattle.tw_protocol.specs.Chain.{IsChain}
+use Rattle.tw_protocol.specs.Chain.{Version, IsChain, IsBetween}
 use Rattle.tw_state.specs.State.{State, synced, misfit_synced, carried, may_pend, partly}
 use Rattle.tw_state.specs.Sound.{IsSound}
 use Rattle.tw_groups.specs.Groups.{joined, pending_on}
-use Rattle.tw_path.specs.Path.{Reached, Leg, come, IsPath, ops_of}
+use Rattle.tw_path.specs.Path.{Reached, Leg, come, IsPath, versions_of, ops_of}
 use Rattle.tw_path.specs.PathLaws.{StandsBeside}
 use Rattle.tw_outcome.specs.Agreement.{Agrees}
-use Rattle.tw_outcome.specs.Start.{starts_at, Starts, FromSnapshot, StartsSoundly}
+use Rattle.tw_outcome.specs.Start.{starts_at, Starts, IsNewReplica, FromSnapshot, StartsSoundly}
 use Rattle.tw_outcome.specs.End.{ServerChain, moved, stands_at, ends_at, Answer, End}
 
 -- the path of a sound replica starts beside its tasks
@@ -54,6 +54,19 @@ SnapshotLeadsOn = (state : State) (start : Reached) (legs : List Leg) → FromSn
 -- it is done where it is stopped
 abbrev pub SnapshotEndsAlike : Type 0
 SnapshotEndsAlike = (state : State) (r : Reached) → r.left ≡ [] → stands_at state r ≡ ends_at state r
+
+-- a path through a chain that starts at a replica's base, or at a sound snapshot. If it has passed no version, the chain need not know its start
+pub record IsPathIn (chain : List Version) (old : State) (start : Reached) (legs : List Leg) : Type 0 where
+  pub soundly : StartsSoundly chain old start
+  pub path : IsPath start legs
+  pub between : (legs ≡ []) ⊎ IsBetween chain start.at (come start legs).at (versions_of legs)
+
+-- A new replica that begins at a sound snapshot ends as one that folds from the first version. Two paths to one version end in the same base, pending
+-- operations, tasks and numbers, from wherever they start, and whether a sync is done there or stopped.
+abbrev pub NewReplicasEndAlike : Type 0
+NewReplicasEndAlike = (old : State) (chain : List Version) (one two : Reached) (legs more : List Leg) → IsChain chain → IsNewReplica old → Agrees old chain
+    → IsPathIn chain old one legs → IsPathIn chain old two more → (come one legs).at ≡ (come two more).at
+    → (stands_at old (come one legs) ≡ stands_at old (come two more)) × (ends_at old (come one legs) ≡ ends_at old (come two more))
 
 -- a sync of a replica that agrees with the chain ends in one that agrees with it, whatever it answers, if the snapshot is sound that it starts at
 abbrev pub EndAgrees : Type 0

@@ -1,6 +1,6 @@
 //! Laws of the ends of a sync. Each function does nothing: its contract is the law.
 ghost use Rattle.tw_outcome.specs.Laws.{StartStandsBeside, DoneIsSynced, DoneIsCarried, StoppedIsPartly, CarriedFits};
-ghost use Rattle.tw_outcome.specs.Laws.{StoppedStartsThere, SnapshotLeadsOn, SnapshotEndsAlike, EndAgrees};
+ghost use Rattle.tw_outcome.specs.Laws.{StoppedStartsThere, SnapshotLeadsOn, SnapshotEndsAlike, NewReplicasEndAlike, EndAgrees};
 
 /// The path of a sound replica starts beside its tasks.
 pub fn start_stands_beside()
@@ -40,6 +40,12 @@ pub fn snapshot_leads_on()
 /// A sync from a snapshot is done where it is stopped.
 pub fn snapshot_ends_alike()
     ensures { SnapshotEndsAlike }
+{}
+
+/// A new replica that begins at a sound snapshot ends as one that folds from the first version: at one version both have the same base, pending
+/// operations, tasks and numbers.
+pub fn new_replicas_end_alike()
+    ensures { NewReplicasEndAlike }
 {}
 
 /// A sync of a replica that agrees with the chain, from its base or from a sound snapshot, leaves one that agrees with it, whatever it answers.

@@ -13,9 +13,9 @@ use Rattle.tw_http.specs.declared.message.Response.TheVariants.{Added, Conflict,
 use Rattle.tw_http.specs.declared.message.HttpError.{HttpError}
 use Rattle.tw_http.specs.Responses.{answers, IsResponseAnswer}
 use Rattle.tw_http.specs.Serving.{kind_of}
-use Rattle.tw_sync.specs.Heard.{heard}
-use Rattle.tw_sync.specs.Refused.{IsBadReply}
-use Rattle.tw_sync.specs.Answers.{IsBadlyAnswered}
+use Rattle.tw_sync.specs.Replies.Heard.{heard}
+use Rattle.tw_sync.specs.Ends.Refused.{IsBadReply}
+use Rattle.tw_sync.specs.Replies.Answers.{IsBadlyAnswered}
 use Rattle.tw_sync.specs.declared.error.ReplyKind.{ReplyKind}
 use Rattle.tw_sync.specs.declared.error.ReplyKind.TheVariants.{Parent, Nil}
 use Rattle.tw_sync.specs.declared.error.AskError.{AskError}

@@ -21,14 +21,15 @@ use Rattle.tw_replica.specs.declared.replica.Replica.{Replica}
 use Rattle.tw_path.specs.Path.{Reached}
 use Rattle.tw_outcome.specs.Start.{starts_at, Starts}
 use Rattle.tw_outcome.specs.End.{Answer, End}
-use Rattle.tw_sync.specs.Start.{Start, from_state, MayStart, IsSoundStart, AsksSnapshot, AsksFirst, Begins, IsSnapshotOf, IsSoundExchange, SoundSnapshots, GivenSoundly}
-use Rattle.tw_sync.specs.Heard.{Heard, heard, AreHeard, HearsUntil}
+use Rattle.tw_sync.specs.Start.{Start, from_state, MayStart, IsSoundStart, AsksSnapshot, AsksFirst, Begins, IsSnapshotOf, IsSoundExchange, SoundSnapshots}
+use Rattle.tw_sync.specs.Start.{GivenSoundly}
+use Rattle.tw_sync.specs.Replies.Heard.{Heard, heard, AreHeard, HearsUntil}
 use Rattle.tw_sync.specs.Start.Start.{Base, Snapshot}
-use Rattle.tw_sync.specs.Answers.{IsLinkKept}
-use Rattle.tw_sync.specs.End.{EndFrom}
+use Rattle.tw_sync.specs.Replies.Answers.{IsLinkKept}
+use Rattle.tw_sync.specs.Ends.End.{EndFrom}
 use Rattle.tw_sync.specs.Sync.{server_chain}
 use Rattle.tw_sync.specs.Contract.{EndsSomehow, GetsNoReply, AsksInVain, Runs}
-use Rattle.tw_sync.specs.Offer.{OffersAfter}
+use Rattle.tw_sync.specs.Ends.Offer.{OffersAfter}
 use Rattle.tw_sync.specs.declared.report.SyncReport.{SyncReport}
 use Rattle.tw_sync.specs.declared.error.SyncError.{SyncError}
 use Rattle.tw_sync.specs.declared.error.SyncError.TheVariants as errors

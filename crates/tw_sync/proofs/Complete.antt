@@ -13,10 +13,10 @@ use Rattle.tw_segment.specs.declared.error.SegmentError.TheVariants as segments
 use Rattle.tw_state.specs.Core.{state_of}
 use Rattle.tw_replica.specs.declared.replica.Replica.{Replica}
 use Rattle.tw_path.specs.Path.{versions_of}
-use Rattle.tw_sync.specs.Refused.{SyncRefused}
+use Rattle.tw_sync.specs.Ends.Refused.{SyncRefused}
 use Rattle.tw_sync.specs.Sync.{server_chain}
 use Rattle.tw_sync.specs.Start.{Start, from_state}
-use Rattle.tw_sync.specs.Honest.{HonestRefused, CanSync, RestsOnPulled, RestsOnTold, IsWant}
+use Rattle.tw_sync.specs.Ends.Honest.{HonestRefused, CanSync, RestsOnPulled, RestsOnTold, IsWant}
 use Rattle.tw_sync.specs.declared.error.SyncError.{SyncError}
 use Rattle.tw_sync.specs.declared.error.SyncError.TheVariants as errors
 use Rattle.tw_sync.proofs.CursorInChain.{segments_len-append, pulled_within}

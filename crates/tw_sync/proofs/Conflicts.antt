@@ -7,11 +7,11 @@ use Rattle.tw_http.specs.Link.{LinkModel, IsHonest}
 use Rattle.tw_state.specs.State.{State}
 use Rattle.tw_path.specs.Path.{Leg, versions_of, added_of}
 use Rattle.tw_path.specs.Walk.{StandsAt}
-use Rattle.tw_sync.specs.Heard.{Heard, Hears}
-use Rattle.tw_sync.specs.Answers.{GrowsOn, IsRefusedOne, add_heard, child_heard}
-use Rattle.tw_sync.specs.Refused.{EndedBy, IsConflict, IsLastReply, IsOutOfSync}
-use Rattle.tw_sync.specs.Cursor.{place, IsOnPath, GoesFurther}
-use Rattle.tw_sync.specs.Progress.{HeardSoFar, IsAsking, IsAtEnd, HasPulled, IsLate, HeardToStop, IsStopped}
+use Rattle.tw_sync.specs.Replies.Heard.{Heard, Hears}
+use Rattle.tw_sync.specs.Replies.Answers.{GrowsOn, IsRefusedOne, add_heard, child_heard}
+use Rattle.tw_sync.specs.Ends.Refused.{EndedBy, IsConflict, IsLastReply, IsOutOfSync}
+use Rattle.tw_sync.specs.Way.Cursor.{place, IsOnPath, GoesFurther}
+use Rattle.tw_sync.specs.Way.Progress.{HeardSoFar, IsAsking, IsAtEnd, HasPulled, IsLate, HeardToStop, IsStopped}
 use Rattle.tw_sync.specs.declared.ask.ChildAnswer.TheVariants.{UpToDate}
 use Rattle.tw_sync.specs.declared.ask.AddAnswer.TheVariants.{Conflict}
 use Rattle.tw_sync.specs.declared.cursor.Cursor.{Cursor}
@@ -156,6 +156,6 @@ late_alone m client host state first a b p last s tries asked tells = record {
       hears = hears_on m client host first a b t.hs (h ∷ []) t.hears more;
       refused = record { cause = two t.hs t.so; until = goes_to_last t.hs h (goes_on_so_far m client host first a s.legs p _ t tries) };
       measured = tt;
-      tells = tells_all s.legs (errors.OutOfSync p.walker.at last) (t.hs ++ h ∷ []) (told_in-past t.hs h refl ∙ t.told);
+      tells = tells_all s.legs (errors.OutOfSync p.walker.at last) (t.hs ++ h ∷ []) refl (told_in-past t.hs h refl ∙ t.told);
       few = λ honest. absurd (never honest);
     }

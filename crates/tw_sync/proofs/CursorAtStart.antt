@@ -3,8 +3,8 @@ use Rattle.std.proofs.Common.{ℕ, inl, List, [], refl, sym, arith}
 use Rattle.std.proofs.lemmas.List.{append-nil}
 use Rattle.tw_http.specs.Link.{LinkModel, IsChainOf}
 use Rattle.tw_state.specs.State.{State}
-use Rattle.tw_sync.specs.Cursor.{IsAtStart}
-use Rattle.tw_sync.specs.Progress.{IsPulling}
+use Rattle.tw_sync.specs.Way.Cursor.{IsAtStart}
+use Rattle.tw_sync.specs.Way.Progress.{IsPulling}
 use Rattle.tw_sync.specs.declared.cursor.Cursor.{Cursor}
 use Rattle.tw_sync.proofs.Served.{grows_same}
 use Rattle.tw_sync.proofs.Hearing.{hears_none, kept_same}

@@ -16,10 +16,10 @@ use Rattle.tw_path.specs.Path.Leg.{Pull, Push}
 use Rattle.tw_path.specs.Walk.{StandsAt}
 use Rattle.tw_path.proofs.Paths.{paths_join}
 use Rattle.tw_outcome.specs.End.{starts_at}
-use Rattle.tw_sync.specs.Cursor.{place, pulled_len, IsOnPath, IsIn, LiesIn, TakesVersion, AddsVersion}
+use Rattle.tw_sync.specs.Way.Cursor.{place, pulled_len, IsOnPath, IsIn, LiesIn, TakesVersion, AddsVersion}
 use Rattle.tw_sync.specs.Start.{Start, from_state, MayStart}
 use Rattle.tw_sync.specs.Start.Start.{Base, Snapshot}
-use Rattle.tw_sync.specs.Honest.{segments_len}
+use Rattle.tw_sync.specs.Ends.Honest.{segments_len}
 use Rattle.tw_sync.specs.declared.cursor.Cursor.{Cursor}
 use Rattle.tw_sync.proofs.Legs.{at_on, versions_on, added_pull, pulled_pull, sent_pull, len_pull, added_push, pulled_push, sent_push, len_push}
 

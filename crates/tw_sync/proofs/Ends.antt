@@ -10,7 +10,7 @@ use Rattle.tw_path.proofs.Sending.{push_was_sent}
 use Rattle.tw_path.proofs.Versions.{first_between}
 use Rattle.tw_outcome.specs.End.{starts_at}
 use Rattle.tw_outcome.proofs.Ends.{start_stands_beside}
-use Rattle.tw_sync.specs.Cursor.{place}
+use Rattle.tw_sync.specs.Way.Cursor.{place}
 use Rattle.tw_sync.specs.Laws.{NewReplicaAgrees, AddedWasSent}
 use Rattle.tw_sync.proofs.Legs.{at_on}
 

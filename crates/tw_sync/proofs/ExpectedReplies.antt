@@ -8,12 +8,12 @@ use Rattle.tw_http.specs.declared.message.Response.TheVariants as replies
 use Rattle.tw_http.specs.declared.message.HttpError.{HttpError}
 use Rattle.tw_state.specs.State.{State}
 use Rattle.tw_path.specs.Path.{Leg}
-use Rattle.tw_sync.specs.Heard.{Heard, versions_of, conflicts_of, brought_bytes, pulled_bytes, conflicts}
-use Rattle.tw_sync.specs.Refused.{max_pull, EndedBy, LeadsOn, EachBringsNext, IsConflict, IsLastReply, GoesOnFrom, GoesOnFromAllButLast, HeardRefused}
-use Rattle.tw_sync.specs.Answers.{HeardRefusedAsk, AskRefused}
-use Rattle.tw_sync.specs.Progress.{HeardSoFar, ends_late, Asks, IsAsking}
+use Rattle.tw_sync.specs.Replies.Heard.{Heard, versions_of, conflicts_of, brought_bytes, pulled_bytes, conflicts}
+use Rattle.tw_sync.specs.Ends.Refused.{max_pull, EndedBy, LeadsOn, EachBringsNext, IsConflict, IsLastReply, GoesOnFrom, GoesOnFromAllButLast, HeardRefused}
+use Rattle.tw_sync.specs.Replies.Answers.{HeardRefusedAsk, AskRefused}
+use Rattle.tw_sync.specs.Way.Progress.{HeardSoFar, ends_late, Asks, IsAsking}
 use Rattle.tw_sync.specs.declared.cursor.Cursor.{Cursor}
-use Rattle.tw_sync.specs.Causes.{of_ask}
+use Rattle.tw_sync.specs.Ends.Causes.{of_ask}
 use Rattle.tw_sync.specs.declared.error.AskError.{AskError}
 use Rattle.tw_sync.specs.declared.error.AskError.TheVariants as asking
 use Rattle.tw_sync.specs.declared.error.SyncError.{SyncError}

@@ -5,9 +5,9 @@ use Rattle.tw_state.specs.State.{State}
 use Rattle.tw_outcome.specs.End.{ServerChain}
 use Rattle.tw_sync.specs.Start.{Start, from_state}
 use Rattle.tw_sync.specs.Start.Start.{Base}
-use Rattle.tw_sync.specs.Heard.{Heard}
-use Rattle.tw_sync.specs.Honest.{HonestRefused, RestsOnTold}
-use Rattle.tw_sync.specs.Measured.{IsMeasured}
+use Rattle.tw_sync.specs.Replies.Heard.{Heard}
+use Rattle.tw_sync.specs.Ends.Honest.{HonestRefused, RestsOnTold}
+use Rattle.tw_sync.specs.Replies.Measured.{IsMeasured}
 use Rattle.tw_sync.specs.declared.error.SyncError.{SyncError}
 use Rattle.tw_sync.specs.declared.error.SyncError.TheVariants as errors
 

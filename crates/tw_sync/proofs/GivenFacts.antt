@@ -18,10 +18,10 @@ use Rattle.tw_http.specs.declared.message.HttpError.{HttpError}
 use Rattle.tw_snapshot.specs.Snapshot.{snapshot_of}
 use Rattle.tw_sync.specs.Start.{IsKnownStart, BringsNoSnapshot, HasStored}
 use Rattle.tw_sync.specs.Start.{Start}
-use Rattle.tw_sync.specs.Given.{ReadsGiven, StoredBy, IsAskedFor, IsUnheard}
-use Rattle.tw_sync.specs.Answers.{IsLinkKept, ListsOne, NoReply}
-use Rattle.tw_sync.specs.Heard.{HearsUntil}
-use Rattle.tw_sync.specs.Causes.{of_ask}
+use Rattle.tw_sync.specs.Replies.Given.{ReadsGiven, StoredBy, IsAskedFor, IsUnheard}
+use Rattle.tw_sync.specs.Replies.Answers.{IsLinkKept, ListsOne, NoReply}
+use Rattle.tw_sync.specs.Replies.Heard.{HearsUntil}
+use Rattle.tw_sync.specs.Ends.Causes.{of_ask}
 use Rattle.tw_sync.specs.declared.given.Given.{Given}
 use Rattle.tw_sync.specs.declared.error.AskError.{AskError}
 use Rattle.tw_sync.specs.declared.error.AskError.TheVariants as asking

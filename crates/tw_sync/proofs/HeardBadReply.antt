@@ -7,10 +7,10 @@ use Rattle.tw_http.specs.Serving.{client_of, kind_of}
 use Rattle.tw_http.specs.declared.message.Request.{Request}
 use Rattle.tw_http.specs.declared.message.Response.{Response}
 use Rattle.tw_http.specs.declared.message.HttpError.{HttpError}
-use Rattle.tw_sync.specs.Heard.{Heard, heard, IsSent, Hears, HearsUnread, HearsUntil}
-use Rattle.tw_sync.specs.Refused.{AsksOfChain}
-use Rattle.tw_sync.specs.Answers.{HeardRefusedAsk, AskRefused, IsBadlyAnswered}
-use Rattle.tw_sync.specs.Causes.{of_ask}
+use Rattle.tw_sync.specs.Replies.Heard.{Heard, heard, IsSent, Hears, HearsUnread, HearsUntil}
+use Rattle.tw_sync.specs.Ends.Refused.{AsksOfChain}
+use Rattle.tw_sync.specs.Replies.Answers.{HeardRefusedAsk, AskRefused, IsBadlyAnswered}
+use Rattle.tw_sync.specs.Ends.Causes.{of_ask}
 use Rattle.tw_sync.specs.declared.error.AskError.{AskError}
 use Rattle.tw_sync.specs.declared.error.AskError.TheVariants as asking
 

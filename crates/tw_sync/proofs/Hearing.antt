@@ -4,8 +4,9 @@ use Rattle.std.specs.List.{AllByRecursion}
 use Rattle.std.proofs.lemmas.List.{append-nil}
 use Rattle.tw_protocol.specs.Chain.{Version}
 use Rattle.tw_http.specs.Link.{LinkModel, Exchange}
-use Rattle.tw_sync.specs.Heard.{Heard, AreHeard, Hears, HearsUnread, HearsUntil, pulled_bytes, brought, brought_by, told_as, versions_in, told_in, conflicts}
-use Rattle.tw_sync.specs.Answers.{IsLinkKept, GrowsOn}
+use Rattle.tw_sync.specs.Replies.Heard.{Heard, AreHeard, Hears, HearsUnread, HearsUntil, pulled_bytes, brought, brought_by, told_as, versions_in, told_in}
+use Rattle.tw_sync.specs.Replies.Heard.{conflicts}
+use Rattle.tw_sync.specs.Replies.Answers.{IsLinkKept, GrowsOn}
 use Rattle.tw_sync.specs.declared.error.SyncError.{SyncError}
 use Rattle.tw_sync.specs.declared.error.SyncError.TheVariants as errors
 use Rattle.tw_sync.proofs.Served.{grows_on}

@@ -16,9 +16,10 @@ use Rattle.tw_http.specs.declared.message.HttpError.{HttpError}
 use Rattle.tw_http.specs.Link.{LinkModel, IsHonest, IsChainOf, IsServedChain, Serves, MayServe}
 use Rattle.tw_http.specs.Responses.{IsResponseAnswer}
 use Rattle.tw_http.specs.Serving.{says, account_after}
-use Rattle.tw_sync.specs.Heard.{heard}
-use Rattle.tw_sync.specs.Refused.{IsBadReply}
-use Rattle.tw_sync.specs.Answers.{IsLinkKept, GrowsOn, ChildSays, IsChildAnswer, child_response, IsAddedOne, IsAddAnswer, add_response, IsBadlyAnswered, NoReply, AddRefused}
+use Rattle.tw_sync.specs.Replies.Heard.{heard}
+use Rattle.tw_sync.specs.Ends.Refused.{IsBadReply}
+use Rattle.tw_sync.specs.Replies.Answers.{IsLinkKept, GrowsOn, ChildSays, IsChildAnswer, child_response, IsAddedOne, IsAddAnswer, add_response}
+use Rattle.tw_sync.specs.Replies.Answers.{IsBadlyAnswered, NoReply, AddRefused}
 use Rattle.tw_sync.specs.declared.ask.ChildAnswer.{ChildAnswer}
 use Rattle.tw_sync.specs.declared.ask.ChildAnswer.TheVariants as child
 use Rattle.tw_sync.specs.declared.ask.AddAnswer.{AddAnswer}

@@ -12,9 +12,9 @@ use Rattle.tw_state.specs.State.{State}
 use Rattle.tw_path.specs.Path.{Leg, versions_of, added_of}
 use Rattle.tw_path.specs.Path.Leg.{Pull}
 use Rattle.tw_outcome.specs.Agreement.{Agrees}
-use Rattle.tw_sync.specs.Answers.{GrowsOn, IsChildAnswer}
-use Rattle.tw_sync.specs.Cursor.{place, TakesVersion, IsIn, LiesIn, GoesFurther}
-use Rattle.tw_sync.specs.Progress.{HasCome, IsAtEnd}
+use Rattle.tw_sync.specs.Replies.Answers.{GrowsOn, IsChildAnswer}
+use Rattle.tw_sync.specs.Way.Cursor.{place, TakesVersion, IsIn, LiesIn, GoesFurther}
+use Rattle.tw_sync.specs.Way.Progress.{HasCome, IsAtEnd}
 use Rattle.tw_sync.specs.declared.ask.ChildAnswer.TheVariants.{Found, UpToDate, Gone}
 use Rattle.tw_sync.specs.declared.cursor.Cursor.{Cursor}
 use Rattle.tw_sync.proofs.Served.{grows_on}

@@ -8,7 +8,7 @@ use Rattle.tw_model.proofs.LocalOps.{all_taken_back}
 use Rattle.tw_state.specs.State.{State, split_group, in_front, misfit, unless, moved_to, is_idle}
 use Rattle.tw_state.specs.Sound.{IsUndone}
 use Rattle.tw_state.proofs.Soundness.{undo_leads_back}
-use Rattle.tw_sync.specs.LaterOps.{Follows, CommitKeepsLaterOps, UndoStaysBehind, SentForFollowing}
+use Rattle.tw_sync.specs.Laws.LaterOps.{Follows, CommitKeepsLaterOps, UndoStaysBehind, SentForFollowing}
 use Rattle.tw_sync.proofs.PendingOps.{plain-append, back-append, fits_from, some_state}
 use Rattle.tw_path.proofs.Sending.{sent_stays}
 use Rattle.tw_outcome.specs.End.{starts_at}

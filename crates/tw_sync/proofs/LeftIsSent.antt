@@ -18,12 +18,12 @@ use Rattle.tw_path.specs.Path.Leg.{Push}
 use Rattle.tw_path.proofs.Lengths.{batch_is_limit}
 use Rattle.tw_path.proofs.Paths.{paths_join}
 use Rattle.tw_outcome.specs.End.{starts_at, Went}
-use Rattle.tw_sync.specs.Heard.{Heard, most_exchanges}
-use Rattle.tw_sync.specs.Answers.{GrowsOn, IsAddedOne, add_heard}
-use Rattle.tw_sync.specs.Refused.{EndedBy, IsLastReply}
+use Rattle.tw_sync.specs.Replies.Heard.{Heard, most_exchanges}
+use Rattle.tw_sync.specs.Replies.Answers.{GrowsOn, IsAddedOne, add_heard}
+use Rattle.tw_sync.specs.Ends.Refused.{EndedBy, IsLastReply}
 use Rattle.tw_sync.specs.Sync.{server_chain}
-use Rattle.tw_sync.specs.Cursor.{place, IsOnPath, IsIn, AddsVersion}
-use Rattle.tw_sync.specs.Progress.{IsAtEnd, HasPulled}
+use Rattle.tw_sync.specs.Way.Cursor.{place, IsOnPath, IsIn, AddsVersion}
+use Rattle.tw_sync.specs.Way.Progress.{IsAtEnd, HasPulled}
 use Rattle.tw_sync.specs.declared.ask.AddAnswer.TheVariants.{Added}
 use Rattle.tw_sync.specs.declared.cursor.Cursor.{Cursor}
 use Rattle.tw_sync.proofs.Legs.{at_on, versions_on, added_push}

@@ -9,7 +9,7 @@ use Rattle.tw_path.specs.Path.Leg.{Pull, Push}
 use Rattle.tw_path.proofs.Paths.{come-append}
 use Rattle.tw_path.proofs.Versions.{versions-append}
 use Rattle.tw_outcome.specs.End.{starts_at}
-use Rattle.tw_sync.specs.Cursor.{place, pulled_len}
+use Rattle.tw_sync.specs.Way.Cursor.{place, pulled_len}
 
 passed_at : (r : Reached) (leg : Leg) → (passed r leg).at ≡ (version_on leg).id
 passed_at r (Pull v ops) = refl

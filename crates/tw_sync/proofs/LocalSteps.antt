@@ -15,7 +15,7 @@ use Rattle.tw_state.proofs.Groups.{group_begins, begins-append}
 use Rattle.tw_state.proofs.Soundness.{undo_sound, undo_leads_back}
 use Rattle.tw_path.specs.Fold.{IsFold}
 use Rattle.tw_outcome.specs.Agreement.{Agrees}
-use Rattle.tw_sync.specs.LocalSteps.{CommitAgrees, UndoAgrees}
+use Rattle.tw_sync.specs.Laws.LocalSteps.{CommitAgrees, UndoAgrees}
 use Rattle.tw_sync.proofs.PendingOps.{back-append, fits_from, some_state}
 
 -- what starts where it started agrees as before

@@ -1,5 +1,5 @@
 -- A sync is refused: it was stopped, or its record was not written.
-use Rattle.std.proofs.Common.{◌≡◌, ◌⊎◌, ℕ, inl, inr, false, length, List, ◌++◌, refl, sym, subst, ap, ◌∙◌, arith}
+use Rattle.std.proofs.Common.{◌≡◌, ◌⊎◌, ℕ, inl, inr, false, length, List, [], ◌++◌, refl, sym, subst, ap, ◌∙◌, arith}
 use Rattle.std.proofs.lemmas.Bool.{true≢false}
 use Rattle.tw_world.specs.Disk.{DiskModel}
 use Rattle.tw_protocol.specs.Chain.{Version, Grows, same_id}
@@ -17,19 +17,21 @@ use Rattle.tw_replica.specs.declared.replica.Replica.{Replica}
 use Rattle.tw_path.specs.Path.{Leg}
 use Rattle.tw_outcome.specs.End.{ServerChain}
 use Rattle.tw_outcome.specs.End.Answer.{Unwritten}
-use Rattle.tw_sync.specs.End.{answer_to, IsStopping}
-use Rattle.tw_sync.specs.Heard.{Heard, Hears, HearsUntil}
-use Rattle.tw_sync.specs.Refused.{GoesOnFrom, GoesOnFromAllButLast, GoesOnToRefusal, HeardRefused, JournalRefused, SyncRefused, IsMovedOrSame, MayAdd}
+use Rattle.tw_sync.specs.Ends.End.{answer_to, IsStopping}
+use Rattle.tw_sync.specs.Replies.Heard.{Heard, Hears, HearsUntil}
+use Rattle.tw_sync.specs.Ends.Refused.{GoesOnFrom, GoesOnFromAllButLast, GoesOnToRefusal, HeardRefused, JournalRefused, SyncRefused, IsMovedOrSame, MayAdd}
 use Rattle.tw_sync.specs.Start.{Start, from_state, IsKnownStart}
 use Rattle.tw_sync.specs.Start.Start.{Base, Snapshot}
 use Rattle.tw_sync.specs.Sync.{server_chain}
-use Rattle.tw_sync.specs.Way.{RefusesLast, IsUnpassed, TellsOf, WentOn}
-use Rattle.tw_sync.specs.Measured.{IsRecordLen, IsMeasured}
-use Rattle.tw_sync.specs.Honest.{HonestRefused, RestsOnPulled, RestsOnTold, IsLongRecord}
-use Rattle.tw_sync.specs.Cursor.{place, IsIn, LiesIn}
-use Rattle.tw_sync.specs.Progress.{IsCause}
-use Rattle.tw_sync.specs.Causes.{of_record}
-use Rattle.tw_sync.specs.Moved.{row_size, IsNotMoved}
+use Rattle.tw_sync.specs.Way.{IsOne, IsUnpassedAt, IsUnpassed, TellsOf, WentOn}
+use Rattle.tw_sync.specs.Replies.Measured.{IsRecordLen, IsMeasured}
+use Rattle.tw_sync.specs.Ends.Honest.{HonestRefused, RestsOnPulled, RestsOnTold, IsLongRecord}
+use Rattle.tw_sync.specs.Way.Cursor.{place, IsIn, LiesIn}
+use Rattle.tw_sync.specs.Way.Progress.{IsCause}
+use Rattle.tw_sync.specs.Ends.Causes.{of_record}
+use Rattle.tw_sync.specs.Ends.Moved.{row_size, IsNotMoved}
+use Rattle.tw_sync.specs.declared.error.ReplyKind.{ReplyKind}
+use Rattle.tw_sync.specs.declared.error.ReplyKind.TheVariants.{Cut, Head, Header, Length, TooLong, Parent, Nil, Status}
 use Rattle.tw_sync.specs.declared.error.SyncError.{SyncError}
 use Rattle.tw_sync.specs.declared.error.SyncError.TheVariants as errors
 use Rattle.tw_sync.proofs.CursorInChain.{between_none, cut_grows}
@@ -117,12 +119,12 @@ module _ {D L : Type 0} (m : DiskModel D) (links : LinkModel L) (client : List �
   unmoved_cause hs (records.Journal e) g = record { cause = tt; until = g }
   unmoved_cause hs records.Memory g = record { cause = tt; until = g }
 
-  -- the last version may not be passed, and one more may have been added
-  pub unmoved_refuses_last : (e : RecordError) → IsNotMoved m old new before after at step e → RefusesLast (of_record e)
-  unmoved_refuses_last (records.Journal journal.Disk) r = tt
-  unmoved_refuses_last (records.Journal journal.Closed) r = absurd (true≢false (sym r.1.0.0 ∙ live))
-  unmoved_refuses_last (records.Journal (journal.TooLong bytes)) r = tt
-  unmoved_refuses_last records.Memory r = tt
+  -- the last version may be passed or not, and one more may have been added
+  pub unmoved_passes : (last : List Version) → (last ≡ []) ⊎ IsOne last → (e : RecordError) → IsNotMoved m old new before after at step e → IsUnpassed (of_record e) last
+  unmoved_passes last few (records.Journal journal.Disk) r = few
+  unmoved_passes last few (records.Journal journal.Closed) r = absurd (true≢false (sym r.1.0.0 ∙ live))
+  unmoved_passes last few (records.Journal (journal.TooLong bytes)) r = few
+  unmoved_passes last few records.Memory r = few
 
   pub unmoved_adds : (e : RecordError) → IsNotMoved m old new before after at step e → MayAdd (of_record e)
   unmoved_adds (records.Journal journal.Disk) r = tt
@@ -164,12 +166,33 @@ went_on_until hs (errors.Busy parent) g = inr g
 went_on_until hs (errors.OutOfSync base parent) g = inr g
 went_on_until hs (errors.PullTooLong bytes) g = inr g
 
-pub tells_unwritten : (legs : List Leg) (e : SyncError) (hs : List Heard) (r : RecordError) → RefusesLast (of_record r) → TellsOf legs e hs → TellsOf legs (of_record r) hs
-tells_unwritten legs e hs r may t = record { last = t.last; told = t.told; unpassed = by t.unpassed }
-  where
-    by : IsUnpassed e t.last → IsUnpassed (of_record r) t.last
-    by (inl none) = inl none
-    by (inr one) = inr (may, one.1)
+none_or_one_at : (kind : ReplyKind) (last : List Version) → IsUnpassedAt kind last → (last ≡ []) ⊎ IsOne last
+none_or_one_at Parent last one = inr one
+none_or_one_at Nil last one = inr one
+none_or_one_at Cut last none = inl none
+none_or_one_at Head last none = inl none
+none_or_one_at Header last none = inl none
+none_or_one_at Length last none = inl none
+none_or_one_at TooLong last none = inl none
+none_or_one_at (Status code) last none = inl none
+
+-- one version at most is not passed
+pub none_or_one : (e : SyncError) (last : List Version) → IsUnpassed e last → (last ≡ []) ⊎ IsOne last
+none_or_one (errors.Reply kind) last u = none_or_one_at kind last u
+none_or_one (errors.Segment version) last one = inr one
+none_or_one (errors.PullTooLong bytes) last one = inr one
+none_or_one (errors.Gone base) last none = inl none
+none_or_one (errors.Busy parent) last none = inl none
+none_or_one (errors.OutOfSync base parent) last none = inl none
+none_or_one (errors.SegmentTooLong bytes) last none = inl none
+none_or_one errors.Link last none = inl none
+none_or_one errors.Memory last few = few
+none_or_one (errors.Journal journal.Disk) last few = few
+none_or_one (errors.Journal (journal.TooLong bytes)) last few = few
+none_or_one (errors.Journal journal.Closed) last none = inl none
+
+pub tells_unwritten : (legs : List Leg) (e : SyncError) (hs : List Heard) (r : RecordError) → ((last : List Version) → (last ≡ []) ⊎ IsOne last → IsUnpassed (of_record r) last) → TellsOf legs e hs → TellsOf legs (of_record r) hs
+tells_unwritten legs e hs r passes t = record { last = t.last; told = t.told; unpassed = passes t.last (none_or_one e t.last t.unpassed) }
 
 pub went_unwritten : (state : State) (before after : ServerChain) (legs : List Leg) (e : SyncError) (r : RecordError) → MayAdd (of_record r) → WentOn state before after legs e → WentOn state before after legs (of_record r)
 went_unwritten state before after legs e r may w = record { untold = w.untold; few = w.few; told_only = inr may; went = w.went }

@@ -21,8 +21,8 @@ use Rattle.tw_sync.specs.declared.report.SyncReport.{SyncReport}
 use Rattle.tw_sync.specs.declared.error.SyncError.{SyncError}
 use Rattle.tw_http.specs.declared.link.LinkError.{LinkError}
 use Rattle.tw_http.specs.declared.message.Request.TheVariants as asks
-use Rattle.tw_sync.specs.Answers.{IsLinkKept}
-use Rattle.tw_sync.specs.Offer.{IsLetter, StoresTasks, OffersOne, OffersState}
+use Rattle.tw_sync.specs.Replies.Answers.{IsLinkKept}
+use Rattle.tw_sync.specs.Ends.Offer.{IsLetter, StoresTasks, OffersOne, OffersState}
 use Rattle.tw_sync.proofs.Served.{serves_grows, may_serve_grows}
 use Rattle.tw_sync.proofs.HonestAnswers.{grown}
 
@@ -104,13 +104,19 @@ module _ {D L : Type 0} (d : DiskModel D) (m : LinkModel L) (client host : List 
       by (inr (inr none)) = absurd none
 
   -- it is done, and the snapshot is sent
-  pub runs_sent : (done : Done) (last : L) → OffersState m client host (state_of new.core) now last → RunsOpen d m client host old new before after first now (Ok done) → Runs d m client host old new before after first last (Ok done.report)
-  runs_sent done last sent run = record {
+  pub runs_sent : (done : Done) (last : L) → ¬ (option_map (λ v. v.items) done.letter ≡ None) → OffersState m client host (state_of new.core) now last → RunsOpen d m client host old new before after first now (Ok done) → Runs d m client host old new before after first last (Ok done.report)
+  runs_sent done last some sent run = record {
     start = run.start;
     begun = run.begun;
     begins = run.begins;
     asks = asked_first (state_of old.core) run.begun last done.report run.asks;
-    rest = record { now = now; ends = run.rest.ends; offers = inr sent; wanted = λ tells. (let h = run.rest.letter.wanted tells in (h.0, h.1, λ wanted may. sent)) };
+    rest = record {
+      now = now;
+      ends = run.rest.ends;
+      offers = inr sent;
+      wanted = λ tells. (let h = run.rest.letter.wanted tells in (h.0, h.1, λ wanted may. sent));
+      unwanted = λ tells. (let h = run.rest.letter.unwanted tells in (h.0, h.1, λ calm. absurd (some (h.2 calm))));
+    };
   }
 
   -- or there is none to send
@@ -120,9 +126,15 @@ module _ {D L : Type 0} (d : DiskModel D) (m : LinkModel L) (client host : List 
     begun = run.begun;
     begins = run.begins;
     asks = run.asks;
-    rest = record { now = now; ends = run.rest.ends; offers = inl refl; wanted = λ tells. (let h = run.rest.letter.wanted tells in (h.0, h.1, λ wanted may. absurd (h.2 wanted may none))) };
+    rest = record {
+      now = now;
+      ends = run.rest.ends;
+      offers = inl refl;
+      wanted = λ tells. (let h = run.rest.letter.wanted tells in (h.0, h.1, λ wanted may. absurd (h.2 wanted may none)));
+      unwanted = λ tells. (let h = run.rest.letter.unwanted tells in (h.0, h.1, λ calm. refl));
+    };
   }
 
   -- it is refused
   pub runs_refused : (e : SyncError) → RunsOpen d m client host old new before after first now (Err e) → Runs d m client host old new before after first now (Err e)
-  runs_refused e run = record { start = run.start; begun = run.begun; begins = run.begins; asks = run.asks; rest = record { now = now; ends = run.rest.ends; offers = refl; wanted = tt } }
+  runs_refused e run = record { start = run.start; begun = run.begun; begins = run.begins; asks = run.asks; rest = record { now = now; ends = run.rest.ends; offers = refl; wanted = tt; unwanted = tt } }

@@ -13,16 +13,17 @@ use Rattle.tw_path.specs.Fold.{Reads}
 use Rattle.tw_path.specs.Path.{Leg, versions_of, added_of}
 use Rattle.tw_path.specs.Path.Leg.{Pull}
 use Rattle.tw_path.proofs.Reading.{reads-append, reads_last}
-use Rattle.tw_sync.specs.Heard.{Heard, Hears, HearsUntilThat, HearsOne, versions_of as versions_told, conflicts_of, brought_bytes, versions_in, told_as, told_in, wants_snapshot, wanted_in}
-use Rattle.tw_sync.specs.Answers.{IsLinkKept, GrowsOn, IsChildAnswer, child_heard, add_heard, HeardRefusedAsk, AskRefused}
-use Rattle.tw_sync.specs.Refused.{EndedBy, IsWelcome, AsksOfChain, LeadsOn, IsLastReply}
-use Rattle.tw_sync.specs.Cursor.{place, TakesVersion}
-use Rattle.tw_sync.specs.Progress.{HeardSoFar, HasAsked, ends_late, Asks, IsPulling, HasPulled}
+use Rattle.tw_sync.specs.Replies.Heard.{Heard, Hears, HearsUntilThat, HearsOne, versions_of as versions_told, conflicts_of, brought_bytes, versions_in}
+use Rattle.tw_sync.specs.Replies.Heard.{told_as, told_in, wants_snapshot, wanted_in}
+use Rattle.tw_sync.specs.Replies.Answers.{IsLinkKept, GrowsOn, IsChildAnswer, child_heard, add_heard, HeardRefusedAsk, AskRefused}
+use Rattle.tw_sync.specs.Ends.Refused.{EndedBy, IsWelcome, AsksOfChain, LeadsOn, IsLastReply}
+use Rattle.tw_sync.specs.Way.Cursor.{place, TakesVersion}
+use Rattle.tw_sync.specs.Way.Progress.{HeardSoFar, HasAsked, ends_late, Asks, IsPulling, HasPulled}
 use Rattle.tw_sync.specs.declared.ask.ChildAnswer.{ChildAnswer}
 use Rattle.tw_sync.specs.declared.ask.ChildAnswer.TheVariants.{Found, UpToDate}
 use Rattle.tw_sync.specs.declared.ask.AddAnswer.{AddAnswer}
 use Rattle.tw_sync.specs.declared.cursor.Cursor.{Cursor}
-use Rattle.tw_sync.specs.Causes.{of_ask}
+use Rattle.tw_sync.specs.Ends.Causes.{of_ask}
 use Rattle.tw_sync.specs.declared.error.AskError.{AskError}
 use Rattle.tw_sync.proofs.Legs.{versions_on, added_pull}
 use Rattle.tw_sync.proofs.CursorInChain.{taken_on}

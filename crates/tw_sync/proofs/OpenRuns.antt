@@ -9,9 +9,9 @@ use Rattle.tw_http.specs.declared.message.HttpError.{HttpError}
 use Rattle.tw_state.specs.Core.{state_of}
 use Rattle.tw_replica.specs.declared.replica.Replica.{Replica}
 use Rattle.tw_sync.specs.Start.{Start, AsksSnapshot}
-use Rattle.tw_sync.specs.Answers.{NoReply}
-use Rattle.tw_sync.specs.Causes.{of_ask}
-use Rattle.tw_sync.specs.Offer.{HasLetter, reported}
+use Rattle.tw_sync.specs.Replies.Answers.{NoReply}
+use Rattle.tw_sync.specs.Ends.Causes.{of_ask}
+use Rattle.tw_sync.specs.Ends.Offer.{HasLetter, reported}
 use Rattle.tw_sync.specs.Contract.{AnyEnd, DoneEnd, RefusedEnd, EndsOpen, RunsOpen}
 use Rattle.tw_sync.specs.declared.offer.Done.{Done}
 use Rattle.tw_sync.specs.declared.report.SyncReport.{SyncReport}

@@ -10,10 +10,10 @@ use Rattle.tw_http.specs.Link.{LinkModel, OwnAreOfChain}
 use Rattle.tw_state.specs.State.{State}
 use Rattle.tw_path.specs.Path.{added_of}
 use Rattle.tw_sync.specs.Sync.{server_chain}
-use Rattle.tw_sync.specs.Heard.{conflicts}
-use Rattle.tw_sync.specs.Honest.{OthersAdded}
-use Rattle.tw_sync.specs.Progress.{HeardSoFar, IsLate, HeardToStop, IsStopped}
-use Rattle.tw_sync.specs.Refused.{EndedBy, IsConflict}
+use Rattle.tw_sync.specs.Replies.Heard.{conflicts}
+use Rattle.tw_sync.specs.Ends.Honest.{OthersAdded}
+use Rattle.tw_sync.specs.Way.Progress.{HeardSoFar, IsLate, HeardToStop, IsStopped}
+use Rattle.tw_sync.specs.Ends.Refused.{EndedBy, IsConflict}
 use Rattle.tw_sync.specs.declared.cursor.Cursor.{Cursor}
 use Rattle.tw_sync.specs.declared.error.SyncError.TheVariants as errors
 use Rattle.tw_sync.proofs.Hearing.{hears_until}
@@ -100,7 +100,7 @@ busy m client host state first now p last own s over = record {
           hears = hears_until m client host first now t.hs (errors.Busy last) t.hears;
           refused = record { cause = (t.so, sixteen); until = goes_on_to_conflict t.hs last t.each t.followed (let b = t.bytes_are in let w = p.within in omega (arith, b, w)) sixteen t.so };
           measured = tt;
-          tells = tells_all s.legs (errors.Busy last) t.hs t.told;
+          tells = tells_all s.legs (errors.Busy last) t.hs refl t.told;
           few = λ honest. (
               let n = s.asked.count in
               let o = s.tries in

@@ -16,7 +16,8 @@ use Rattle.tw_transform.specs.Refusals.{Refusal, sent_from_base}
 use Rattle.tw_transform.proofs.Positions.{fit_part-append, position_pulls, position_fits, position_pushes}
 use Rattle.tw_transform.proofs.Cancel.{own_versions, own_versions_each_time}
 use Rattle.tw_path.specs.Fold.{Reads, IsFold}
-use Rattle.tw_sync.specs.Positions.{IsPositionIn, ChainStarts, ChainPulls, ChainFits, ChainPushes, OwnVersionsCancelAt, OwnVersionCancelsIn, sent_each, fitted, FitEach, OwnVersionsCancelEachTime}
+use Rattle.tw_sync.specs.Way.Positions.{IsPositionIn, ChainStarts, ChainPulls, ChainFits, ChainPushes, OwnVersionsCancelAt, OwnVersionCancelsIn, sent_each}
+use Rattle.tw_sync.specs.Way.Positions.{fitted, FitEach, OwnVersionsCancelEachTime}
 use Rattle.tw_path.proofs.Reading.{reads-append, reads_last}
 use Rattle.tw_path.proofs.Folds.{fold_is_one, fold_on}
 

@@ -11,19 +11,19 @@ use Rattle.tw_http.specs.declared.message.Response.TheVariants as replies
 use Rattle.tw_state.specs.State.{State}
 use Rattle.tw_path.specs.Path.{Leg, IsPath, versions_of, added_of}
 use Rattle.tw_outcome.specs.End.{ServerChain, starts_at, Went}
-use Rattle.tw_sync.specs.Heard.{Heard, Hears, HearsUntil, brought, pulled_bytes, versions_in, told_in, most_exchanges}
-use Rattle.tw_sync.specs.Answers.{IsLinkKept, GrowsOn, child_heard, HeardRefusedAsk, AskRefused, NoReply}
-use Rattle.tw_sync.specs.Refused.{max_pull, IsWelcome, IsBadSegment, GoesOnFrom, HeardRefused}
+use Rattle.tw_sync.specs.Replies.Heard.{Heard, Hears, HearsUntil, brought, pulled_bytes, versions_in, told_in, most_exchanges}
+use Rattle.tw_sync.specs.Replies.Answers.{IsLinkKept, GrowsOn, child_heard, HeardRefusedAsk, AskRefused, NoReply}
+use Rattle.tw_sync.specs.Ends.Refused.{max_pull, IsWelcome, IsBadSegment, GoesOnFrom, HeardRefused}
 use Rattle.tw_sync.specs.Sync.{server_chain}
-use Rattle.tw_sync.specs.Measured.{IsMeasured}
-use Rattle.tw_sync.specs.Honest.{HonestRefused, IsLongPull, IsUnreadIn, WasPulled, RestsOnPulled}
+use Rattle.tw_sync.specs.Replies.Measured.{IsMeasured}
+use Rattle.tw_sync.specs.Ends.Honest.{HonestRefused, IsLongPull, IsUnreadIn, WasPulled, RestsOnPulled}
 use Rattle.tw_sync.specs.Way.{TellsOf, WentOn}
-use Rattle.tw_sync.specs.Cursor.{place, IsOnPath, IsNotTaken, IsUnreadable, IsIn}
-use Rattle.tw_sync.specs.Progress.{HeardSoFar, HasCome, Asks, IsCause, HeardToStop, StopsTruly, IsStopped}
+use Rattle.tw_sync.specs.Way.Cursor.{place, IsOnPath, IsNotTaken, IsUnreadable, IsIn}
+use Rattle.tw_sync.specs.Way.Progress.{HeardSoFar, HasCome, Asks, IsCause, HeardToStop, StopsTruly, IsStopped}
 use Rattle.tw_sync.specs.Start.Start.{Base}
 use Rattle.tw_sync.specs.declared.ask.ChildAnswer.TheVariants.{Found, Gone}
 use Rattle.tw_sync.specs.declared.cursor.Cursor.{Cursor}
-use Rattle.tw_sync.specs.Causes.{of_ask, of_take}
+use Rattle.tw_sync.specs.Ends.Causes.{of_ask, of_take}
 use Rattle.tw_sync.specs.declared.error.AskError.{AskError}
 use Rattle.tw_sync.specs.declared.error.AskError.TheVariants as asking
 use Rattle.tw_sync.specs.declared.error.TakeError.{TakeError}
@@ -118,7 +118,7 @@ pulling_unasked m client host state first a b p Q e s un on mine reply = record 
       hears = hears_until_on m client host first a b t.hs u.0 (of_ask e) t.hears u.1;
       refused = refused_on m client a b t.hs u.0 e un.refused u.2 (goes_on_so_far m client host first a s.legs p Q t s.tries);
       measured = unmeasured state client (t.hs ++ u.0) e;
-      tells = tells_ask s.legs e t.hs u.0 u.2 t.told;
+      tells = tells_ask m client host a b s.legs e t.hs u.0 u.1 u.2 t.told;
       few = λ honest. (
           let n = s.asked.count in
           let o = un.count in
@@ -164,7 +164,7 @@ pulling_gone m client host state first a b p Q s asked tells =
     stopped_at m client host state first a b p p Q h (errors.Gone p.walker.at) s asked tt
     (λ hs n g. record { cause = ended_by hs h _ (refl, refl); until = goes_to_last hs h g })
     (λ hs. tt)
-    (λ hs told. tells_all s.legs (errors.Gone p.walker.at) (hs ++ h ∷ []) (told_in-past hs h refl ∙ told))
+    (λ hs told. tells_all s.legs (errors.Gone p.walker.at) (hs ++ h ∷ []) refl (told_in-past hs h refl ∙ told))
     (inr s.on_path)
     (λ honest. (
     let c = s.come honest in
@@ -237,7 +237,7 @@ pulling_untaken m client host state first a b p q Q id segment e s asked tells n
           until = goes_to_last hs h g;
         })
         (λ hs. tt)
-        (λ hs told. tells_more s.legs (errors.PullTooLong bytes) hs h tt told)
+        (λ hs told. tells_more s.legs (errors.PullTooLong bytes) hs h v refl (v, refl) told)
         stands
         (at_honest (errors.PullTooLong bytes) (λ whole there next. (let l : IsLongPull state (m.chain b) bytes = long_pull state (m.chain b) s.legs p id segment bytes s.on_path whole there next n.0 in (l, (l, was)))))
     by (taking.Segment bad) n stands =
@@ -247,13 +247,13 @@ pulling_untaken m client host state first a b p q Q id segment e s asked tells n
           until = goes hs have g n.2;
         })
         (λ hs. tt)
-        (λ hs told. tells_more s.legs (errors.Segment bad) hs h tt told)
+        (λ hs told. tells_more s.legs (errors.Segment bad) hs h v refl (v, refl) told)
         stands
         (at_honest (errors.Segment bad) (λ whole there next. (let u : IsUnreadIn state (m.chain b) bad = unread_in state (m.chain b) s.legs p id segment bad whole there next n.0 n.1 in (u, (u, was)))))
     by taking.Memory n stands =
         stopped_at m client host state first a b p q Q h errors.Memory s asked tt
         (λ hs have g. record { cause = tt; until = inl (goes hs have g n) })
         (λ hs. tt)
-        (λ hs told. tells_more s.legs errors.Memory hs h tt told)
+        (λ hs told. tells_more s.legs errors.Memory hs h v refl (inr (v, refl)) told)
         stands
         (at_honest errors.Memory (λ whole there next. (tt, tt)))

@@ -23,10 +23,10 @@ use Rattle.tw_outcome.specs.End.{ServerChain, Answer, moved}
 use Rattle.tw_outcome.proofs.Ends.{done_is_carried, stopped_is_partly, at_base_sound, snapshot_leads_on}
 use Rattle.tw_sync.specs.Start.{Start, from_state, MayStart, IsSoundStart, LeadsTo}
 use Rattle.tw_sync.specs.Start.Start.{Base, Snapshot}
-use Rattle.tw_sync.specs.End.{EndFrom}
+use Rattle.tw_sync.specs.Ends.End.{EndFrom}
 use Rattle.tw_sync.specs.Sync.{IsEndStep, RecordsOfSync, IsEndIn, IsSyncOf}
-use Rattle.tw_sync.specs.Cursor.{place, IsOnPath, LiesIn}
-use Rattle.tw_sync.specs.Moved.{done_by, stopped_by, moved_by, IsMovedTo, MovesBy}
+use Rattle.tw_sync.specs.Way.Cursor.{place, IsOnPath, LiesIn}
+use Rattle.tw_sync.specs.Ends.Moved.{done_by, stopped_by, moved_by, IsMovedTo, MovesBy}
 use Rattle.tw_sync.specs.declared.cursor.Cursor.{Cursor}
 use Rattle.tw_sync.proofs.LeftIsSent.{none_is}
 

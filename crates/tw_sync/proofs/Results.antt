@@ -1,8 +1,8 @@
 -- The last thing heard, and results that are handed on.
 use Rattle.std.proofs.Common.{◌≡◌, List, [], ◌∷◌, ◌++◌, Result, Ok, Err, refl, sym, subst}
 use Rattle.std.specs.Result.{OnOk, IfOk, IfErr, IsErrAnd}
-use Rattle.tw_sync.specs.Heard.{Heard}
-use Rattle.tw_sync.specs.Refused.{EndedBy}
+use Rattle.tw_sync.specs.Replies.Heard.{Heard}
+use Rattle.tw_sync.specs.Ends.Refused.{EndedBy}
 
 pub ended_by : (hs : List Heard) (h : Heard) (P : Heard → Type 0) → P h → EndedBy (hs ++ h ∷ []) P
 ended_by hs h P p = (h, record { earlier = hs; split = refl }, p)

@@ -11,10 +11,10 @@ use Rattle.tw_path.specs.Sent.{WasSent, SendsLater}
 use Rattle.tw_path.proofs.Sending.{sent_is_never_sent_again}
 use Rattle.tw_outcome.specs.End.{ServerChain, starts_at, Went}
 use Rattle.tw_outcome.proofs.Ends.{start_stands_beside}
-use Rattle.tw_sync.specs.Heard.{most_exchanges}
+use Rattle.tw_sync.specs.Replies.Heard.{most_exchanges}
 use Rattle.tw_sync.specs.Sync.{server_chain}
 use Rattle.tw_sync.specs.Way.{WentOn}
-use Rattle.tw_sync.specs.Cursor.{place}
+use Rattle.tw_sync.specs.Way.Cursor.{place}
 use Rattle.tw_sync.specs.Contract.{AsksFewFor}
 use Rattle.tw_sync.specs.declared.error.SyncError.{SyncError}
 use Rattle.tw_sync.proofs.Legs.{added-append}

@@ -21,7 +21,7 @@ use Rattle.tw_outcome.proofs.Ends.{at_base_sound}
 use Rattle.tw_replica.specs.declared.replica.Replica.{Replica}
 use Rattle.tw_replica.specs.declared.error.RecordError.{RecordError}
 use Rattle.tw_replica.specs.declared.error.RecordError.TheVariants as records
-use Rattle.tw_sync.specs.Moved.{taken_step, moved_by, row_size, AddsRecord, IsMovedTo, MovesBy, LeavesMove, IsNotMoved}
+use Rattle.tw_sync.specs.Ends.Moved.{taken_step, moved_by, row_size, AddsRecord, IsMovedTo, MovesBy, LeavesMove, IsNotMoved}
 
 far_by : (at : List ℕ) (step : Step) (state : State) → same_id at state.base ≡ false → moved_by at step state ≡ applied state step
 far_by at step state far = ap (λ (b : Bool). cond b None (applied state step)) far

@@ -21,17 +21,17 @@ use Rattle.tw_outcome.specs.Agreement.{Agrees}
 use Rattle.tw_outcome.specs.End.{starts_at, stands_at, Went}
 use Rattle.tw_outcome.specs.End.Answer.{Stopped, Unwritten}
 use Rattle.tw_outcome.proofs.Ends.{first_part, stopped_is_partly, carried_fits, end_agrees}
-use Rattle.tw_sync.specs.End.{EndFrom, IsStopping}
-use Rattle.tw_sync.specs.Heard.{Heard, HearsUntil, brought}
-use Rattle.tw_sync.specs.Refused.{HeardRefused}
+use Rattle.tw_sync.specs.Ends.End.{EndFrom, IsStopping}
+use Rattle.tw_sync.specs.Replies.Heard.{Heard, HearsUntil, brought}
+use Rattle.tw_sync.specs.Ends.Refused.{HeardRefused}
 use Rattle.tw_sync.specs.Sync.{server_chain, IsEndStep}
-use Rattle.tw_sync.specs.Causes.{of_record}
+use Rattle.tw_sync.specs.Ends.Causes.{of_record}
 use Rattle.tw_sync.specs.Way.{TellsOf, WentOn}
-use Rattle.tw_sync.specs.Honest.{HonestRefused, IsLongRecord, RestsOnTold}
-use Rattle.tw_sync.specs.Cursor.{place, IsOnPath, LiesIn, IsAtStart}
-use Rattle.tw_sync.specs.Progress.{IsCause, HeardToStop, IsStopped, StopsPulling}
+use Rattle.tw_sync.specs.Ends.Honest.{HonestRefused, IsLongRecord, RestsOnTold}
+use Rattle.tw_sync.specs.Way.Cursor.{place, IsOnPath, LiesIn, IsAtStart}
+use Rattle.tw_sync.specs.Way.Progress.{IsCause, HeardToStop, IsStopped, StopsPulling}
 use Rattle.tw_sync.specs.Start.{Start, from_state, MayStart, IsKnownStart, LeadsTo}
-use Rattle.tw_sync.specs.Moved.{stopped_by, IsStoppedStep, row_size, moved_by, MovesBy, IsNotMoved, LeavesMove}
+use Rattle.tw_sync.specs.Ends.Moved.{stopped_by, IsStoppedStep, row_size, moved_by, MovesBy, IsNotMoved, LeavesMove}
 use Rattle.tw_sync.specs.Contract.{KeepsAgreement, SendsNothingAgain, LeavesOneEnd, AsksFewFor, AnyEnd, RefusedEnd}
 use Rattle.tw_sync.specs.declared.cursor.Cursor.{Cursor}
 use Rattle.tw_sync.specs.declared.error.SyncError.{SyncError}
@@ -42,8 +42,10 @@ use Rattle.tw_sync.proofs.Complete.{can_sync}
 use Rattle.tw_sync.proofs.FromStart.{IsNoJournal, refused_from, measured_from, told_none}
 use Rattle.tw_sync.proofs.CursorAtStart.{starts}
 use Rattle.tw_sync.proofs.SentAndAsked.{never_again, few_with_untold}
-use Rattle.tw_sync.proofs.ReplicaMoved.{from_sound, leads_to, starts_soundly, stopped_state, state_is, moved_is_sync, end_in, moved_to, stopped_end, stays_same, records_are}
-use Rattle.tw_sync.proofs.NotMoved.{stopping, stopped_refused, answers_unwritten, never_stopping, unmoved_refused, unmoved_honest, unmoved_rests, unmoved_told, unmoved_state, unmoved_cause, unmoved_measured, unmoved_refuses_last, unmoved_adds, read_all, went_on_until, tells_unwritten, went_unwritten, known_grown, far_from_start}
+use Rattle.tw_sync.proofs.ReplicaMoved.{from_sound, leads_to, starts_soundly, stopped_state, state_is, moved_is_sync, end_in, moved_to, stopped_end}
+use Rattle.tw_sync.proofs.ReplicaMoved.{stays_same, records_are}
+use Rattle.tw_sync.proofs.NotMoved.{stopping, stopped_refused, answers_unwritten, never_stopping, unmoved_refused, unmoved_honest, unmoved_rests}
+use Rattle.tw_sync.proofs.NotMoved.{unmoved_told, unmoved_state, unmoved_cause, unmoved_measured, unmoved_passes, unmoved_adds, read_all, went_on_until, tells_unwritten, went_unwritten, known_grown, far_from_start}
 
 -- the causes that meeting the chain may have are none of the journal
 pub stopped_no_journal : {L : Type 0} (m : LinkModel L) (first now : L) (e : SyncError) → IsCause m first now e → IsNoJournal e
@@ -236,7 +238,7 @@ module _ {L : Type 0} (m : LinkModel L) (client host : List ℕ) (hand : TasksVa
               long honest bytes len,
               λ tells. (
                   let t = stopped.heard tells in
-                  (t.hs, read_all m client host first now t.hs e other t.hears, (bytes, tells_unwritten stopped.legs e t.hs (records.Journal (journal.TooLong bytes)) tt t.tells))),
+                  (t.hs, read_all m client host first now t.hs e other t.hears, (bytes, tells_unwritten stopped.legs e t.hs (records.Journal (journal.TooLong bytes)) (λ last few. few) t.tells))),
             )) x un
 
         pub unstopped_end : RefusedEnd d m client host start old new before after first now (of_record x)
@@ -248,7 +250,7 @@ module _ {L : Type 0} (m : LinkModel L) (client host : List ℕ) (hand : TasksVa
               way = record {
                 legs = stopped.legs;
                 path = stopped.path;
-                heard = λ tells. (let t = stopped.heard tells in (t.hs, hears t.hs t.hears, tells_unwritten stopped.legs e t.hs x (unmoved_refuses_last d m client old new before after first now start r.at step live x un) t.tells));
+                heard = λ tells. (let t = stopped.heard tells in (t.hs, hears t.hs t.hears, tells_unwritten stopped.legs e t.hs x (λ last few. unmoved_passes d m client old new before after first now start r.at step live last few x un) t.tells));
                 went = λ honest. went_unwritten state (server_chain m first) (server_chain m now) stopped.legs e x (unmoved_adds d m client old new before after first now start r.at step live x un) (stopped.come honest).went;
                 state = λ so. absurd (never_stopping x so);
               };
@@ -264,6 +266,6 @@ module _ {L : Type 0} (m : LinkModel L) (client host : List ℕ) (hand : TasksVa
                     t.hs,
                     hears t.hs t.hears,
                     unmoved_measured d m client old new before after first now start r.at step live t.hs
-                        (λ bytes len. inr (record { legs = stopped.legs; path = stopped.path; tells = tells_unwritten stopped.legs e t.hs (records.Journal (journal.TooLong bytes)) tt t.tells; len = len })) x un,
+                        (λ bytes len. inr (record { legs = stopped.legs; path = stopped.path; tells = tells_unwritten stopped.legs e t.hs (records.Journal (journal.TooLong bytes)) (λ last few. few) t.tells; len = len })) x un,
                   ));
             }

@@ -6,7 +6,7 @@ use Rattle.tw_protocol.specs.Chain.{same_id}
 use Rattle.tw_protocol.proofs.Chains.{same_id_exact}
 use Rattle.tw_path.proofs.Paths.{path_stands_beside}
 use Rattle.tw_snapshot.specs.Snapshot.{text_within}
-use Rattle.tw_sync.specs.Offer.{StoresTasks, IsWantedLetter, IsLetterFor, MayBeSent, HasLetter}
+use Rattle.tw_sync.specs.Ends.Offer.{StoresTasks, IsWantedLetter, IsLetterFor, MayBeSent, HasLetter}
 use Rattle.tw_model.specs.Ops.{TasksValue, apply_all}
 use Rattle.tw_model.specs.LocalOps.{plain}
 use Rattle.tw_journal.specs.Journal.{is_closed}
@@ -28,16 +28,16 @@ use Rattle.tw_outcome.specs.End.{starts_at, ends_at, Went}
 use Rattle.tw_outcome.specs.End.Answer.{Done}
 use Rattle.tw_outcome.proofs.Ends.{start_stands_beside, carried_fits, end_agrees}
 use Rattle.tw_sync.specs.Start.{Start, from_state, MayStart, LeadsTo}
-use Rattle.tw_sync.specs.End.{counts_of, EndFrom, SyncEnd}
-use Rattle.tw_sync.specs.Refused.{EndedBy, IsLastReply}
+use Rattle.tw_sync.specs.Ends.End.{counts_of, EndFrom, SyncEnd}
+use Rattle.tw_sync.specs.Ends.Refused.{EndedBy, IsLastReply}
 use Rattle.tw_sync.specs.Sync.{server_chain, IsEndStep}
-use Rattle.tw_sync.specs.Causes.{of_record}
+use Rattle.tw_sync.specs.Ends.Causes.{of_record}
 use Rattle.tw_sync.specs.Way.{WentOn}
-use Rattle.tw_sync.specs.Honest.{HonestRefused, IsLongRecord, RestsOnTold}
+use Rattle.tw_sync.specs.Ends.Honest.{HonestRefused, IsLongRecord, RestsOnTold}
 use Rattle.tw_sync.specs.declared.error.SyncError.TheVariants as errors
-use Rattle.tw_sync.specs.Cursor.{place, IsOnPath, IsAtStart, made_report}
-use Rattle.tw_sync.specs.Progress.{IsMet, IsAtEnd, Meets}
-use Rattle.tw_sync.specs.Moved.{done_by, IsDoneStep, row_size, moved_by, MovesBy, IsNotMoved, LeavesMove}
+use Rattle.tw_sync.specs.Way.Cursor.{place, IsOnPath, IsAtStart, made_report}
+use Rattle.tw_sync.specs.Way.Progress.{IsMet, IsAtEnd, Meets}
+use Rattle.tw_sync.specs.Ends.Moved.{done_by, IsDoneStep, row_size, moved_by, MovesBy, IsNotMoved, LeavesMove}
 use Rattle.tw_sync.specs.Contract.{KeepsAgreement, AnyEnd, DoneEnd, RefusedEnd}
 use Rattle.tw_sync.specs.declared.cursor.Cursor.{Cursor}
 use Rattle.tw_sync.proofs.CursorInChain.{added_away}
@@ -49,9 +49,11 @@ use Rattle.tw_sync.proofs.ExpectedReplies.{goes_on_so_far}
 use Rattle.tw_sync.proofs.SentAndAsked.{never_again, few_with_untold}
 use Rattle.tw_sync.proofs.LeftIsSent.{few_at_end, at_end_holds, went_to_end}
 use Rattle.tw_sync.proofs.PullRefused.{went_on}
-use Rattle.tw_sync.proofs.ToldBefore.{tells_all}
-use Rattle.tw_sync.proofs.ReplicaMoved.{from_sound, from_pending, leads_to, starts_soundly, done_state, pushed_is, dropped_is, state_is, moved_is_sync, end_in, moved_to, done_end, records_are}
-use Rattle.tw_sync.proofs.NotMoved.{answers_unwritten, never_stopping, unmoved_refused, unmoved_honest, unmoved_rests, unmoved_told, unmoved_state, unmoved_cause, unmoved_measured}
+use Rattle.tw_sync.proofs.ToldBefore.{tells_all, unwritten_passes}
+use Rattle.tw_sync.proofs.ReplicaMoved.{from_sound, from_pending, leads_to, starts_soundly, done_state, pushed_is, dropped_is, state_is, moved_is_sync}
+use Rattle.tw_sync.proofs.ReplicaMoved.{end_in, moved_to, done_end, records_are}
+use Rattle.tw_sync.proofs.NotMoved.{answers_unwritten, never_stopping, unmoved_refused, unmoved_honest, unmoved_rests, unmoved_told, unmoved_state}
+use Rattle.tw_sync.proofs.NotMoved.{unmoved_cause, unmoved_measured}
 use Rattle.tw_sync.proofs.Served.{grows_same}
 
 -- it is met
@@ -156,7 +158,7 @@ module _ {L : Type 0} (m : LinkModel L) (client host : List ℕ) (hand : TasksVa
       was_told : IsHonest m first client → RestsOnTold m client host start old_state first now (of_record e)
       unfolding long met
       was_told honest = unmoved_told d m client old new before after first now start r.at step live host
-          (λ bytes len. (long honest bytes len, λ tells. (let t = met.pulled.asked.heard tells in (t.hs, t.hears, (bytes, tells_all legs (errors.Journal (journal.TooLong bytes)) t.hs t.told))))) e un
+          (λ bytes len. (long honest bytes len, λ tells. (let t = met.pulled.asked.heard tells in (t.hs, t.hears, (bytes, tells_all legs (errors.Journal (journal.TooLong bytes)) t.hs (inl refl) t.told))))) e un
 
       on : IsHonest m first client → WentOn state (server_chain m first) (server_chain m now) legs (of_record e)
       on honest = went_on state (server_chain m first) (server_chain m now) legs (of_record e) (went honest)
@@ -170,7 +172,7 @@ module _ {L : Type 0} (m : LinkModel L) (client host : List ℕ) (hand : TasksVa
             way = record {
               legs = legs;
               path = path.path;
-              heard = λ tells. (let t = met.pulled.asked.heard tells in (t.hs, hears_until m client host first now t.hs (of_record e) t.hears, tells_all legs (of_record e) t.hs t.told));
+              heard = λ tells. (let t = met.pulled.asked.heard tells in (t.hs, hears_until m client host first now t.hs (of_record e) t.hears, tells_all legs (of_record e) t.hs (unwritten_passes e) t.told));
               went = on;
               state = λ so. absurd (never_stopping e so);
             };
@@ -218,6 +220,20 @@ module _ {L : Type 0} (m : LinkModel L) (client host : List ℕ) (hand : TasksVa
               sent_is_not_sent_again (m.chain first) (m.chain now) (starts_at state) legs mine later w c.on.whole c.on.grows (start_stands_beside state sound).fits path.path c.lies c.behind (at_end_holds m client state first now legs cursor c) was,
             ));
         records = λ bodies on. records_are d old new before after start s r.at step end refl moves IsDoneStep (met.nothing, refl) (IsHonest m first client) (m.chain now) (λ honest. inr (come honest).lies) bodies on (leaves bodies on);
+        way = record {
+          legs = legs;
+          path = path.path;
+          heard = λ tells. (let t = met.pulled.asked.heard tells in (t.hs, t.hears, t.told));
+          went = went;
+          nothing = met.nothing;
+          state = new_is;
+          reported = record {
+            pulled = path.versions;
+            pushed = pushed_is state legs cursor path;
+            dropped = dropped_is state legs cursor path ∙ ap (λ ops. length (plain ops)) (from_pending start old_state may);
+            base = path.stands.at;
+          };
+        };
         heard = λ tells. (
             let t = met.pulled.asked.heard tells in (
               t.hs,
@@ -236,7 +252,7 @@ module _ {L : Type 0} (m : LinkModel L) (client host : List ℕ) (hand : TasksVa
       letter_for : (letter : Option (List ℕ)) → IsWantedLetter client host cursor.wanted old_state.base r letter → IsLetterFor client host (state_of new.core) letter
       letter_for None is = tt
       letter_for (Some text) (inl none) = absurd cc
-      letter_for (Some text) (inr (far, stores)) = subst (λ (t : State). (t.pending ≡ []) × StoresTasks client host t.base t.tasks text) (sym (new_is ∙ ap (λ (b : Bool). cond b old_state s) far)) (refl, stores)
+      letter_for (Some text) (inr (wanted, far, stores)) = subst (λ (t : State). (t.pending ≡ []) × StoresTasks client host t.base t.tasks text) (sym (new_is ∙ ap (λ (b : Bool). cond b old_state s) far)) (refl, stores)
 
       -- there is one if it is wanted
       letter_there : (letter : Option (List ℕ)) → IsWantedLetter client host cursor.wanted old_state.base r letter → cursor.wanted ≡ true → MayBeSent (IsHonest m first client) old_state (state_of new.core) → ¬ (letter ≡ None)
@@ -247,10 +263,15 @@ module _ {L : Type 0} (m : LinkModel L) (client host : List ℕ) (hand : TasksVa
           by : IsHonest m first client ⊎ ¬ (new.core.base ≡ old_state.base) → ⊥
           by (inl honest) = added_away start old_state (m.chain now) legs may (come honest).on.whole (come honest).lies (path.wants wanted) (same_id_exact r.at old_state.base here)
           by (inr moved) = moved (ap (λ (t : State). t.base) (new_is ∙ ap (λ (b : Bool). cond b old_state s) here))
-      letter_there None (inr (far, long)) wanted sendable = absurd (too_long (sym long ∙ ap (λ (t : State). text_within t.tasks) (sym (new_is ∙ ap (λ (b : Bool). cond b old_state s) far)) ∙ sendable.within))
+      letter_there None (inr (asked, far, long)) wanted sendable = absurd (too_long (sym long ∙ ap (λ (t : State). text_within t.tasks) (sym (new_is ∙ ap (λ (b : Bool). cond b old_state s) far)) ∙ sendable.within))
         where
           too_long : {text : List ℕ} → ◌≡◌ {A = Option (List ℕ)} None (Some text) → ⊥
           too_long e = cc
+
+      -- there is none if none is wanted
+      letter_not_there : (letter : Option (List ℕ)) → IsWantedLetter client host cursor.wanted old_state.base r letter → cursor.wanted ≡ false → letter ≡ None
+      letter_not_there letter (inl (none, why)) calm = none
+      letter_not_there letter (inr (wanted, far, stores)) calm = absurd (true≢false (sym wanted ∙ calm))
 
       pub letter_end : (base : List ℕ) → base ≡ old_state.base → (letter : Option (List ℕ)) → ((r : Reached) → StandsAt hand r cursor.walker → r.tasks ≡ apply_all hand r.carried → IsWantedLetter client host cursor.wanted base r letter)
           → HasLetter m client host old_state (state_of new.core) first now letter
@@ -262,4 +283,5 @@ module _ {L : Type 0} (m : LinkModel L) (client host : List ℕ) (hand : TasksVa
           record {
             letter_is = letter_for letter is;
             wanted = λ tells. (let t = met.pulled.asked.heard tells in (t.hs, t.hears, λ wanted may. letter_there letter is (sym t.wanted_is ∙ wanted) may));
+            unwanted = λ tells. (let t = met.pulled.asked.heard tells in (t.hs, t.hears, λ calm. letter_not_there letter is (sym t.wanted_is ∙ calm)));
           }

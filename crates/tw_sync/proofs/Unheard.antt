@@ -17,14 +17,15 @@ use Rattle.tw_outcome.specs.End.{starts_at, stands_at, Went}
 use Rattle.tw_outcome.specs.End.Answer.{Stopped, Unwritten}
 use Rattle.tw_sync.specs.Start.{Start, from_state}
 use Rattle.tw_sync.specs.Start.Start.{Base}
-use Rattle.tw_sync.specs.End.{EndFrom, IsStopping}
-use Rattle.tw_sync.specs.Answers.{AskRefused, NoReply}
-use Rattle.tw_sync.specs.Causes.{of_ask}
-use Rattle.tw_sync.specs.Given.{IsUnheard}
-use Rattle.tw_sync.specs.Refused.{HeardRefused, SyncRefused}
+use Rattle.tw_sync.specs.Ends.End.{EndFrom, IsStopping}
+use Rattle.tw_sync.specs.Replies.Answers.{AskRefused, NoReply}
+use Rattle.tw_sync.specs.Ends.Causes.{of_ask}
+use Rattle.tw_sync.specs.Replies.Given.{IsUnheard}
+use Rattle.tw_sync.specs.Ends.Refused.{HeardRefused, SyncRefused}
 use Rattle.tw_sync.specs.Sync.{server_chain}
-use Rattle.tw_sync.specs.Honest.{HonestRefused, IsWant, CanSync}
-use Rattle.tw_sync.specs.Measured.{IsMeasured}
+use Rattle.tw_sync.specs.Way.{IsUnpassed}
+use Rattle.tw_sync.specs.Ends.Honest.{HonestRefused, IsWant, CanSync}
+use Rattle.tw_sync.specs.Replies.Measured.{IsMeasured}
 use Rattle.tw_sync.specs.Contract.{AnyEnd, RefusedEnd, EndsRefused}
 use Rattle.tw_sync.specs.declared.error.AskError.{AskError}
 use Rattle.tw_sync.specs.declared.error.AskError.TheVariants as asking
@@ -74,15 +75,15 @@ module _ {D L : Type 0} (d : DiskModel D) (m : LinkModel L) (client host : List 
     link_kept = u.kept;
   }
 
-  pub unheard_refused : (IsStopping e → state ≡ stands_at state begin) → EndsRefused m client start old old first now e → SyncRefused d m old old disk disk first now e → (IsHonest m first client → HonestRefused start state (server_chain m first) (server_chain m now) e)
+  pub unheard_refused : IsUnpassed e [] → (IsStopping e → state ≡ stands_at state begin) → EndsRefused m client start old old first now e → SyncRefused d m old old disk disk first now e → (IsHonest m first client → HonestRefused start state (server_chain m first) (server_chain m now) e)
       → HeardRefused client [] e → IsMeasured start state client [] e → (CanSync d m start old disk disk first now client host → IsWant e) → RefusedEnd d m client host start old old disk disk first now e
-  unheard_refused stays ended refused says heard len want = record {
+  unheard_refused passed stays ended refused says heard len want = record {
     ended = ended;
     records = λ so bodies on. inl (record { base = refl; same = record { state = refl; journal = refl; disk = refl } });
     way = record {
       legs = [];
       path = tt;
-      heard = λ tells. ([], u.hears tells, tells_all [] e [] refl);
+      heard = λ tells. ([], u.hears tells, tells_all [] e [] passed refl);
       went = λ honest. went_on (from_state start state) (server_chain m first) (server_chain m now) [] e (stays_there honest);
       state = stays;
     };
@@ -102,13 +103,13 @@ module _ {D L : Type 0} (d : DiskModel D) (m : LinkModel L) (client host : List 
   -- there was no memory
   pub no_memory : (start : Start) → is_closed old.journal ≡ false → IsUnheard m client host first now errors.Memory → RefusedEnd d m client host start old old disk disk first now errors.Memory
   no_memory start live u =
-      unheard_refused d m client host start old disk first now errors.Memory u (λ is. absurd (never_stopping records.Memory is)) (kept_end d m client host start old disk first now errors.Memory u)
+      unheard_refused d m client host start old disk first now errors.Memory u (inl refl) (λ is. absurd (never_stopping records.Memory is)) (kept_end d m client host start old disk first now errors.Memory u)
       (record { same = record { state = refl; journal = refl; disk = refl }; is_open = live }) (λ honest. tt) (record { cause = tt; until = inl goes_on_none }) tt (λ can. inl refl)
 
   -- the link failed
   no_link : is_closed old.journal ≡ false → Rose (m.faults first) (m.faults now) → IsUnheard m client host first now errors.Link → RefusedEnd d m client host Base old old disk disk first now errors.Link
   no_link live rose u =
-      unheard_refused d m client host Base old disk first now errors.Link u (λ is. at_start (state_of old.core)) (stopped_here d m client host Base old disk first now errors.Link u (at_start (state_of old.core)))
+      unheard_refused d m client host Base old disk first now errors.Link u refl (λ is. at_start (state_of old.core)) (stopped_here d m client host Base old disk first now errors.Link u (at_start (state_of old.core)))
       (rose, record { stays = λ same. record { state = refl; journal = refl; disk = refl }; is_open = live }) (λ honest. tt) (record { cause = tt; until = goes_on_none }) tt (λ can. absurd (can.link_works rose))
 
   pub ask_refused : (e : AskError) → is_closed old.journal ≡ false → NoReply e → AskRefused m first now e → IsUnheard m client host first now (of_ask e) → RefusedEnd d m client host Base old old disk disk first now (of_ask e)
@@ -122,5 +123,5 @@ pub closed_end : {D L : Type 0} (d : DiskModel D) (m : LinkModel L) (client host
 closed_end d m client host old disk link whole closed =
     let e : SyncError = errors.Journal journal.Closed in
     let u = unasked m client host link e whole in
-    unheard_refused d m client host Base old disk link link e u (λ is. absurd (never_stopping (records.Journal journal.Closed) is)) (kept_end d m client host Base old disk link link e u)
+    unheard_refused d m client host Base old disk link link e u refl (λ is. absurd (never_stopping (records.Journal journal.Closed) is)) (kept_end d m client host Base old disk link link e u)
     (closed, record { state = refl; journal = refl; disk = refl }, refl) (λ honest. tt) (record { cause = tt; until = inl goes_on_none }) tt (λ can. absurd (true≢false (sym closed ∙ can.is_open)))

@@ -11,20 +11,20 @@ use Rattle.tw_path.specs.Path.{Leg, IsPush, is_batch, added_of}
 use Rattle.tw_path.specs.Path.Leg.{Push}
 use Rattle.tw_path.proofs.Paths.{paths_join}
 use Rattle.tw_outcome.specs.End.{starts_at}
-use Rattle.tw_sync.specs.Heard.{Heard, Hears, HearsUntil}
-use Rattle.tw_sync.specs.Answers.{GrowsOn, IsAddedOne, add_heard, HeardRefusedAsk, NoReply, AddRefused}
-use Rattle.tw_sync.specs.Refused.{EndedBy, IsLastReply, HeardRefused, MayAdd}
+use Rattle.tw_sync.specs.Replies.Heard.{Heard, Hears, HearsUntil}
+use Rattle.tw_sync.specs.Replies.Answers.{GrowsOn, IsAddedOne, add_heard, HeardRefusedAsk, NoReply, AddRefused}
+use Rattle.tw_sync.specs.Ends.Refused.{EndedBy, IsLastReply, HeardRefused, MayAdd}
 use Rattle.tw_sync.specs.Sync.{server_chain}
-use Rattle.tw_sync.specs.Measured.{IsMeasured}
-use Rattle.tw_sync.specs.Honest.{HonestRefused, RestsOnPulled}
-use Rattle.tw_sync.specs.Way.{WentOn}
-use Rattle.tw_sync.specs.Cursor.{place}
-use Rattle.tw_sync.specs.Progress.{HeardSoFar, IsAtEnd, HasPulled, IsCause, HeardToStop, StopsTruly, IsStopped}
-use Rattle.tw_sync.specs.Sending.{IsUnsent}
+use Rattle.tw_sync.specs.Replies.Measured.{IsMeasured}
+use Rattle.tw_sync.specs.Ends.Honest.{HonestRefused, RestsOnPulled}
+use Rattle.tw_sync.specs.Way.{IsUnpassed, WentOn}
+use Rattle.tw_sync.specs.Way.Cursor.{place}
+use Rattle.tw_sync.specs.Way.Progress.{HeardSoFar, IsAtEnd, HasPulled, IsCause, HeardToStop, StopsTruly, IsStopped}
+use Rattle.tw_sync.specs.Way.Sending.{IsUnsent}
 use Rattle.tw_sync.specs.Start.Start.{Base}
 use Rattle.tw_sync.specs.declared.ask.AddAnswer.TheVariants.{Added}
 use Rattle.tw_sync.specs.declared.cursor.Cursor.{Cursor}
-use Rattle.tw_sync.specs.Causes.{of_ask, of_send}
+use Rattle.tw_sync.specs.Ends.Causes.{of_ask, of_send}
 use Rattle.tw_sync.specs.declared.error.AskError.{AskError}
 use Rattle.tw_sync.specs.declared.error.SendError.{SendError}
 use Rattle.tw_sync.specs.declared.error.SendError.TheVariants as sending
@@ -45,8 +45,8 @@ unsent m client host state begin now p e s some not = by e not
     heard_here : Type 0
     heard_here = HeardSoFar m client host begin now s.legs p (λ hs. EndedBy hs (IsLastReply client (place state s.legs).at))
 
-    stop : (x : SyncError) → IsCause m begin now x → ((t : heard_here) → HeardRefused client t.hs x × IsMeasured Base state client t.hs x) → (IsHonest m begin client → HonestRefused Base state (server_chain m begin) (server_chain m now) x) → RestsOnPulled m client host state begin now x → IsStopped m client host state begin now p x
-    stop x cause why says pulled = record {
+    stop : (x : SyncError) → IsUnpassed x [] → IsCause m begin now x → ((t : heard_here) → HeardRefused client t.hs x × IsMeasured Base state client t.hs x) → (IsHonest m begin client → HonestRefused Base state (server_chain m begin) (server_chain m now) x) → RestsOnPulled m client host state begin now x → IsStopped m client host state begin now p x
+    stop x passed cause why says pulled = record {
       legs = s.legs;
       path = s.on_path.path;
       stands = inr s.on_path;
@@ -57,7 +57,7 @@ unsent m client host state begin now p e s some not = by e not
         hears = hears_until m client host begin now t.hs x t.hears;
         refused = (why t).0;
         measured = (why t).1;
-        tells = tells_all s.legs x t.hs t.told;
+        tells = tells_all s.legs x t.hs passed t.told;
         few = λ honest. (
             let n = s.asked.count in
             let o = s.tries in
@@ -78,7 +78,7 @@ unsent m client host state begin now p e s some not = by e not
 
     by : (x : SendError) → IsUnsent (first is_batch (place state s.legs).left) x → IsStopped m client host state begin now p (of_send x)
     by (sending.TooLong bytes) n =
-        stop (errors.SegmentTooLong bytes) n.1
+        stop (errors.SegmentTooLong bytes) refl n.1
         (λ t. (
           record { cause = ((place state s.legs).at, t.so); until = goes_on_so_far m client host begin now s.legs p _ t s.tries },
           record { legs = s.legs; heard = record { path = s.on_path.path; told = t.told; ended = t.so }; some = some; len = n.0 },
@@ -87,7 +87,7 @@ unsent m client host state begin now p e s some not = by e not
         let e = s.come honest in
         record { legs = s.legs; path = s.on_path.path; between = e.lies; last = at_end_holds m client state begin now s.legs p e; some = some; len = n.0 }))
         tt
-    by sending.Memory n = stop errors.Memory tt (λ t. (record { cause = tt; until = inl (goes_on_so_far m client host begin now s.legs p _ t s.tries) }, tt)) (λ honest. tt) tt
+    by sending.Memory n = stop errors.Memory (inl refl) tt (λ t. (record { cause = tt; until = inl (goes_on_so_far m client host begin now s.legs p _ t s.tries) }, tt)) (λ honest. tt) tt
 
 may_add : (e : AskError) → NoReply e → MayAdd (of_ask e)
 may_add e (inl is) = subst (λ x. MayAdd (of_ask x)) (sym is) tt
@@ -112,7 +112,7 @@ unadded m client host state begin a b p segment ops e s un grows refused push = 
       hears = hears_until_on m client host begin a b t.hs u.0 (of_ask e) t.hears u.1;
       refused = refused_on m client a b t.hs u.0 e un.refused u.2 (goes_on_so_far m client host begin a s.legs p _ t s.tries);
       measured = unmeasured state client (t.hs ++ u.0) e;
-      tells = tells_ask s.legs e t.hs u.0 u.2 t.told;
+      tells = tells_ask m client host a b s.legs e t.hs u.0 u.1 u.2 t.told;
       few = λ honest. (
           let n = s.asked.count in
           let k = un.count in
@@ -180,7 +180,7 @@ added_unkept m client host state begin a b p q id segment wanted ops s asked gro
       hears = inl (hears_on m client host begin a b t.hs (h ∷ []) t.hears heard);
       refused = record { cause = tt; until = inl (goes_on_past t.hs h (goes_on_so_far m client host begin a s.legs p _ t s.tries) (asked.welcome, added_leads h.reply id wanted refl, asked.of_chain) (not_late client (place state s.legs).at t.hs t.so) refl refl) };
       measured = tt;
-      tells = tells_all more errors.Memory (t.hs ++ h ∷ []) (told_in-last t.hs h v refl ∙ ap (λ vs. vs ++ v ∷ []) t.told ∙ sym (versions_on s.legs (Push v ops)));
+      tells = tells_all more errors.Memory (t.hs ++ h ∷ []) (inl refl) (told_in-last t.hs h v refl ∙ ap (λ vs. vs ++ v ∷ []) t.told ∙ sym (versions_on s.legs (Push v ops)));
       few = λ honest. (
           let n = s.asked.count in
           let k = asked.count in

@@ -17,8 +17,9 @@ use Rattle.tw_http.specs.declared.message.Request.{Request}
 use Rattle.tw_http.specs.declared.message.Request.TheVariants.{Add, Child, AddSnapshot, Snapshot}
 use Rattle.tw_state.specs.State.{State, start}
 use Rattle.tw_outcome.specs.Agreement.{Agrees}
-use Rattle.tw_sync.specs.World.{World, AllAgree, IsGood, IsAmong, Makes, with_next, Runs, Crashes, Event, OnMachine, Answers, Leads, IsNew, ReachedIsGood, FollowsTheChain, ReachedFollows}
-use Rattle.tw_sync.specs.World.Event.{Run, Crash, Answer}
+use Rattle.tw_sync.specs.Theorem.{World, AllAgree, IsGood, IsAmong, Makes, with_next, Runs, Crashes, Event, OnMachine, Answers, Leads, IsNew, ReachedIsGood}
+use Rattle.tw_sync.specs.Theorem.{FollowsTheChain, ReachedFollows}
+use Rattle.tw_sync.specs.Theorem.Event.{Run, Crash, Answer}
 use Rattle.tw_sync.proofs.Folds.{agrees_is_kept, pending_acts_on_the_fold}
 use Rattle.tw_sync.proofs.LocalSteps.{commit_agrees, undo_agrees}
 use Rattle.tw_outcome.proofs.Ends.{end_agrees}

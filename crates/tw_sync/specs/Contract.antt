@@ -14,17 +14,17 @@ use Rattle.tw_path.specs.Path.{Leg, sent_of, added_of}
 use Rattle.tw_path.specs.Sent.{WasSent, SendsLater}
 use Rattle.tw_outcome.specs.End.{Went, starts_at}
 use Rattle.tw_sync.specs.Start.{Start, from_state, IsSoundStart, Since}
-use Rattle.tw_sync.specs.End.{EndFrom, SyncEnd, answer_to, IsStopping}
-use Rattle.tw_sync.specs.Heard.{Heard, HearsUntil, HearsThat, HearsUntilThat, brought, most_exchanges}
-use Rattle.tw_sync.specs.Answers.{IsLinkKept}
-use Rattle.tw_sync.specs.Refused.{HeardRefused, SyncRefused}
+use Rattle.tw_sync.specs.Ends.End.{EndFrom, SyncEnd, answer_to, IsStopping}
+use Rattle.tw_sync.specs.Replies.Heard.{Heard, HearsUntil, HearsThat, HearsUntilThat, brought, most_exchanges}
+use Rattle.tw_sync.specs.Replies.Answers.{IsLinkKept}
+use Rattle.tw_sync.specs.Ends.Refused.{HeardRefused, SyncRefused}
 use Rattle.tw_sync.specs.Sync.{server_chain, RecordsOfSync, LeavesEnd, HeardEnd}
-use Rattle.tw_sync.specs.Moved.{IsDoneStep, IsStoppedStep}
-use Rattle.tw_sync.specs.Measured.{IsMeasured}
-use Rattle.tw_sync.specs.Honest.{HonestRefused, CanSync, IsWant}
-use Rattle.tw_sync.specs.Given.{IsUnheard}
-use Rattle.tw_sync.specs.Offer.{HasLetter, OffersState, OffersAfter, IfWanted, reported}
-use Rattle.tw_sync.specs.Way.{WentUntil}
+use Rattle.tw_sync.specs.Ends.Moved.{IsDoneStep, IsStoppedStep}
+use Rattle.tw_sync.specs.Replies.Measured.{IsMeasured}
+use Rattle.tw_sync.specs.Ends.Honest.{HonestRefused, CanSync, IsWant}
+use Rattle.tw_sync.specs.Replies.Given.{IsUnheard}
+use Rattle.tw_sync.specs.Ends.Offer.{HasLetter, OffersState, OffersAfter, IfWanted, IfUnwanted, reported}
+use Rattle.tw_sync.specs.Way.{WentToEnd, WentUntil}
 use Rattle.tw_sync.specs.declared.offer.Done.{Done}
 use Rattle.tw_sync.specs.declared.report.SyncReport.{SyncReport}
 use Rattle.tw_sync.specs.declared.error.SyncError.{SyncError}
@@ -115,6 +115,7 @@ pub record DoneEnd {D L : Type 0} (d : DiskModel D) (m : LinkModel L) (client ho
   pub cancels : SendsLaterAlone m client start old first now report
   pub records : (bodies : List (List ℕ)) → IsReplicaOn d old before bodies
       → RecordsOfSync d IsDoneStep start old new before after (IsHonest m first client) (m.chain now) bodies
+  pub way : WentToEnd m client host start (state_of old.core) (state_of new.core) first now report
   pub heard : HearsThat m client host first now (λ hs. HeardEnd client hs report)
   pub exchanges : AsksFew m client first now report
 
@@ -161,7 +162,7 @@ RunsOpen d m client host old new before after first now result =
     Since m client host (state_of old.core) first (AsksInVain m client host old first now (reported result))
     (λ start begun. EndsOpen d m client host start old new before after begun now result)
 
--- it ends somewhere, and then sends a snapshot, or not. It does if one was wanted
+-- it ends somewhere, and then sends a snapshot, or not. It does if one was wanted, and else does not
 pub record EndsAndOffers {D L : Type 0} (d : DiskModel D) (m : LinkModel L) (client host : List ℕ) (start : Start) (old new : Replica) (before after : D)
     (first last : L) (result : Result SyncReport SyncError) : Type 0 where
   pub now : L
@@ -169,6 +170,7 @@ pub record EndsAndOffers {D L : Type 0} (d : DiskModel D) (m : LinkModel L) (cli
   pub offers : OffersAfter m client host (state_of new.core) now last result
   pub wanted : IfOk result (λ report. IfWanted m client host (state_of old.core) (state_of new.core) first now
       (OffersState m client host (state_of new.core) now last))
+  pub unwanted : IfOk result (λ report. IfUnwanted m client host first now (last ≡ now))
 
 -- it begins with a question for a snapshot, if it may, and ends in one of its ends from there
 abbrev pub Runs : {D L : Type 0} → DiskModel D → LinkModel L → (client host : List ℕ) → (old new : Replica) (before after : D) (first now : L)

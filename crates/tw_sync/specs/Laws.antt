@@ -14,6 +14,8 @@ use Rattle.tw_path.specs.Path.Leg.{Push}
 use Rattle.tw_path.specs.Sent.{WasSent, left_of_later}
 use Rattle.tw_outcome.specs.Agreement.{Agrees}
 use Rattle.tw_outcome.specs.End.{ServerChain, Went, starts_at}
+pub mod LocalSteps
+pub mod LaterOps
 
 -- nothing is pending of no tasks, and nothing is up to nil
 abbrev pub NewReplicaAgrees : Type 0

@@ -17,8 +17,8 @@ use Rattle.tw_state.specs.State.{State, at_base}
 use Rattle.tw_path.specs.Fold.{IsFold}
 use Rattle.tw_path.specs.Path.{Reached}
 use Rattle.tw_outcome.specs.Start.{IsNewReplica}
-use Rattle.tw_sync.specs.Heard.{Hears, heard}
-use Rattle.tw_sync.specs.Answers.{IsLinkKept, GrowsOn}
+use Rattle.tw_sync.specs.Replies.Heard.{Hears, heard}
+use Rattle.tw_sync.specs.Replies.Answers.{IsLinkKept, GrowsOn}
 
 -- what a sync starts from
 pub data Start : Type 0 where

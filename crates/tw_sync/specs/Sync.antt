@@ -13,11 +13,11 @@ use Rattle.tw_path.specs.Fold.{Reads}
 use Rattle.tw_path.specs.Path.{Reached, Leg, IsPath}
 use Rattle.tw_outcome.specs.End.{ServerChain, Answer, starts_at}
 use Rattle.tw_sync.specs.Start.{Start, from_state, MayStart}
-use Rattle.tw_sync.specs.End.{EndFrom}
-use Rattle.tw_sync.specs.Cursor.{place, LiesIn}
-use Rattle.tw_sync.specs.Moved.{IsStepTo, row_size}
-use Rattle.tw_sync.specs.Heard.{Heard, brought, versions_in}
-use Rattle.tw_sync.specs.Refused.{EndedBy, IsLastReply, GoesOnFrom}
+use Rattle.tw_sync.specs.Ends.End.{EndFrom}
+use Rattle.tw_sync.specs.Way.Cursor.{place, LiesIn}
+use Rattle.tw_sync.specs.Ends.Moved.{IsStepTo, row_size}
+use Rattle.tw_sync.specs.Replies.Heard.{Heard, brought, versions_in}
+use Rattle.tw_sync.specs.Ends.Refused.{EndedBy, IsLastReply, GoesOnFrom}
 use Rattle.tw_sync.specs.declared.report.SyncReport.{SyncReport}
 
 -- what a link tells of its chain

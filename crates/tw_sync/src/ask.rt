@@ -8,13 +8,13 @@ ghost use Rattle.tw_http.specs.declared.message.Request.{Request as HttpRequest}
 ghost use Rattle.tw_http.specs.declared.message.Asked.TheVariants as asked;
 ghost use Rattle.tw_http.specs.declared.message.Request.TheVariants as asks;
 ghost use Rattle.tw_sync.specs.declared.error.AskError.TheVariants as asking;
-ghost use Rattle.tw_sync.specs.Causes.{of_ask};
+ghost use Rattle.tw_sync.specs.Ends.Causes.{of_ask};
 ghost use Rattle.tw_sync.specs.declared.error.ReplyKind.TheVariants as kinds;
-ghost use Rattle.tw_sync.specs.Heard.{HearsOne, HearsUntilThat};
-ghost use Rattle.tw_sync.specs.Refused.{IsWelcome};
-ghost use Rattle.tw_sync.specs.Answers.{IsLinkKept, GrowsOn, ListsOne, ServesOn, MayServeOn};
-ghost use Rattle.tw_sync.specs.Answers.{IsChildAnswer, child_response, child_heard, IsAddAnswer, add_response, add_heard};
-ghost use Rattle.tw_sync.specs.Answers.{HasStatus, IsBadlyAnswered, HeardRefusedAsk, AskRefused, NoReply, AddRefused};
+ghost use Rattle.tw_sync.specs.Replies.Heard.{HearsOne, HearsUntilThat};
+ghost use Rattle.tw_sync.specs.Ends.Refused.{IsWelcome};
+ghost use Rattle.tw_sync.specs.Replies.Answers.{IsLinkKept, GrowsOn, ListsOne, ListsAtMostOne, ServesOn, MayServeOn};
+ghost use Rattle.tw_sync.specs.Replies.Answers.{IsChildAnswer, child_response, child_heard, IsAddAnswer, add_response, add_heard};
+ghost use Rattle.tw_sync.specs.Replies.Answers.{HasStatus, IsBadlyAnswered, HeardRefusedAsk, AskRefused, NoReply, AddRefused};
 
 use crate::error::{AskError, ReplyKind};
 use std::alloc::Global;
@@ -23,7 +23,7 @@ use uuid::Uuid;
 
 /// What the server knows after a version.
 #[derive(Drop)]
-pub(crate) enum ChildAnswer {
+pub enum ChildAnswer {
     /// The version after it, whose id is not nil.
     Found { id: Uuid, segment: Bytes },
     /// There is none.
@@ -43,7 +43,7 @@ pub(crate) enum AddAnswer {
 }
 
 /// Asks for the version after another.
-pub(crate) fn ask_child<L: Link>(
+pub fn ask_child<L: Link>(
     alloc: Global,
     link: &mut L,
     client: Uuid,
@@ -54,6 +54,7 @@ pub(crate) fn ask_child<L: Link>(
     ensures answer { IfOk result (λ answer. IsHonest L.model link.old client → IsChildAnswer L.model link.old link.new parent answer) }
     ensures grows { IsHonest L.model link.old client → GrowsOn L.model link.old link.new client }
     ensures own { IsHonest L.model link.old client → L.model.own link.new ≡ L.model.own link.old }
+    ensures sends { ListsAtMostOne L.model link.old link.new (request_text (asks.Child client parent) host.now) }
     ensures heard { IfOk result (λ answer. HearsOne L.model client host.now link.old link.new (child_heard client parent answer)) }
     ensures welcome { IfOk result (λ answer. IsWelcome (child_heard client parent answer)) }
     ensures refused { IfErr result (AskRefused L.model link.old link.new) }

@@ -3,7 +3,7 @@ ghost use Rattle.std.specs.Prelude.{◌≡◌, ◌≤◌, ◌⊎◌, [], true, f
 ghost use Rattle.tw_groups.specs.Groups.{joined};
 ghost use Rattle.tw_groups.specs.Held.{groups_in};
 ghost use Rattle.tw_path.specs.Walk.{IsPendingThere};
-ghost use Rattle.tw_sync.specs.Refused.{max_pull};
+ghost use Rattle.tw_sync.specs.Ends.Refused.{max_pull};
 
 mod add;
 mod report;

@@ -10,9 +10,9 @@ ghost use Rattle.tw_replica.specs.Replica.{IsLengthKept};
 ghost use Rattle.tw_outcome.specs.Start.{IsNewReplica};
 ghost use Rattle.tw_sync.specs.Start.{IsKnownStart};
 ghost use Rattle.tw_sync.specs.Start.Start.{Base, Snapshot};
-ghost use Rattle.tw_sync.specs.Progress.{Meets, StopsPulling};
+ghost use Rattle.tw_sync.specs.Way.Progress.{Meets, StopsPulling};
 ghost use Rattle.tw_sync.specs.Contract.{AnyEnd, DoneEnd, RefusedEnd, RunsOpen, Runs};
-ghost use Rattle.tw_sync.specs.Offer.{HasLetter};
+ghost use Rattle.tw_sync.specs.Ends.Offer.{HasLetter};
 ghost use Rattle.tw_sync.specs.declared.error.SyncError.TheVariants as errors;
 
 use crate::cursor::Cursor;

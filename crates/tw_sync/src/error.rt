@@ -3,7 +3,7 @@ ghost use Rattle.std.specs.Prelude.{◌≡◌};
 ghost use Rattle.tw_sync.specs.declared.error.SyncError.TheVariants.{Memory as NoMemory};
 ghost use Rattle.tw_sync.specs.declared.error.AskError.TheVariants.{Memory as NoMemoryToAsk};
 ghost use Rattle.tw_sync.specs.declared.error.TakeError.TheVariants.{Memory as NoMemoryToTake};
-ghost use Rattle.tw_sync.specs.Causes.{of_link, of_ask, of_take, of_send, of_record};
+ghost use Rattle.tw_sync.specs.Ends.Causes.{of_link, of_ask, of_take, of_send, of_record};
 
 use std::alloc::AllocError;
 use tw_http::LinkError;

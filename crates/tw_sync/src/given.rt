@@ -3,9 +3,9 @@ ghost use Rattle.std.specs.Prelude.{◌≡◌, IfOk, IfErr, Ok};
 ghost use Rattle.tw_http.specs.Messages.{IsHost};
 ghost use Rattle.tw_http.specs.declared.message.Response.TheVariants as replies;
 ghost use Rattle.tw_sync.specs.declared.error.AskError.TheVariants as asking;
-ghost use Rattle.tw_sync.specs.Given.{Brings, ReadsResponse, ReadsGiven, IsAskedFor, IsUnheard};
-ghost use Rattle.tw_sync.specs.Answers.{AskRefused, NoReply};
-ghost use Rattle.tw_sync.specs.Causes.{of_ask};
+ghost use Rattle.tw_sync.specs.Replies.Given.{Brings, ReadsResponse, ReadsGiven, IsAskedFor, IsUnheard};
+ghost use Rattle.tw_sync.specs.Replies.Answers.{AskRefused, NoReply};
+ghost use Rattle.tw_sync.specs.Ends.Causes.{of_ask};
 
 use crate::ask::exchange;
 use crate::error::AskError;

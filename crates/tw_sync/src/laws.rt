@@ -1,10 +1,11 @@
 //! Laws of chains, positions and ends of a sync. Each function does nothing: its contract is the law.
 ghost use Rattle.tw_sync.specs.Laws.{NewReplicaAgrees, AgreesIsKept, FoldIsOne, PendingActsOnTheFold, AgreeingReplicasAreEqual, SentIsSound};
 ghost use Rattle.tw_sync.specs.Laws.{AddedWasSent};
-ghost use Rattle.tw_sync.specs.LaterOps.{CommitKeepsLaterOps, UndoStaysBehind, SentForFollowing};
-ghost use Rattle.tw_sync.specs.World.{ReachedIsGood, ReachedFollows};
-ghost use Rattle.tw_sync.specs.Positions.{ChainStarts, ChainPulls, ChainFits, ChainPushes, OwnVersionsCancelAt, OwnVersionCancelsIn, OwnVersionsCancelEachTime};
-ghost use Rattle.tw_sync.specs.LocalSteps.{CommitAgrees, UndoAgrees};
+ghost use Rattle.tw_sync.specs.Laws.LaterOps.{CommitKeepsLaterOps, UndoStaysBehind, SentForFollowing};
+ghost use Rattle.tw_sync.specs.Theorem.{ReachedIsGood, ReachedFollows};
+ghost use Rattle.tw_sync.specs.Way.Positions.{ChainStarts, ChainPulls, ChainFits, ChainPushes, OwnVersionsCancelAt, OwnVersionCancelsIn};
+ghost use Rattle.tw_sync.specs.Way.Positions.{OwnVersionsCancelEachTime};
+ghost use Rattle.tw_sync.specs.Laws.LocalSteps.{CommitAgrees, UndoAgrees};
 
 /// A new replica agrees with every chain.
 pub fn a_new_replica_agrees()

@@ -15,6 +15,7 @@ mod pushing;
 mod report;
 mod standing;
 
+pub use ask::{ChildAnswer, ask_child};
 pub use engine::sync;
-pub use error::{ReplyKind, SyncError};
+pub use error::{AskError, ReplyKind, SyncError};
 pub use report::SyncReport;

@@ -5,7 +5,7 @@ ghost use Rattle.tw_protocol.specs.Chain.{same_id};
 ghost use Rattle.tw_model.specs.Ops.{apply_all};
 ghost use Rattle.tw_path.specs.Path.{Reached};
 ghost use Rattle.tw_path.specs.Walk.{StandsAt};
-ghost use Rattle.tw_sync.specs.Offer.{IsLetterOf, IsWantedLetter, IsLetter, OffersOne};
+ghost use Rattle.tw_sync.specs.Ends.Offer.{IsLetterOf, IsWantedLetter, IsLetter, OffersOne};
 
 use crate::cursor::Cursor;
 use crate::report::SyncReport;

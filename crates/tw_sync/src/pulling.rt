@@ -1,7 +1,7 @@
 // Pulling what is after a cursor in the chain.
 ghost use Rattle.std.specs.Prelude.{◌≡◌, ◌<◌, ◌≤◌, true, false, IfOk, OnOk, IfErr};
 ghost use Rattle.tw_http.specs.Messages.{IsHost};
-ghost use Rattle.tw_sync.specs.Progress.{PullsAll, PullsOne, StopsPulling, FindsOne, FindsNoneLate, StopsAsking, PullsLate, StopsLate};
+ghost use Rattle.tw_sync.specs.Way.Progress.{PullsAll, PullsOne, StopsPulling, FindsOne, FindsNoneLate, StopsAsking, PullsLate, StopsLate};
 
 use crate::ask::{ChildAnswer, ask_child};
 use crate::cursor::Cursor;

@@ -7,8 +7,8 @@ ghost use Rattle.tw_groups.specs.Held.{groups_in};
 ghost use Rattle.tw_groups.specs.Cut.{first};
 ghost use Rattle.tw_path.specs.Path.{is_batch};
 ghost use Rattle.tw_path.specs.Batch.{IsFirstBatch};
-ghost use Rattle.tw_sync.specs.Progress.{StopsSending};
-ghost use Rattle.tw_sync.specs.Sending.{IsUnsent, SendsLeft, CountsSent};
+ghost use Rattle.tw_sync.specs.Way.Progress.{StopsSending};
+ghost use Rattle.tw_sync.specs.Way.Sending.{IsUnsent, SendsLeft, CountsSent};
 
 use crate::ask::{AddAnswer, ask_add};
 use crate::cursor::Cursor;

@@ -10,7 +10,7 @@ ghost use Rattle.tw_state.specs.Core.{state_of};
 ghost use Rattle.tw_state.specs.State.{misfit_synced, may_pend};
 ghost use Rattle.tw_replica.specs.Replica.{IsLengthKept, GrowsBy};
 ghost use Rattle.tw_outcome.specs.Start.{IsNewReplica};
-ghost use Rattle.tw_sync.specs.Moved.{done_step, stopped_step, taken_step, MovesBy, LeavesMove, IsNotMoved};
+ghost use Rattle.tw_sync.specs.Ends.Moved.{done_step, stopped_step, taken_step, MovesBy, LeavesMove, IsNotMoved};
 
 use crate::cursor::Cursor;
 use std::alloc::Global;

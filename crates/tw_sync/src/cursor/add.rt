@@ -1,7 +1,7 @@
 // A cursor goes on to a version that was added.
 ghost use Rattle.std.specs.Prelude.{◌≡◌, OnOk};
 ghost use Rattle.tw_path.specs.Batch.{IsFirstBatch};
-ghost use Rattle.tw_sync.specs.Cursor.{AddsVersion};
+ghost use Rattle.tw_sync.specs.Way.Cursor.{AddsVersion};
 
 use crate::cursor::Cursor;
 use std::alloc::Global;

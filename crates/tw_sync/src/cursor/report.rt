@@ -1,6 +1,6 @@
 // What a sync reports that ends at a cursor.
 ghost use Rattle.std.specs.Prelude.{◌≡◌};
-ghost use Rattle.tw_sync.specs.Cursor.{made_report};
+ghost use Rattle.tw_sync.specs.Way.Cursor.{made_report};
 
 use crate::cursor::Cursor;
 use crate::report::SyncReport;

@@ -3,7 +3,7 @@ ghost use Rattle.std.specs.Prelude.{◌≡◌, ◌≤◌, ◌∷◌, [], length,
 ghost use Rattle.tw_model.specs.LocalOps.{plain};
 ghost use Rattle.tw_replica.specs.Replica.{held_state};
 ghost use Rattle.tw_state.specs.State.{State};
-ghost use Rattle.tw_sync.specs.Cursor.{IsAtStart};
+ghost use Rattle.tw_sync.specs.Way.Cursor.{IsAtStart};
 ghost use Rattle.tw_sync.specs.Start.{from_state};
 ghost use Rattle.tw_sync.specs.Start.Start.{Snapshot};
 

@@ -1,7 +1,7 @@
 // A cursor goes on to a version of the chain.
 ghost use Rattle.std.specs.Prelude.{◌≡◌, ◌⊎◌, IfErr, OnOk};
 ghost use Rattle.tw_sync.specs.declared.error.TakeError.TheVariants as taking;
-ghost use Rattle.tw_sync.specs.Cursor.{TakesVersion, IsNotTaken};
+ghost use Rattle.tw_sync.specs.Way.Cursor.{TakesVersion, IsNotTaken};
 
 use crate::cursor::Cursor;
 use crate::error::TakeError;

@@ -3,7 +3,7 @@ use Rattle.tw_http.specs.declared.message.Request.TheVariants.{Add}
 use Rattle.tw_http.specs.declared.message.Asked.TheVariants as asked
 use Rattle.tw_http.specs.Messages.{max_body}
 use Rattle.tw_http.specs.Responses.{IsResponseAnswer}
-use Rattle.tw_sync.specs.Answers.{NoReply, AddRefused, IsAddAnswer, add_response, IsBadlyAnswered}
+use Rattle.tw_sync.specs.Replies.Answers.{NoReply, AddRefused, IsAddAnswer, add_response, IsBadlyAnswered}
 use Rattle.tw_sync.proofs.HonestAnswers.{add_answered, chain_served, add_refused, add_may_own}
 use Rattle.tw_sync.proofs.HeardBadReply.{badly_refused, badly_heard}
 use Rattle.tw_sync.proofs.Results.{if_ok, if_err}

@@ -1,8 +1,8 @@
-use Rattle.std.proofs.Common.{arith, subst, Ok}
+use Rattle.std.proofs.Common.{arith, subst, Ok, inl, inr}
 use Rattle.tw_http.specs.declared.message.Request.TheVariants.{Child}
 use Rattle.tw_http.specs.declared.message.Asked.TheVariants as asked
 use Rattle.tw_http.specs.Responses.{IsResponseAnswer}
-use Rattle.tw_sync.specs.Answers.{child_response, IsBadlyAnswered}
+use Rattle.tw_sync.specs.Replies.Answers.{child_response, IsBadlyAnswered}
 use Rattle.tw_sync.proofs.HonestAnswers.{child_answered, chain_served, child_no_reply}
 use Rattle.tw_sync.proofs.HeardBadReply.{badly_refused, badly_heard}
 use Rattle.tw_sync.proofs.Results.{if_ok, if_err}
@@ -35,3 +35,9 @@ returns-clause-refused_honest g c =
     if_err c.child_answer.result c.child_answer.ensures.refused (λ e bad honest.
     child_no_reply m old new c.args.client c.args.parent c.in_ok-reply.reply.items e (c.in_ok-reply.ensures.served honest (omega arith)) (chain_served m old new c.args.client c.exchange.ensures.kept honest (g.met.L.Link.tells_chain new))
     (subst (λ b. IsBadlyAnswered (Child c.args.client c.args.parent) b e) c.as_slice.ensures.value (bad c.args.client)))
+
+pub returns-in_err-reply-clause-sends : goal.returns-in_err-reply-clause-sends
+returns-in_err-reply-clause-sends g c = λ tells. inl (c.in_err-reply.ensures.unlisted tells)
+
+pub returns-clause-sends : goal.returns-clause-sends
+returns-clause-sends g c = λ tells. inr (c.in_ok-reply.reply.items, c.in_ok-reply.ensures.listed tells)

@@ -1,5 +1,5 @@
 use Rattle.std.proofs.Common.{subst, arith}
-use Rattle.tw_sync.specs.Sending.{Pushes, CountsSent}
+use Rattle.tw_sync.specs.Way.Sending.{Pushes, CountsSent}
 use Rattle.tw_sync.proofs.Results.{passed_on}
 use Rattle.tw_sync.proofs.ReplicaMoved.{nothing_left}
 use Rattle.tw_sync.proofs.engine.meet.Goals as goal

@@ -1,6 +1,6 @@
 use Rattle.std.proofs.Common.{◌≡◌, ◌+◌, ◌-◌, ◌≤◌}
 use Rattle.tw_state.specs.State.{State}
-use Rattle.tw_sync.specs.Progress.{IsPulling, HasPulled}
+use Rattle.tw_sync.specs.Way.Progress.{IsPulling, HasPulled}
 use Rattle.tw_sync.proofs.engine.meet.Given as goal
 
 abbrev pub invariant-loop-alloc : goal.invariant-loop-alloc

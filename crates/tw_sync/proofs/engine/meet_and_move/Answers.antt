@@ -3,7 +3,7 @@ use Rattle.std.specs.Prelude.{option_map}
 use Rattle.tw_protocol.specs.Chain.{same_id}
 use Rattle.tw_state.specs.Core.{state_of}
 use Rattle.tw_replica.specs.declared.error.RecordError.TheVariants as records
-use Rattle.tw_sync.specs.Moved.{done_step, moved_by}
+use Rattle.tw_sync.specs.Ends.Moved.{done_step, moved_by}
 use Rattle.tw_sync.specs.Start.Start.{Base}
 use Rattle.tw_sync.specs.Contract.{DoneEnd}
 use Rattle.tw_sync.specs.declared.error.SyncError.TheVariants as errors

@@ -11,7 +11,7 @@ use Rattle.std.specs.Prelude.{option_map}
 use Rattle.tw_http.specs.Requests.{IsRequestAnswer}
 use Rattle.tw_http.specs.declared.message.Request.TheVariants as asks
 use Rattle.tw_snapshot.specs.Snapshot.{snapshot_text}
-use Rattle.tw_sync.specs.Offer.{StoresTasks, IsLetterFor}
+use Rattle.tw_sync.specs.Ends.Offer.{StoresTasks, IsLetterFor}
 use Rattle.tw_state.specs.Core.{state_of}
 use Rattle.tw_sync.specs.Contract.{Runs}
 use Rattle.tw_sync.proofs.Offering.{runs_sent, runs_silent, runs_refused}
@@ -39,6 +39,7 @@ returns-then-is_closed-clause-runs g c =
         };
         offers = refl;
         wanted = tt;
+        unwanted = tt;
       };
     }
 
@@ -57,6 +58,7 @@ returns-after-done-clause-runs g c =
     elim c.match-done.branch [
       | in-Some w ↦ subst (λ l. Runs g.D.Disk.model g.L.Link.model c.args.client c.args.host.now c.args.replica.now c.sync_open.new.replica c.args.disk.now c.sync_open.new.disk c.args.link.now l (Ok c.in-Ok.done.report)) (sym w.link-is)
           (runs_sent g.D.Disk.model g.L.Link.model c.args.client c.args.host.now c.args.replica.now c.sync_open.new.replica c.args.disk.now c.sync_open.new.disk c.args.link.now now c.in-Ok.done w.offer.new.link
+          (subst (λ o. ¬ (option_map (λ v. v.items) o ≡ None)) (sym w.in-Some.is) (λ none. absurd cc))
           (record {
             nothing = (subst (λ o. IsLetterFor c.args.client c.args.host.now (state_of core) (option_map (λ v. v.items) o)) w.in-Some.is letter).0;
             text = w.as_slice.result.now;

@@ -4,7 +4,7 @@ use Rattle.tw_protocol.specs.Chain.{same_id}
 use Rattle.tw_state.specs.Core.{state_of}
 use Rattle.tw_sync.specs.Start.Start.{Snapshot}
 use Rattle.tw_replica.specs.declared.error.RecordError.TheVariants as records
-use Rattle.tw_sync.specs.Moved.{taken_step, moved_by}
+use Rattle.tw_sync.specs.Ends.Moved.{taken_step, moved_by}
 use Rattle.tw_sync.specs.Contract.{DoneEnd}
 use Rattle.tw_sync.specs.declared.error.SyncError.TheVariants as errors
 use Rattle.tw_sync.proofs.StepTaken.{nothing_grown}

@@ -2,8 +2,8 @@ use Rattle.std.proofs.Common.{◌^◌, None, inl, inr, refl, subst}
 use Rattle.tw_sync.proofs.StepTaken.{nothing_grown}
 use Rattle.tw_replica.proofs.RecordAdded.{nothing_written}
 use Rattle.tw_sync.specs.Start.Start.{Base, Snapshot}
-use Rattle.tw_sync.specs.Given.{IsAskedFor}
-use Rattle.tw_sync.specs.Causes.{of_ask}
+use Rattle.tw_sync.specs.Replies.Given.{IsAskedFor}
+use Rattle.tw_sync.specs.Ends.Causes.{of_ask}
 use Rattle.tw_sync.proofs.GivenFacts.{known_start, honest_before}
 use Rattle.tw_sync.proofs.Unheard.{unheard_any, ask_refused}
 use Rattle.tw_sync.proofs.OpenRuns.{asked_any, no_reply, passed_open, ends_open}

@@ -1,7 +1,7 @@
 use Rattle.std.proofs.Common.{arith, inr, subst, sym}
-use Rattle.tw_sync.specs.Answers.{AskRefused}
-use Rattle.tw_sync.specs.Given.{ReadsGiven, IsUnheard}
-use Rattle.tw_sync.specs.Causes.{of_ask}
+use Rattle.tw_sync.specs.Replies.Answers.{AskRefused}
+use Rattle.tw_sync.specs.Replies.Given.{ReadsGiven, IsUnheard}
+use Rattle.tw_sync.specs.Ends.Causes.{of_ask}
 use Rattle.tw_sync.proofs.Results.{if_ok, if_err, passed_on}
 use Rattle.tw_sync.proofs.GivenFacts.{unheard, asked_for, unread, hears_nothing}
 use Rattle.tw_sync.proofs.given.ask_snapshot.Goals as goal

@@ -1,5 +1,5 @@
 use Rattle.std.proofs.Common.{Ok, Err, subst}
-use Rattle.tw_sync.specs.Given.{ReadsResponse}
+use Rattle.tw_sync.specs.Replies.Given.{ReadsResponse}
 use Rattle.tw_sync.proofs.Results.{if_ok}
 use Rattle.tw_sync.proofs.GivenFacts.{brings_none}
 use Rattle.tw_sync.proofs.given.given_in.Goals as goal

@@ -1,5 +1,5 @@
 use Rattle.std.proofs.Common.{◌≡◌, subst, ◌∙◌}
-use Rattle.tw_sync.specs.Progress.{ends_late, PullsOn}
+use Rattle.tw_sync.specs.Way.Progress.{ends_late, PullsOn}
 use Rattle.tw_sync.proofs.ExpectedReplies.{asks}
 use Rattle.tw_sync.proofs.Results.{passed_on}
 use Rattle.tw_sync.proofs.pulling.pull.Goals as goal

@@ -1,7 +1,7 @@
 use Rattle.std.proofs.Common.{◌≡◌, ◌-◌}
 use Rattle.tw_state.specs.State.{State}
-use Rattle.tw_sync.specs.Refused.{max_pull}
-use Rattle.tw_sync.specs.Progress.{IsPulling}
+use Rattle.tw_sync.specs.Ends.Refused.{max_pull}
+use Rattle.tw_sync.specs.Way.Progress.{IsPulling}
 use Rattle.tw_sync.proofs.pulling.pull.Given as goal
 
 abbrev pub invariant-loop : goal.invariant-loop

@@ -1,8 +1,8 @@
 use Rattle.std.proofs.Common.{◌≡◌, List, ℕ, arith, rules, subst, sym}
 use Rattle.tw_model.specs.Ops.{TasksValue}
 use Rattle.tw_sync.proofs.Results.{passed_on}
-use Rattle.tw_sync.specs.Cursor.{TakesVersion, IsNotTaken}
-use Rattle.tw_sync.specs.Progress.{ends_late}
+use Rattle.tw_sync.specs.Way.Cursor.{TakesVersion, IsNotTaken}
+use Rattle.tw_sync.specs.Way.Progress.{ends_late}
 use Rattle.tw_path.proofs.Reading.{segment_some}
 use Rattle.tw_sync.proofs.OneExchangeMore.{child_is_asked, child_says_truly, pulling_on, pulled_up}
 use Rattle.tw_sync.proofs.PullRefused.{pulling_unasked, pulling_gone, pulling_untaken}

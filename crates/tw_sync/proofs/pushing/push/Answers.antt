@@ -3,8 +3,8 @@ use Rattle.tw_groups.specs.Groups.{Groups, joined}
 use Rattle.tw_groups.specs.Held.{groups_in}
 use Rattle.tw_groups.specs.Cut.{first}
 use Rattle.tw_path.specs.Path.{is_batch}
-use Rattle.tw_sync.specs.Answers.{IsAddAnswer}
-use Rattle.tw_sync.specs.Sending.{IsUnsent}
+use Rattle.tw_sync.specs.Replies.Answers.{IsAddAnswer}
+use Rattle.tw_sync.specs.Way.Sending.{IsUnsent}
 use Rattle.tw_sync.proofs.CursorInChain.{may_push}
 use Rattle.tw_sync.proofs.Results.{passed_on}
 use Rattle.tw_sync.proofs.OneExchangeMore.{add_is_asked}

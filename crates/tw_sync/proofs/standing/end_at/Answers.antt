@@ -6,7 +6,7 @@ use Rattle.tw_state.specs.Core.{state_of}
 use Rattle.tw_replica.specs.Replica.{CarryingRefused}
 use Rattle.tw_replica.specs.declared.error.CommitError.TheVariants as commits
 use Rattle.tw_replica.proofs.RecordAdded.{nothing_written}
-use Rattle.tw_sync.specs.Moved.{done_step, moved_by}
+use Rattle.tw_sync.specs.Ends.Moved.{done_step, moved_by}
 use Rattle.tw_sync.proofs.StepTaken.{leaves_move, same_grown, row_grown, refused_grown}
 use Rattle.tw_sync.proofs.standing.end_at.Goals as goal
 

@@ -12,7 +12,7 @@ use Rattle.tw_model.specs.declared.Op.{Op}
 use Rattle.tw_model.specs.declared.SyncOp.{SyncOp}
 use Rattle.tw_state.specs.State.{may_pend}
 use Rattle.tw_groups.specs.Groups.{pending_on}
-use Rattle.tw_sync.specs.Moved.{stopped_step, moved_by}
+use Rattle.tw_sync.specs.Ends.Moved.{stopped_step, moved_by}
 use Rattle.tw_sync.proofs.StepTaken.{leaves_move, moves_by, not_moved, same_grown, row_grown, refused_grown}
 use Rattle.tw_sync.proofs.standing.stop_at.Goals as goal
 

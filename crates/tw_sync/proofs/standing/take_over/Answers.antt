@@ -4,7 +4,7 @@ use Rattle.tw_state.specs.Core.{state_of}
 use Rattle.tw_replica.proofs.RecordAdded.{nothing_written}
 use Rattle.tw_bodies.specs.Body.{body_of}
 use Rattle.tw_replica.specs.Replica.{taking_over}
-use Rattle.tw_sync.specs.Moved.{taken_step, moved_by}
+use Rattle.tw_sync.specs.Ends.Moved.{taken_step, moved_by}
 use Rattle.tw_sync.proofs.Results.{on_ok, all_on_ok, if_err, either}
 use Rattle.tw_sync.proofs.StepTaken.{same_grown, row_grown, syncing_grown, taking_leaves, taking_moves, taking_refused}
 use Rattle.tw_sync.proofs.standing.take_over.Goals as goal

@@ -2,7 +2,7 @@ use Rattle.std.proofs.Common.{subst, sym}
 use Rattle.tw_world.specs.Memory.{memory_model}
 use Rattle.tw_http.specs.Link.{IsHonest}
 use Rattle.tw_outcome.specs.End.Answer.{Done}
-use Rattle.tw_sync.specs.End.{counts_of}
+use Rattle.tw_sync.specs.Ends.End.{counts_of}
 use Rattle.tw_sync.proofs.Beginnings.{runs_ended, runs_kept}
 use Rattle.tw_generate.specs.Links.{lone_link_model}
 use Rattle.tw_generate.proofs.Machines.{open_after_sync}

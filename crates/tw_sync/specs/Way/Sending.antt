@@ -4,7 +4,7 @@ use Rattle.tw_model.specs.declared.SyncOp.{SyncOp}
 use Rattle.tw_http.specs.Link.{LinkModel}
 use Rattle.tw_segment.specs.Segment.{max_len, segment_text}
 use Rattle.tw_state.specs.State.{State}
-use Rattle.tw_sync.specs.Progress.{HasPulled, IsLate}
+use Rattle.tw_sync.specs.Way.Progress.{HasPulled, IsLate}
 use Rattle.tw_sync.specs.declared.pushing.Sent.{Sent}
 use Rattle.tw_sync.specs.declared.pushing.Sent.TheVariants.{Added, Late}
 use Rattle.tw_sync.specs.declared.cursor.Cursor.{Cursor}

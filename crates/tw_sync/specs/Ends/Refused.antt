@@ -18,7 +18,7 @@ use Rattle.tw_segment.specs.declared.error.SegmentError.TheVariants as segments
 use Rattle.tw_state.specs.Core.{state_of}
 use Rattle.tw_replica.specs.Replica.{IsSame}
 use Rattle.tw_replica.specs.declared.replica.Replica.{Replica}
-use Rattle.tw_sync.specs.Heard.{Heard, versions_of, conflicts_of, conflicts, pulled_bytes}
+use Rattle.tw_sync.specs.Replies.Heard.{Heard, versions_of, conflicts_of, conflicts, pulled_bytes}
 use Rattle.tw_sync.specs.declared.error.ReplyKind.{ReplyKind}
 use Rattle.tw_sync.specs.declared.error.ReplyKind.TheVariants.{Cut, Head, Header, Length, TooLong, Parent, Nil, Status}
 use Rattle.tw_sync.specs.declared.error.SyncError.{SyncError}

@@ -7,12 +7,12 @@ use Rattle.tw_groups.specs.Groups.{joined}
 use Rattle.tw_groups.specs.Cut.{first}
 use Rattle.tw_path.specs.Path.{Leg, IsPath, is_batch, versions_of}
 use Rattle.tw_outcome.specs.End.{starts_at}
-use Rattle.tw_sync.specs.Heard.{Heard, told_in}
-use Rattle.tw_sync.specs.Refused.{EndedBy, IsLastReply}
+use Rattle.tw_sync.specs.Replies.Heard.{Heard, told_in}
+use Rattle.tw_sync.specs.Ends.Refused.{EndedBy, IsLastReply}
 use Rattle.tw_sync.specs.Way.{TellsOf}
-use Rattle.tw_sync.specs.Moved.{done_by, stopped_by, row_size}
+use Rattle.tw_sync.specs.Ends.Moved.{done_by, stopped_by, row_size}
 use Rattle.tw_sync.specs.Start.{Start, from_state}
-use Rattle.tw_sync.specs.Cursor.{place}
+use Rattle.tw_sync.specs.Way.Cursor.{place}
 use Rattle.tw_sync.specs.declared.error.SyncError.{SyncError}
 use Rattle.tw_sync.specs.declared.error.SyncError.TheVariants as errors
 

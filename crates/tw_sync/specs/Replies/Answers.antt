@@ -13,8 +13,8 @@ use Rattle.tw_http.specs.declared.message.Request.TheVariants as asks
 use Rattle.tw_http.specs.declared.message.Response.{Response}
 use Rattle.tw_http.specs.declared.message.Response.TheVariants as replies
 use Rattle.tw_http.specs.declared.message.HttpError.{HttpError}
-use Rattle.tw_sync.specs.Heard.{Heard, heard}
-use Rattle.tw_sync.specs.Refused.{IsBadReply, IsBadOfChain}
+use Rattle.tw_sync.specs.Replies.Heard.{Heard, heard}
+use Rattle.tw_sync.specs.Ends.Refused.{IsBadReply, IsBadOfChain}
 use Rattle.tw_sync.specs.declared.ask.ChildAnswer.{ChildAnswer}
 use Rattle.tw_sync.specs.declared.ask.ChildAnswer.TheVariants.{Found, UpToDate, Gone}
 use Rattle.tw_sync.specs.declared.ask.AddAnswer.{AddAnswer}
@@ -48,6 +48,11 @@ pub record AnsweredAt {L : Type 0} (m : LinkModel L) (old new : L) (at : List Ve
 -- if the link tells its exchanges, one was added: this request, and its reply
 abbrev pub ListsOne : {L : Type 0} → LinkModel L → (old new : L) → (request reply : List ℕ) → Type 0
 ListsOne m old new request reply = IsTrue (m.tells_list old) → m.list new ≡ m.list old ++ record { request = request; reply = reply } ∷ []
+
+-- if the link tells its exchanges, one was added at most: this request, and its reply
+abbrev pub ListsAtMostOne : {L : Type 0} → LinkModel L → (old new : L) → (request : List ℕ) → Type 0
+ListsAtMostOne m old new request =
+    IsTrue (m.tells_list old) → (m.list new ≡ m.list old) ⊎ ((reply : List ℕ) × (m.list new ≡ m.list old ++ record { request = request; reply = reply } ∷ []))
 
 -- over an honest link the reply is the server's, if it reads the request
 abbrev pub ServesOn : {L : Type 0} → LinkModel L → (old new : L) → Request → (reply : List ℕ) → Type 0

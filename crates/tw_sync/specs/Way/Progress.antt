@@ -13,14 +13,15 @@ use Rattle.tw_path.specs.Fold.{Reads}
 use Rattle.tw_path.specs.Path.{Leg, IsPath, versions_of, added_of}
 use Rattle.tw_path.specs.Sent.{PushesBehind}
 use Rattle.tw_outcome.specs.End.{starts_at}
-use Rattle.tw_sync.specs.Heard.{Heard, Hears, HearsUntil, conflicts_of, brought, pulled_bytes, conflicts, wanted_in, versions_in, told_in, most_exchanges}
-use Rattle.tw_sync.specs.Answers.{IsLinkKept, GrowsOn, AnsweredAt}
-use Rattle.tw_sync.specs.Refused.{EndedBy, LeadsOn, EachBringsNext, IsConflict, IsLastReply, HeardRefused, max_pull}
+use Rattle.tw_sync.specs.Replies.Heard.{Heard, Hears, HearsUntil, conflicts_of, brought, pulled_bytes, conflicts, wanted_in, versions_in, told_in}
+use Rattle.tw_sync.specs.Replies.Heard.{most_exchanges}
+use Rattle.tw_sync.specs.Replies.Answers.{IsLinkKept, GrowsOn, AnsweredAt}
+use Rattle.tw_sync.specs.Ends.Refused.{EndedBy, LeadsOn, EachBringsNext, IsConflict, IsLastReply, HeardRefused, max_pull}
 use Rattle.tw_sync.specs.Sync.{server_chain}
-use Rattle.tw_sync.specs.Measured.{IsMeasured}
-use Rattle.tw_sync.specs.Honest.{HonestRefused, RestsOnPulled}
+use Rattle.tw_sync.specs.Replies.Measured.{IsMeasured}
+use Rattle.tw_sync.specs.Ends.Honest.{HonestRefused, RestsOnPulled}
 use Rattle.tw_sync.specs.Way.{TellsOf, WentOn}
-use Rattle.tw_sync.specs.Cursor.{place, IsOnPath, IsIn, LiesIn, GoesFurther}
+use Rattle.tw_sync.specs.Way.Cursor.{place, IsOnPath, IsIn, LiesIn, GoesFurther}
 use Rattle.tw_sync.specs.Start.Start.{Base}
 use Rattle.tw_sync.specs.declared.cursor.Cursor.{Cursor}
 use Rattle.tw_sync.specs.declared.error.SyncError.{SyncError}

@@ -5,8 +5,8 @@ use Rattle.tw_http.specs.Responses.{IsResponseAnswer}
 use Rattle.tw_http.specs.declared.message.Asked.TheVariants as asked
 use Rattle.tw_http.specs.declared.message.Response.{Response}
 use Rattle.tw_http.specs.declared.message.HttpError.{HttpError}
-use Rattle.tw_sync.specs.Heard.{HearsUntil}
-use Rattle.tw_sync.specs.Answers.{IsLinkKept, GrowsOn}
+use Rattle.tw_sync.specs.Replies.Heard.{HearsUntil}
+use Rattle.tw_sync.specs.Replies.Answers.{IsLinkKept, GrowsOn}
 use Rattle.tw_sync.specs.Start.{AsksSnapshot, IsSnapshotOf, BringsNoSnapshot, HasStored}
 use Rattle.tw_sync.specs.declared.given.Given.{Given}
 use Rattle.tw_sync.specs.declared.error.SyncError.{SyncError}

@@ -1,4 +1,4 @@
--- Machines that share one chain through a server, and what befalls them.
+-- The theorem on all worlds: machines that share one chain through a server, what befalls them, and what is then true of each.
 use Rattle.std.specs.Prelude.{◌≡◌, ◌⊎◌, ℕ, ◌≤◌, Bool, true, false, List, [], ◌∷◌, ◌++◌, length, Option, Some, None}
 use Rattle.std.specs.List.{AllByRecursion}
 use Rattle.uuid.specs.Parts.{zero_bytes}

@@ -9,8 +9,8 @@ use Rattle.tw_http.specs.declared.message.Request.TheVariants as asks
 use Rattle.tw_snapshot.specs.Snapshot.{snapshot_text, text_within, snapshot_of}
 use Rattle.tw_state.specs.State.{State}
 use Rattle.tw_path.specs.Path.{Reached}
-use Rattle.tw_sync.specs.Heard.{HearsThat, wanted_in}
-use Rattle.tw_sync.specs.Answers.{IsLinkKept, GrowsOn}
+use Rattle.tw_sync.specs.Replies.Heard.{HearsThat, wanted_in}
+use Rattle.tw_sync.specs.Replies.Answers.{IsLinkKept, GrowsOn}
 use Rattle.tw_sync.specs.declared.offer.Done.{Done}
 use Rattle.tw_sync.specs.declared.report.SyncReport.{SyncReport}
 use Rattle.tw_sync.specs.declared.error.SyncError.{SyncError}
@@ -31,11 +31,11 @@ abbrev pub IsLetterOf : (client host version : List ℕ) → TasksValue → Opti
 IsLetterOf client host version tasks None = text_within tasks ≡ None
 IsLetterOf client host version tasks (Some text) = StoresTasks client host version tasks text
 
--- there is one of this place, unless none is wanted, or the place is at this base
+-- if one is wanted, and the place is not at this base, there is one of this place, or its text is too long. Else there is none
 abbrev pub IsWantedLetter : (client host : List ℕ) → (wanted : Bool) → (base : List ℕ) → Reached → Option (List ℕ) → Type 0
 IsWantedLetter client host wanted base r letter =
     ((letter ≡ None) × ((wanted ≡ false) ⊎ (same_id r.at base ≡ true)))
-    ⊎ ((same_id r.at base ≡ false) × IsLetterOf client host r.at r.tasks letter)
+    ⊎ ((wanted ≡ true) × (same_id r.at base ≡ false) × IsLetterOf client host r.at r.tasks letter)
 
 -- there is one of this state, in which nothing is pending, or none
 abbrev pub IsLetterFor : (client host : List ℕ) → State → Option (List ℕ) → Type 0
@@ -51,10 +51,15 @@ pub record MayBeSent (honest : Type 0) (old new : State) : Type 0 where
 abbrev pub IfWanted : {L : Type 0} → LinkModel L → (client host : List ℕ) → (old new : State) (first now : L) → Type 0 → Type 0
 IfWanted m client host old new first now P = HearsThat m client host first now (λ hs. wanted_in hs ≡ true → MayBeSent (IsHonest m first client) old new → P)
 
+-- if no reply asked for a snapshot, it is so
+abbrev pub IfUnwanted : {L : Type 0} → LinkModel L → (client host : List ℕ) → (first now : L) → Type 0 → Type 0
+IfUnwanted m client host first now P = HearsThat m client host first now (λ hs. wanted_in hs ≡ false → P)
+
 -- the request with the snapshot that is to be sent after a sync
 pub record HasLetter {L : Type 0} (m : LinkModel L) (client host : List ℕ) (old new : State) (first now : L) (letter : Option (List ℕ)) : Type 0 where
   pub letter_is : IsLetterFor client host new letter
   pub wanted : IfWanted m client host old new first now (¬ (letter ≡ None))
+  pub unwanted : IfUnwanted m client host first now (letter ≡ None)
 
 -- what a sync reports that is done
 abbrev pub reported : Result Done SyncError → Result SyncReport SyncError

@@ -18,11 +18,11 @@ use Rattle.tw_groups.specs.Cut.{first}
 use Rattle.tw_path.specs.Path.{Leg, IsPath, is_batch, versions_of}
 use Rattle.tw_outcome.specs.Agreement.{Agrees}
 use Rattle.tw_outcome.specs.End.{ServerChain, starts_at}
-use Rattle.tw_sync.specs.Cursor.{place, pulled_len, IsIn}
-use Rattle.tw_sync.specs.Heard.{HearsThat, versions_in}
-use Rattle.tw_sync.specs.Refused.{max_pull}
+use Rattle.tw_sync.specs.Way.Cursor.{place, pulled_len, IsIn}
+use Rattle.tw_sync.specs.Replies.Heard.{HearsThat, versions_in}
+use Rattle.tw_sync.specs.Ends.Refused.{max_pull}
 use Rattle.tw_sync.specs.Sync.{server_chain}
-use Rattle.tw_sync.specs.Moved.{done_by, stopped_by, row_size}
+use Rattle.tw_sync.specs.Ends.Moved.{done_by, stopped_by, row_size}
 use Rattle.tw_sync.specs.Start.{Start, from_state}
 use Rattle.tw_sync.specs.Way.{TellsOf}
 use Rattle.tw_sync.specs.declared.error.ReplyKind.TheVariants.{Status}

@@ -13,7 +13,7 @@ use Rattle.tw_path.specs.Path.{Reached, Leg, come, IsPath, versions_of, added_of
 use Rattle.tw_path.specs.Path.Leg.{Pull, Push}
 use Rattle.tw_path.specs.Walk.{StandsAt, GoesOverPull, GoesOverPush}
 use Rattle.tw_outcome.specs.End.{starts_at}
-use Rattle.tw_sync.specs.Refused.{max_pull}
+use Rattle.tw_sync.specs.Ends.Refused.{max_pull}
 use Rattle.tw_sync.specs.declared.report.SyncReport.{SyncReport}
 use Rattle.tw_sync.specs.declared.cursor.Cursor.{Cursor}
 use Rattle.tw_sync.specs.declared.error.TakeError.{TakeError}
