@@ -11,14 +11,12 @@ use Rattle.tw_urgency.specs.declared.status.Status.{Status}
 use Rattle.tw_urgency.specs.declared.status.Status.TheVariants as status
 use Rattle.tw_terms.specs.Scenes.{Scene}
 use Rattle.tw_words.specs.Lines.{Parts}
-use Rattle.tw_words.specs.Changed.{changed}
-use Rattle.tw_settings.specs.declared.word_error.WordError.{WordError}
+use Rattle.tw_words.specs.Readings.{taken}
 use Rattle.tw_words.specs.declared.command.Command.{Command}
 use Rattle.tw_words.specs.declared.command.Command.TheVariants as command
-use Rattle.tw_words.proofs.KeptModified.{IsKept, changed_kept}
+use Rattle.tw_words.proofs.KeptModified.{taken_kept}
 use Rattle.tw_changes.specs.Marks.{sign_of}
 use Rattle.tw_changes.specs.Spaced.{rest_text}
-use Rattle.tw_changes.specs.Worded.{or_same}
 use Rattle.tw_changes.specs.Effects.Append.{appended, prepended}
 use Rattle.tw_changes.specs.Effects.Annotate.{annotation_at, free_second}
 use Rattle.tw_changes.specs.Effects.Denotate.{first_second, or_else, without_annotation}
@@ -38,10 +36,6 @@ abbrev pub Keeps : (p : List ℕ) → (before after : TaskValue) → Type 0
 Keeps p before after = get after p ≡ get before p
 
 -- ---- effects
-
-or_same_kept : (task : TaskValue) (r : Result TaskValue WordError) → IsKept task r → Keeps modified task (or_same task r)
-or_same_kept task (Ok after) is = is
-or_same_kept task (Err e) is = refl
 
 -- a task that is left keeps the property
 abbrev pub IsKeptBy : (p : List ℕ) → TaskValue → Effect → Type 0
@@ -105,8 +99,8 @@ annotation_kept task None = tt
 annotation_kept task (Some second) = get-set_at_apart task (annotation_at second) None modified refl
 
 -- a task keeps its `modified`, before it is stamped
-pub effect_kept : (c : Command) (scene : Scene) (line : Parts) (now : Moment) (task : TaskValue) → IsKeptBy modified task (effect_of c scene line now task)
-effect_kept command.Modify scene line now task = or_same_kept task (changed scene line task) (changed_kept scene line task)
+pub effect_kept : (c : Command) (scene : Scene) (line : Parts) (now : Moment) (task : TaskValue) → IsKeptBy modified task (effect_of c (taken scene line) line now task)
+effect_kept command.Modify scene line now task = taken_kept scene line task
 effect_kept command.Append scene line now task = get-set_at_apart task (codes "description") (Some (appended (rest_text line) (get task (codes "description")))) modified refl
 effect_kept command.Prepend scene line now task = get-set_at_apart task (codes "description") (Some (prepended (rest_text line) (get task (codes "description")))) modified refl
 effect_kept command.Annotate scene line now task = get-set_at_apart task (annotation_at (free_second (len task) task now.seconds)) (Some (rest_text line)) modified refl
@@ -119,7 +113,7 @@ effect_kept command.Stop scene line now task = pending_kept task (status_of task
 effect_kept _ scene line now task = tt
 
 -- a task that ends by a command that marks its template keeps its own mask
-pub mask_kept : (c : Command) (sign : Sign) (scene : Scene) (line : Parts) (now : Moment) (task : TaskValue) → sign_of c ≡ Some sign → IsKeptBy (codes "mask") task (effect_of c scene line now task)
+pub mask_kept : (c : Command) (sign : Sign) (scene : Scene) (line : Parts) (now : Moment) (task : TaskValue) → sign_of c ≡ Some sign → IsKeptBy (codes "mask") task (effect_of c (taken scene line) line now task)
 mask_kept command.Done sign scene line now task is = done_kept (codes "mask") now task refl refl refl (status_of task now.seconds)
 mask_kept command.Delete sign scene line now task is = delete_kept (codes "mask") now task refl refl refl (status_of task now.seconds)
 mask_kept _ sign scene line now task is = absurd cc

@@ -1,16 +1,14 @@
 -- The words of a line that was judged are taken.
-use Rattle.std.proofs.Common.{◌≡◌, ◌∙◌, ap, sym, subst, Option, Result, Ok}
-use Rattle.tw_model.specs.Ops.{TaskValue}
+use Rattle.std.proofs.Common.{◌≡◌, ◌∙◌, ap, sym, subst, List, Option, Result, Ok}
 use Rattle.tw_terms.specs.declared.bad_word.BadWord.{BadWord}
-use Rattle.tw_words.specs.Changed.{changed}
-use Rattle.tw_words.specs.Unnamed.{IsRefusedAt}
-use Rattle.tw_settings.specs.declared.word_error.WordError.{WordError}
-use Rattle.tw_words.proofs.UnnamedWords.{changes_where_named}
-use Rattle.tw_changes.specs.Worded.{or_same, WordsAreTaken}
+use Rattle.tw_words.specs.Readings.{modifications, or_none}
+use Rattle.tw_words.specs.declared.changes.modification.Modification.{Modification}
+use Rattle.tw_words.proofs.UnnamedWords.{IsReadAt, read_where_named}
+use Rattle.tw_changes.specs.Worded.{WordsAreTaken}
 
-is_made : (task : TaskValue) (made : Result TaskValue WordError) → (x : TaskValue) × (made ≡ Ok x) → made ≡ Ok (or_same task made)
-is_made task made there = there.1 ∙ ap (λ r. Ok (or_same task r)) (sym there.1)
+is_read : (r : Result (List Modification) BadWord) → (ms : List Modification) × (r ≡ Ok ms) → r ≡ Ok (or_none r)
+is_read r there = there.1 ∙ ap (λ x. Ok (or_none x)) (sym there.1)
 
 pub words_taken : WordsAreTaken
-words_taken scene line task filter by judged named =
-    is_made task (changed scene line task) (subst (λ (o : Option BadWord). IsRefusedAt o (changed scene line task)) named (changes_where_named scene line task filter by judged))
+words_taken scene line filter by judged named =
+    is_read (modifications scene line) (subst (λ (o : Option BadWord). IsReadAt o (modifications scene line)) named (read_where_named scene line filter by judged))

@@ -1,7 +1,6 @@
 // What each command that acts on selected tasks makes of them.
 ghost use Rattle.std.specs.Prelude.{◌≡◌, ◌++◌, IfOk, OnOk};
 ghost use Rattle.std.specs.FinMap as map;
-ghost use Rattle.tw_terms.specs.Scenes.{scene_of};
 ghost use Rattle.tw_changes.specs.Spaced.{rest_text};
 ghost use Rattle.tw_changes.specs.Effects.{change_at, changes_by};
 ghost use Rattle.tw_changes.specs.Editing as spec;
@@ -16,9 +15,8 @@ use crate::effects::start::{start, stop};
 use crate::effects::{Effect, push_change};
 use crate::request::Request;
 use std::alloc::Global;
-use tw_model::{Change, TaskMap};
-use tw_terms::View;
-use tw_words::Command;
+use tw_model::{Change, TaskMap, Tasks};
+use tw_words::{Command, Modification};
 use tw_world::Memory;
 use uuid::Uuid;
 
@@ -26,16 +24,16 @@ use uuid::Uuid;
 fn effect_of(
     alloc: Global,
     request: &Request<'_>,
+    words: &Vec<Modification>,
     text: &str,
-    view: &View<'_>,
     task: &TaskMap,
 ) -> Result<Effect, Memory>
     requires { text.now ≡ rest_text request.now.line }
-    ensures { IfOk result (λ effect. effect ≡ spec.effect_by request.now (scene_of view.entry.now) task.now) }
+    ensures { IfOk result (λ effect. effect ≡ spec.effect_by request.now words.now.items task.now) }
 {
     let now = request.at;
     match request.command {
-        Command::Modify => modify(alloc, &request.line, view, task),
+        Command::Modify => modify(alloc, words, task),
         Command::Append => append(alloc, text, task),
         Command::Prepend => prepend(alloc, text, task),
         Command::Annotate => annotate(alloc, now, text, task),
@@ -54,17 +52,18 @@ fn change_one(
     alloc: Global,
     changes: &mut Vec<Change>,
     request: &Request<'_>,
+    words: &Vec<Modification>,
     text: &str,
-    view: &View<'_>,
+    tasks: &Tasks,
     uuid: Uuid,
 ) -> Result<(), Memory>
     requires { text.now ≡ rest_text request.now.line }
-    ensures { let scene = scene_of view.entry.now in OnOk result (changes.new.items
-        ≡ changes.old.items ++ change_at (spec.effect_by request.now scene) request.now.at uuid (map.get scene.tasks uuid)) }
+    ensures { OnOk result (changes.new.items
+        ≡ changes.old.items ++ change_at (spec.effect_by request.now words.now.items) request.now.at uuid (map.get tasks.now uuid)) }
 {
-    match view.tasks.get(uuid) {
+    match tasks.get(uuid) {
         Some(task) => {
-            let effect = effect_of(alloc, request, text, view, task)?;
+            let effect = effect_of(alloc, request, words, text, task)?;
             push_change(alloc, changes, request.at, uuid, task, effect)
         }
         None => Ok(()),
@@ -75,17 +74,18 @@ fn change_one(
 pub fn changes_by(
     alloc: Global,
     request: &Request<'_>,
+    words: &Vec<Modification>,
     text: &str,
-    view: &View<'_>,
+    tasks: &Tasks,
     rows: &Vec<Uuid>,
 ) -> Result<Vec<Change>, Memory>
     requires { text.now ≡ rest_text request.now.line }
-    ensures { let scene = scene_of view.entry.now in IfOk result (λ changes. changes.items
-        ≡ changes_by (spec.effect_by request.now scene) request.now.at scene.tasks rows.now.items) }
+    ensures { IfOk result (λ changes. changes.items
+        ≡ changes_by (spec.effect_by request.now words.now.items) request.now.at tasks.now rows.now.items) }
 {
     let mut changes = Vec::new(alloc);
     for uuid in rows {
-        change_one(alloc, &mut changes, request, text, view, *uuid)?;
+        change_one(alloc, &mut changes, request, words, text, tasks, *uuid)?;
     }
     Ok(changes)
 }

@@ -2,7 +2,7 @@
 ghost use Rattle.tw_changes.specs.Circles.{LeadsWhereAPathLeads};
 ghost use Rattle.tw_changes.specs.Worded.{WordsAreTaken};
 
-/// The words of a line that was judged are taken, where they name tasks: none of them leaves a task as it was.
+/// The words of a line that was judged are taken, if they name tasks: none of them is wrong.
 pub fn words_are_taken()
     ensures { WordsAreTaken }
 {}

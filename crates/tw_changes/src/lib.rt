@@ -13,7 +13,6 @@ mod marks;
 mod refusal;
 mod request;
 mod spacing;
-mod worded;
 
 pub use circles::{first_circle, is_judged};
 pub use editing::changes_by;

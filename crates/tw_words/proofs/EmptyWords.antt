@@ -5,7 +5,8 @@ use Rattle.tw_terms.specs.declared.bad_word.WordKind.{WordKind}
 use Rattle.tw_terms.specs.declared.bad_word.WordKind.TheVariants as bad
 use Rattle.tw_words.specs.Lines.{Parts}
 use Rattle.tw_words.specs.Modifications.{Clock, unless, is_plain, is_add, tag_of, pair_of, text_fault, untagged_fault, tagged_fault}
-use Rattle.tw_words.specs.Changed.{Draft, unless_wrong, clock_in, tag_or_pair, with_word, going_on_behind, with_words, has_empty}
+use Rattle.tw_words.specs.Readings.{unless_wrong, clock_in, tag_or_pair, with_word, going_on_behind, with_words, has_empty}
+use Rattle.tw_words.specs.declared.changes.modification.Modification.{Modification}
 
 -- ---- words
 
@@ -23,7 +24,7 @@ tagged_same : (clock : Clock) (adding sole plain : Bool) (word : List ℕ) (tag 
 tagged_same clock adding sole plain word None some = untagged_same clock adding sole word (pair_of plain word) some
 tagged_same clock adding sole plain word (Some x) some = refl
 
-word_same : (scene : Scene) (adding sole plain : Bool) (m : Draft) (word : List ℕ) → (length word == 0) ≡ false → with_word scene adding false plain m word ≡ with_word scene adding sole plain m word
+word_same : (scene : Scene) (adding sole plain : Bool) (m : List Modification) (word : List ℕ) → (length word == 0) ≡ false → with_word scene adding false plain m word ≡ with_word scene adding sole plain m word
 word_same scene adding sole plain m word some =
     ap (λ fault. unless_wrong fault (tag_or_pair scene adding plain m word (tag_of plain word))) (tagged_same (clock_in scene) adding sole plain word (tag_of plain word) some)
 
@@ -31,19 +32,19 @@ neither : (a b : Bool) → (a || b) ≡ false → (a ≡ false) × (b ≡ false)
 neither true b e = absurd cc
 neither false b e = (refl, e)
 
-words_same : (scene : Scene) (sole : Bool) (line : Parts) (m : Draft) (n : ℕ) (words : List (List ℕ)) → has_empty words ≡ false → with_words scene false line m n words ≡ with_words scene sole line m n words
+words_same : (scene : Scene) (sole : Bool) (line : Parts) (m : List Modification) (n : ℕ) (words : List (List ℕ)) → has_empty words ≡ false → with_words scene false line m n words ≡ with_words scene sole line m n words
 words_same scene sole line m n [] some = refl
 words_same scene sole line m n (word ∷ words) some =
     let parts = neither (length word == 0) (has_empty words) some in
     ap (λ made. going_on_behind line n made (λ d. with_words scene false line d (n + 1) words)) (word_same scene (is_add line.command) sole (is_plain line n) m word parts.0)
     ∙ on (with_word scene (is_add line.command) sole (is_plain line n) m word) (λ d. words_same scene sole line d (n + 1) words parts.1)
   where
-    on : (made : Result Draft WordKind) → ((d : Draft) → with_words scene false line d (n + 1) words ≡ with_words scene sole line d (n + 1) words)
+    on : (made : Result (List Modification) WordKind) → ((d : List Modification) → with_words scene false line d (n + 1) words ≡ with_words scene sole line d (n + 1) words)
         → going_on_behind line n made (λ d. with_words scene false line d (n + 1) words) ≡ going_on_behind line n made (λ d. with_words scene sole line d (n + 1) words)
     on (Ok d) same = same d
     on (Err kind) same = refl
 
-pub sole_if_empty : (scene : Scene) (sole : Bool) (line : Parts) (m : Draft) (n : ℕ) (words : List (List ℕ)) → with_words scene (has_empty words && sole) line m n words ≡ with_words scene sole line m n words
+pub sole_if_empty : (scene : Scene) (sole : Bool) (line : Parts) (m : List Modification) (n : ℕ) (words : List (List ℕ)) → with_words scene (has_empty words && sole) line m n words ≡ with_words scene sole line m n words
 sole_if_empty scene sole line m n words = by (has_empty words) refl
   where
     by : (b : Bool) → has_empty words ≡ b → with_words scene (b && sole) line m n words ≡ with_words scene sole line m n words

@@ -4,6 +4,7 @@ pub mod Places
 pub mod Modifications
 pub mod Faults
 pub mod Clocks
+pub mod Readings
 pub mod Changed
 pub mod Makes
 pub mod Unnamed

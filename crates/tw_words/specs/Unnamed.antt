@@ -10,7 +10,8 @@ use Rattle.tw_terms.specs.declared.token.Token.{Token}
 use Rattle.tw_words.specs.Lines.{Parts}
 use Rattle.tw_words.specs.Commands.{rest_of}
 use Rattle.tw_words.specs.Modifications.{is_plain, is_add, tag_of, pair_of, field_named, at_word, first_of, rest_words, unless}
-use Rattle.tw_words.specs.Changed.{part_task, changed}
+use Rattle.tw_words.specs.Readings.{part_task}
+use Rattle.tw_words.specs.Changed.{changed}
 use Rattle.tw_words.specs.Faults.{judged}
 use Rattle.tw_words.specs.declared.command.Rest.TheVariants as rest
 use Rattle.tw_words.specs.declared.changes.field.Field.{Field}

@@ -14,7 +14,6 @@ ghost use Rattle.tw_settings.specs.Gives.{Gives};
 
 pub(crate) mod fault;
 pub(crate) mod tally;
-pub(crate) mod unnamed;
 
 use crate::changes::modification::number_at;
 use crate::clock::Clock;
@@ -278,7 +277,7 @@ fn filter_of(alloc: Global, line: &Line, now: Moment, zone: &Zone) -> Result<Fil
 }
 
 /// The filter of a line, or the first word that is wrong whatever the tasks are, by its number among the words taken. Left is
-/// what `first_unnamed` judges.
+/// whether words name tasks, which `read_changes` judges.
 pub fn judge_line(alloc: Global, line: &Line, now: Moment, zone: &Zone) -> Result<Filter, WordError>
     ensures { Gives (λ filter. filter) result (judged line.now now.seconds zone.now) }
 {

@@ -11,10 +11,11 @@ pub mod laws;
 mod line;
 mod link;
 
-pub use changes::changed;
+pub use changes::modification::Modification;
+pub use changes::reading::read_changes;
+pub use changes::{apply, changed};
 pub use clock::Clock;
 pub use command::{AnyCommand, Command, Filtering, Rest};
-pub use judging::unnamed::first_unnamed;
 pub use judging::{fault_of, judge_line, read_line};
 pub use line::{Line, cut_words};
 pub use link::link_address;

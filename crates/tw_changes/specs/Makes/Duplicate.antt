@@ -5,10 +5,9 @@ use Rattle.tw_world.specs.declared.Moment.{Moment}
 use Rattle.tw_world.specs.declared.ids.IdWords.{IdWords}
 use Rattle.tw_model.specs.Maps.{set_at}
 use Rattle.tw_model.specs.Ops.{TaskValue, TasksValue}
-use Rattle.tw_terms.specs.Scenes.{Scene}
-use Rattle.tw_words.specs.Lines.{Parts}
+use Rattle.tw_words.specs.Changed.{applied}
+use Rattle.tw_words.specs.declared.changes.modification.Modification.{Modification}
 use Rattle.tw_changes.specs.Request.{drawn, after_draw}
-use Rattle.tw_changes.specs.Worded.{worded}
 use Rattle.tw_changes.specs.Makes.{made_task}
 use Rattle.tw_changes.specs.declared.refusal.Refusal.{Refusal}
 use Rattle.tw_changes.specs.declared.refusal.Refusal.TheVariants.{IdTaken}
@@ -23,8 +22,8 @@ abbrev pub left_off : List (List ℕ)
 left_off = codes "start" ∷ codes "end" ∷ codes "mask" ∷ codes "imask" ∷ codes "parent" ∷ codes "recur" ∷ []
 
 -- a copy of a task, made at this moment
-abbrev pub copied : Scene → Parts → Moment → TaskValue → TaskValue
-copied scene line now task = worded scene line (made_task now (codes "pending") (without left_off task))
+abbrev pub copied : List Modification → Moment → TaskValue → TaskValue
+copied ms now task = applied ms (made_task now (codes "pending") (without left_off task))
 
 -- the copies that were made, or why there are none, and the identifiers that are left
 pub record Copies : Type 0 where
@@ -52,9 +51,9 @@ copies_of copy ids tasks made (u ∷ us) =
     (copies_of copy (after_draw ids) tasks (insert made (drawn ids) (copy task)) us))
     (copies_of copy ids tasks made us)
 
--- the same of what is looked at and a line
-abbrev pub copies_beside : Scene → Parts → Moment → IdWords → (made : TasksValue) → List (List ℕ) → Copies
-copies_beside scene line now ids made us = copies_of (copied scene line now) ids scene.tasks made us
+-- the same of modifications
+abbrev pub copies_beside : List Modification → Moment → IdWords → (tasks made : TasksValue) → List (List ℕ) → Copies
+copies_beside ms now ids tasks made us = copies_of (copied ms now) ids tasks made us
 
 -- copies, or the uuid that was drawn for one and is taken
 abbrev pub taken_or : Result TasksValue (List ℕ) → Result TasksValue Refusal

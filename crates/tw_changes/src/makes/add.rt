@@ -1,15 +1,12 @@
 // `add` and `log`: the task that they make.
 ghost use Rattle.std.specs.Prelude.{◌≡◌, IfOk};
-ghost use Rattle.tw_terms.specs.Scenes.{scene_of};
 ghost use Rattle.tw_changes.specs.Makes.Add as spec;
 
 use crate::effects::put_second;
 use crate::makes::made_task;
-use crate::worded::worded;
 use std::alloc::Global;
 use tw_model::TaskMap;
-use tw_terms::View;
-use tw_words::Line;
+use tw_words::{Modification, apply};
 use tw_world::{Memory, Moment};
 
 /// Whether a task recurs.
@@ -31,18 +28,18 @@ fn as_template(alloc: Global, task: TaskMap) -> Result<TaskMap, Memory>
 }
 
 /// The task that `add` makes.
-pub fn added(alloc: Global, line: &Line, view: &View<'_>, now: Moment) -> Result<TaskMap, Memory>
-    ensures { IfOk result (λ task. task ≡ spec.added (scene_of view.entry.now) line.now now) }
+pub fn added(alloc: Global, words: &Vec<Modification>, now: Moment) -> Result<TaskMap, Memory>
+    ensures { IfOk result (λ task. task ≡ spec.added words.now.items now) }
 {
     let task = made_task(alloc, now, "pending", TaskMap::new(alloc))?;
-    as_template(alloc, worded(alloc, line, view, &task)?)
+    as_template(alloc, apply(alloc, words, &task)?)
 }
 
 /// The task that `log` makes.
-pub fn logged(alloc: Global, line: &Line, view: &View<'_>, now: Moment) -> Result<TaskMap, Memory>
-    ensures { IfOk result (λ task. task ≡ spec.logged (scene_of view.entry.now) line.now now) }
+pub fn logged(alloc: Global, words: &Vec<Modification>, now: Moment) -> Result<TaskMap, Memory>
+    ensures { IfOk result (λ task. task ≡ spec.logged words.now.items now) }
 {
     let mut task = made_task(alloc, now, "completed", TaskMap::new(alloc))?;
     put_second(alloc, &mut task, "end", now)?;
-    worded(alloc, line, view, &task)
+    apply(alloc, words, &task)
 }

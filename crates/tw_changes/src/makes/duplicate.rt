@@ -2,17 +2,14 @@
 ghost use Rattle.std.specs.Prelude.{◌≡◌, List, ℕ, ◌∷◌, None, Some, IfOk, OnOk, false};
 ghost use Rattle.std.specs.FinMap as map;
 ghost use Rattle.tw_model.specs.Maps.{set_at};
-ghost use Rattle.tw_terms.specs.Scenes.{scene_of};
 ghost use Rattle.tw_changes.specs.Makes.Duplicate as spec;
 ghost use Rattle.tw_changes.specs.Makes.Duplicate.{copied, copies_beside};
 
 use crate::makes::made_task;
 use crate::request::draw;
-use crate::worded::worded;
 use std::alloc::Global;
 use tw_model::{TaskMap, Tasks};
-use tw_terms::View;
-use tw_words::Line;
+use tw_words::{Modification, apply};
 use tw_world::{IdWords, Memory, Moment};
 use uuid::Uuid;
 
@@ -45,15 +42,14 @@ fn left_off(alloc: Global, task: &TaskMap) -> Result<TaskMap, Memory>
 // A copy of a task, made at this moment.
 fn copied(
     alloc: Global,
-    line: &Line,
-    view: &View<'_>,
+    words: &Vec<Modification>,
     now: Moment,
     task: &TaskMap,
 ) -> Result<TaskMap, Memory>
-    ensures { IfOk result (λ copy. copy ≡ copied (scene_of view.entry.now) line.now now task.now) }
+    ensures { IfOk result (λ copy. copy ≡ copied words.now.items now task.now) }
 {
     let copy = made_task(alloc, now, "pending", left_off(alloc, task)?)?;
-    worded(alloc, line, view, &copy)
+    apply(alloc, words, &copy)
 }
 
 // Whether a uuid has a task already, or was drawn before.
@@ -75,45 +71,45 @@ fn put_copy(tasks: &Tasks, made: &mut Tasks, uuid: Uuid, copy: TaskMap) -> Resul
 // Copies the task of a uuid, if it has one. Answers the uuid that was drawn if that is taken.
 fn copy_one(
     alloc: Global,
-    line: &Line,
-    view: &View<'_>,
+    words: &Vec<Modification>,
+    tasks: &Tasks,
     now: Moment,
     ids: &mut IdWords,
     made: &mut Tasks,
     uuid: Uuid,
 ) -> Result<Option<Uuid>, Memory>
-    ensures goes_on { let copies = copies_beside (scene_of view.entry.now) line.now now in IfOk result (λ taken. taken ≡ None
-        → (us : List (List ℕ)) → copies ids.old made.old (uuid ∷ us) ≡ copies ids.new made.new us) }
-    ensures stops { let copies = copies_beside (scene_of view.entry.now) line.now now in IfOk result (λ taken. (d : List ℕ) → taken ≡ Some d
-        → (us : List (List ℕ)) → copies ids.old made.old (uuid ∷ us) ≡ spec.stopped d ids.new) }
+    ensures goes_on { let copies = copies_beside words.now.items now in IfOk result (λ taken. taken ≡ None
+        → (us : List (List ℕ)) → copies ids.old tasks.now made.old (uuid ∷ us) ≡ copies ids.new tasks.now made.new us) }
+    ensures stops { let copies = copies_beside words.now.items now in IfOk result (λ taken. (d : List ℕ) → taken ≡ Some d
+        → (us : List (List ℕ)) → copies ids.old tasks.now made.old (uuid ∷ us) ≡ spec.stopped d ids.new) }
 {
-    let Some(task) = view.tasks.get(uuid) else {
+    let Some(task) = tasks.get(uuid) else {
         return Ok(None);
     };
     let new = draw(ids);
-    if is_taken(view.tasks, made, new) {
+    if is_taken(tasks, made, new) {
         return Ok(Some(new));
     }
-    let copy = copied(alloc, line, view, now, task)?;
-    put_copy(view.tasks, made, new, copy)?;
+    let copy = copied(alloc, words, now, task)?;
+    put_copy(tasks, made, new, copy)?;
     Ok(None)
 }
 
 /// Copies of the tasks of these uuids, or the uuid that was drawn and is taken.
 pub fn copies(
     alloc: Global,
-    line: &Line,
-    view: &View<'_>,
+    words: &Vec<Modification>,
+    tasks: &Tasks,
     now: Moment,
     ids: &mut IdWords,
     rows: &Vec<Uuid>,
 ) -> Result<Result<Tasks, Uuid>, Memory>
     ensures { IfOk result (λ made. spec.copies_view made ids.new
-        ≡ copies_beside (scene_of view.entry.now) line.now now ids.old map.empty rows.now.items) }
+        ≡ copies_beside words.now.items now ids.old tasks.now map.empty rows.now.items) }
 {
     let mut made = Tasks::new(alloc);
     for uuid in rows {
-        if let Some(taken) = copy_one(alloc, line, view, now, ids, &mut made, *uuid)? {
+        if let Some(taken) = copy_one(alloc, words, tasks, now, ids, &mut made, *uuid)? {
             return Ok(Err(taken));
         }
     }

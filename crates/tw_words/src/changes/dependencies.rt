@@ -4,11 +4,13 @@ ghost use Rattle.uuid.specs.Text.{hyphenated_text, lower};
 ghost use Rattle.tw_terms.specs.Cuts.{parts};
 ghost use Rattle.tw_terms.specs.Scenes.{scene_of};
 ghost use Rattle.tw_urgency.specs.Dependencies.{dependency_in};
-ghost use Rattle.tw_words.specs.Changed.{dependency_on, if_task, task_named, task_in, named_out, dependency_out, part_task};
-ghost use Rattle.tw_words.specs.Changed.{set_to, with_items, without_dependencies, dependencies};
+ghost use Rattle.tw_words.specs.Readings.{dependency_on, if_task, task_named, task_in, named_out, dependency_out, part_task};
+ghost use Rattle.tw_words.specs.Readings.{with_one, set_to, with_items};
+ghost use Rattle.tw_words.specs.Changed.{without_dependencies, dependencies};
 ghost use Rattle.tw_words.specs.Makes.{Makes};
 
 use crate::changes::depends_part::{Named, item_in, takes_out};
+use crate::changes::modification::{Modification, set_to};
 use std::alloc::Global;
 use tw_model::{TaskMap, uuid_of};
 use tw_terms::{KindError, View, WordKind, cut_part};
@@ -86,37 +88,26 @@ pub(crate) fn part_task(view: &View<'_>, part: &str) -> Option<Uuid>
     }
 }
 
-/// Puts a property in with an empty value, or takes it out.
-pub(crate) fn set_to(
+fn push_item(
     alloc: Global,
-    task: &mut TaskMap,
+    changes: &mut Vec<Modification>,
     wanted: bool,
-    name: &str,
+    uuid: Uuid,
 ) -> Result<(), Memory>
-    ensures { OnOk result (task.new ≡ set_to task.old wanted name.now) }
-{
-    if wanted {
-        task.set(alloc, name, Some(""))
-    } else {
-        task.set(alloc, name, None)
-    }
-}
-
-fn put_item(alloc: Global, task: &mut TaskMap, wanted: bool, uuid: Uuid) -> Result<(), Memory>
-    ensures { OnOk result (task.new ≡ set_to task.old wanted (dependency_on uuid)) }
+    ensures { OnOk result (changes.new.items ≡ with_one changes.old.items (set_to wanted (dependency_on uuid))) }
 {
     let name = dependency_on(alloc, uuid)?;
-    set_to(alloc, task, wanted, name.as_str())
+    set_to(alloc, changes, wanted, name.as_str())
 }
 
-/// Puts the dependencies that a value names in, or takes them out.
-pub(crate) fn put_items(
+/// Asks for the dependencies that a value names, or for none on them.
+pub(crate) fn push_items(
     alloc: Global,
-    task: &mut TaskMap,
+    changes: &mut Vec<Modification>,
     view: &View<'_>,
     value: &str,
 ) -> Result<(), KindError>
-    ensures { Makes result (with_items (scene_of view.entry.now) task.old (parts 44 value.now)) task.new }
+    ensures { Makes result (with_items (scene_of view.entry.now) changes.old.items (parts 44 value.now)) changes.new.items }
 {
     let mut left = Some(value);
     while let Some(text) = left {
@@ -124,7 +115,7 @@ pub(crate) fn put_items(
         let Some(uuid) = part_task(view, part) else {
             return Err(KindError::Bad(WordKind::Id));
         };
-        put_item(alloc, task, !takes_out(part), uuid)?;
+        push_item(alloc, changes, !takes_out(part), uuid)?;
         left = rest;
     }
     Ok(())

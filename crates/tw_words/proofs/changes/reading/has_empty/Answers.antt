@@ -1,8 +1,8 @@
 use Rattle.std.proofs.Common.{◌+◌, drop}
-use Rattle.tw_words.specs.Changed.{has_empty}
+use Rattle.tw_words.specs.Readings.{has_empty}
 use Rattle.tw_words.specs.Modifications.{rest_words}
 use Rattle.tw_words.proofs.EmptyWords.{first_empty, later_empty}
-use Rattle.tw_words.proofs.changes.has_empty.Goals as goal
+use Rattle.tw_words.proofs.changes.reading.has_empty.Goals as goal
 
 pub returns-then-is_empty : goal.returns-then-is_empty
 returns-then-is_empty c =
