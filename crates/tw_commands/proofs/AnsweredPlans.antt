@@ -6,7 +6,7 @@ use Rattle.tw_commands.specs.Plan.Work.{Changes, TakeBack}
 use Rattle.tw_commands.specs.Asks.{answered_all, answered_work, answered_with}
 use Rattle.tw_changes.specs.declared.refusal.Refusal.{Refusal}
 
-unanswered : (tasks : TasksValue) (work : Work) → answered_work [] tasks work ≡ work
+pub unanswered : (tasks : TasksValue) (work : Work) → answered_work [] tasks work ≡ work
 unanswered tasks (Changes renumber changes marks) = refl
 unanswered tasks TakeBack = refl
 

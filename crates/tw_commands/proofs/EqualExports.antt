@@ -24,7 +24,7 @@ use Rattle.tw_filter.specs.Evaluation.{Standing, beginning, standing, value, who
 use Rattle.tw_filter.specs.Selected.{with_token_for, holds_there, selected}
 use Rattle.tw_export.specs.Export.{export_text}
 use Rattle.tw_settings.specs.Weights.{weights}
-use Rattle.tw_words.specs.Unnamed.{first_unnamed}
+use Rattle.tw_words.specs.Readings.{first_bad}
 use Rattle.tw_words.specs.declared.command.Command.{Command}
 use Rattle.tw_words.specs.declared.command.Command.TheVariants.{Export}
 use Rattle.tw_commands.specs.Request.{scene_in, selected_in}
@@ -32,7 +32,7 @@ use Rattle.tw_commands.specs.Plan.{Work, step_in}
 use Rattle.tw_commands.specs.Plan.Show.{Text}
 use Rattle.tw_commands.specs.Looks.{looking}
 use Rattle.tw_commands.specs.Asks.{answered_with}
-use Rattle.tw_commands.specs.Commands.{plan_by, unless_unnamed}
+use Rattle.tw_commands.specs.Commands.{plan_by, unless_bad}
 use Rattle.tw_commands.specs.Carried.{Carried, circle_in, unless_circle, with_text, then_concluded, carried_by}
 use Rattle.tw_commands.specs.Laws.{IsCarriedOut}
 use Rattle.tw_commands.specs.Exports.{is_of_numbers, asks_number, has_number, HasNoNumbers, SelectsByTasks, ExportAlike, ExportsAreEqual}
@@ -108,7 +108,7 @@ is_looked_at request old text (a ∷ answers) c e =
     is_shown request old work text (step_in request.at old work) (applied old (step_in request.at old work)) c e
 
 is_named : (request : Request) (old : State) (text : List ℕ) (answers : List TaskValue) (bad : Option BadWord) (c : Carried)
-    → carried_by request old (answered_with answers old.tasks (unless_unnamed bad (Ok (looking text)))) ≡ Ok c → c.text ≡ text
+    → carried_by request old (answered_with answers old.tasks (unless_bad bad (Ok (looking text)))) ≡ Ok c → c.text ≡ text
 is_named request old text answers None c e = is_looked_at request old text answers c e
 is_named request old text [] (Some b) c e = absurd cc
 is_named request old text (a ∷ answers) (Some b) c e = absurd cc
@@ -120,9 +120,9 @@ exported request state = export_text (selected_in request state) state.tasks req
 is_exported : (request : Request) (ids : IdWords) (answers : List TaskValue) (old : State) (c : Carried) → request.command ≡ Export
     → IsCarriedOut request ids answers old c → c.text ≡ exported request old
 is_exported request ids answers old c exports e =
-    let bad = first_unnamed (scene_in request old) request.line in
+    let bad = first_bad (scene_in request old) request.line in
     is_named request old (exported request old) answers bad c
-    (subst (λ (k : Command). carried_by request old (answered_with answers old.tasks (unless_unnamed bad (plan_by k request ids old))) ≡ Ok c) exports e)
+    (subst (λ (k : Command). carried_by request old (answered_with answers old.tasks (unless_bad bad (plan_by k request ids old))) ≡ Ok c) exports e)
 
 -- what an export of a scene prints
 abbrev printed : Scene → List Token → Coefficients → List ℕ

@@ -19,7 +19,7 @@ use Rattle.tw_state.specs.State.{State, applied}
 use Rattle.tw_terms.specs.declared.bad_word.BadWord.{BadWord}
 use Rattle.tw_report.specs.declared.report.Report.{Report as AnyReport}
 use Rattle.tw_report.specs.declared.report.Report.TheVariants as report
-use Rattle.tw_words.specs.Unnamed.{first_unnamed}
+use Rattle.tw_words.specs.Readings.{first_bad}
 use Rattle.tw_words.specs.declared.command.Command.{Command}
 use Rattle.tw_words.specs.declared.command.Command.TheVariants as command
 use Rattle.tw_changes.specs.Stamps.{stamped}
@@ -28,9 +28,9 @@ use Rattle.tw_commands.specs.Plan.{Plan, Work, Show, step_in}
 use Rattle.tw_commands.specs.Plan.Show.{Created, Logged}
 use Rattle.tw_commands.specs.Plan.Work.{Changes, TakeBack}
 use Rattle.tw_changes.specs.Request.{drawn}
-use Rattle.tw_commands.specs.Request.{scene_in, selected_in}
+use Rattle.tw_commands.specs.Request.{scene_in, selected_in, words_in}
 use Rattle.tw_changes.specs.Effects.{change_by, change_at, changes_by}
-use Rattle.tw_commands.specs.Commands.{acting, effect_in, editing, plan_by, plan_of, unless_unnamed}
+use Rattle.tw_commands.specs.Commands.{acting, effect_in, editing, plan_by, plan_of, unless_bad}
 use Rattle.tw_commands.specs.Makes.{making}
 use Rattle.tw_changes.specs.Makes.Add.{added, logged}
 use Rattle.tw_changes.specs.Makes.Duplicate.{copied}
@@ -47,6 +47,7 @@ use Rattle.tw_commands.specs.declared.plan.Deed.{Deed}
 use Rattle.tw_commands.specs.declared.plan.Deed.TheVariants as deed
 use Rattle.tw_changes.specs.declared.request.Request.{Request}
 use Rattle.tw_changes.specs.declared.refusal.Refusal.{Refusal}
+use Rattle.tw_commands.proofs.AnswersAsShown.{as_shown}
 use Rattle.tw_commands.proofs.Applied.{by_plan}
 use Rattle.tw_changes.proofs.KeptProperties.{Keeps, IsKeptBy, effect_kept, mask_kept}
 use Rattle.tw_commands.proofs.OtherTasks.{IsButMask, AreMarked, all_marked, none_marked, tasks_are}
@@ -221,8 +222,8 @@ module _ (request : Request) (old : State) (u : List ℕ) (before : TaskValue) (
 
   plan_is : (c : Command) (ids : IdWords) → brings_moments c ≡ false → IsPlan (plan_by c request ids old)
   plan_is command.Add ids own =
-      making_is (Created (drawn ids)) (drawn ids) (added (scene_in request old) request.line request.at) (get old.tasks (drawn ids)) refl
-  plan_is command.Log ids own = making_is Logged (drawn ids) (logged (scene_in request old) request.line request.at) (get old.tasks (drawn ids)) refl
+      making_is (Created (drawn ids)) (drawn ids) (added (words_in request old) request.at) (get old.tasks (drawn ids)) refl
+  plan_is command.Log ids own = making_is Logged (drawn ids) (logged (words_in request old) request.at) (get old.tasks (drawn ids)) refl
   plan_is command.Modify ids own = editing_is deed.Modified
   plan_is command.Append ids own = editing_is deed.Modified
   plan_is command.Prepend ids own = editing_is deed.Modified
@@ -234,7 +235,7 @@ module _ (request : Request) (old : State) (u : List ℕ) (before : TaskValue) (
   plan_is command.Start ids own = editing_is deed.Started
   plan_is command.Stop ids own = editing_is deed.Stopped
   plan_is command.Duplicate ids own =
-      duplicated_is (copies_in request ids old).made (copies_new old (copied (scene_in request old) request.line request.at) (selected_in request old) ids empty (nothing_new old))
+      duplicated_is (copies_in request ids old).made (copies_new old (copied (words_in request old) request.at) (selected_in request old) ids empty (nothing_new old))
   plan_is command.Undo ids own = absurd cc
   plan_is command.Import ids own = absurd cc
   plan_is command.Count ids own = looks
@@ -251,7 +252,7 @@ module _ (request : Request) (old : State) (u : List ℕ) (before : TaskValue) (
   plan_is command.Waiting ids own = reporting_is report.Waiting
   plan_is command.Blocked ids own = reporting_is report.Blocked
 
-  named_is : (o : Option BadWord) (planned : Result Plan Refusal) → IsPlan planned → IsPlan (unless_unnamed o planned)
+  named_is : (o : Option BadWord) (planned : Result Plan Refusal) → IsPlan planned → IsPlan (unless_bad o planned)
   named_is None planned is = is
   named_is (Some bad) planned is = tt
 
@@ -266,8 +267,8 @@ module _ (request : Request) (old : State) (u : List ℕ) (before : TaskValue) (
   after_is (Ok plan) c is e = work_is plan.work c.new is (by_plan request old plan c e)
 
 pub modified_exactly : ModifiedMovesExactly
-modified_exactly request ids old c u before after carried own there left =
+modified_exactly request ids answers old c u before after carried shown own there left =
     let planned = plan_of request ids old in
-    let is = named_is request old u before there (first_unnamed (scene_in request old) request.line) (plan_by request.command request ids old) (plan_is request old u before there request.command ids own) in
+    let is = named_is request old u before there (first_bad (scene_in request old) request.line) (plan_by request.command request ids old) (plan_is request old u before there request.command ids own) in
     exactly request.at before after
-    (subst (IsIf (IsExact request.at before)) left (after_is request old u before there planned c is carried))
+    (subst (IsIf (IsExact request.at before)) left (after_is request old u before there planned c is (sym (as_shown request ids old answers shown) ∙ carried)))

@@ -1,5 +1,6 @@
 pub mod Applied
 mod AnsweredPlans
+pub mod AnswersAsShown
 mod RefusedSteps
 pub mod Copies
 pub mod OtherTasks

@@ -1,5 +1,5 @@
 -- The tasks that a command does not act on.
-use Rattle.std.proofs.Common.{◌≡◌, ◌∙◌, ap, sym, refl, subst, ℕ, Bool, true, false, cond, ◌||◌, List, [], ◌∷◌, ◌++◌, length, map, Option, Some, None, Ok, codes, is_some}
+use Rattle.std.proofs.Common.{◌≡◌, ◌∙◌, ap, sym, refl, subst, ℕ, Bool, true, false, cond, List, [], ◌∷◌, ◌++◌, length, map, Option, Some, None, Result, Ok, codes, is_some}
 use Rattle.std.proofs.lemmas.Cmp.{nat_list_cmp_total}
 use Rattle.std.proofs.lemmas.List.{nil_from_length}
 use Rattle.std.proofs.lemmas.Option.{same_Some}
@@ -12,7 +12,7 @@ use Rattle.std.specs.declared.cmp.Ordering.TheVariants.{Less, Equal, Greater}
 use Rattle.std.specs.Ordering.{eq_by_cmp}
 use Rattle.std.specs.Cmp.Lexicographic.{texts_ties}
 use Rattle.tw_world.specs.declared.Moment.{Moment}
-use Rattle.tw_model.specs.Maps.{bytes_cmp, same_bytes, set_at}
+use Rattle.tw_model.specs.Maps.{bytes_cmp, same_bytes}
 use Rattle.tw_model.specs.Ops.{TaskValue, TasksValue}
 use Rattle.tw_model.specs.LocalOps.{same_task, apply_all_local}
 use Rattle.tw_model.specs.Changes.{changed, changed_all, ops_of_all, group_of}
@@ -24,15 +24,15 @@ use Rattle.tw_bodies.specs.Body.Step.{Commit}
 use Rattle.tw_state.specs.State.{State, applied, is_idle, misfit, unless, moved_to}
 use Rattle.tw_state.proofs.CommittedChanges.{idle_same}
 use Rattle.tw_state.proofs.OthersUnchanged.{not_first, not_second}
-use Rattle.tw_changes.specs.Stamps.{stamped}
 use Rattle.tw_changes.specs.Marks.{with_sign, with_mark_in, with_mark, marks_of, first_there, put_marked, mark_one, mark_all, stamped_from, mask_change, mask_changes}
-use Rattle.tw_commands.specs.Plan.{step_in}
+use Rattle.tw_commands.specs.Plan.{Plan, Work, Show, step_in}
 use Rattle.tw_commands.specs.Plan.Work.{Changes}
 use Rattle.tw_commands.specs.Plan.Show.{Counted}
 use Rattle.tw_commands.specs.Request.{selected_in}
 use Rattle.tw_changes.specs.Effects.{change_by, change_at, changes_by}
 use Rattle.tw_commands.specs.Commands.{acting}
 use Rattle.tw_commands.specs.Commands.{effect_in}
+use Rattle.tw_commands.specs.Asks.{answered_all, answered_work, answered_with}
 use Rattle.tw_commands.specs.Carried.{Carried, carried_by}
 use Rattle.tw_commands.specs.Laws.{value_of, IsSameButMask, OthersStay}
 use Rattle.tw_changes.specs.declared.effects.Effect.{Effect}
@@ -40,27 +40,29 @@ use Rattle.tw_changes.specs.declared.effects.Effect.TheVariants.{Nothing, Become
 use Rattle.tw_changes.specs.declared.marks.Mark.{Mark}
 use Rattle.tw_commands.specs.declared.plan.Deed.{Deed}
 use Rattle.tw_changes.specs.declared.request.Request.{Request}
+use Rattle.tw_changes.specs.declared.refusal.Refusal.{Refusal}
 use Rattle.tw_commands.proofs.Applied.{by_plan}
+use Rattle.tw_commands.proofs.AnsweredPlans.{answered_is}
+use Rattle.tw_commands.proofs.WhatChangesLeave.{AreApart, both_leave, left_so, answered_leave, is_apart}
 use Rattle.tw_commands.proofs.TakenBack.{where_it_fits}
 
 -- ---- the changes of tasks that are selected
 
-kept_by : (now : Moment) (v u : List ℕ) (task : TaskValue) (effect : Effect) (t : TasksValue) → same_bytes u v ≡ false → get (changed_all t (change_by now v task effect)) u ≡ get t u
-kept_by now v u task Nothing t apart = refl
-kept_by now v u task (Becomes after) t apart = get-set_at_apart t v (Some (stamped now task after)) u apart
-kept_by now v u task Removed t apart = get-set_at_apart t v None u apart
+apart_by : (now : Moment) (v u : List ℕ) (task : TaskValue) (effect : Effect) → same_bytes u v ≡ false → AreApart u (change_by now v task effect)
+apart_by now v u task Nothing apart = tt
+apart_by now v u task (Becomes after) apart = (is_apart u v apart, tt)
+apart_by now v u task Removed apart = (is_apart u v apart, tt)
 
-kept_at : (effect : TaskValue → Effect) (now : Moment) (v u : List ℕ) (there : Option TaskValue) (t : TasksValue) → same_bytes u v ≡ false → get (changed_all t (change_at effect now v there)) u ≡ get t u
-kept_at effect now v u None t apart = refl
-kept_at effect now v u (Some task) t apart = kept_by now v u task (effect task) t apart
+apart_at : (effect : TaskValue → Effect) (now : Moment) (v u : List ℕ) (there : Option TaskValue) → same_bytes u v ≡ false → AreApart u (change_at effect now v there)
+apart_at effect now v u None apart = tt
+apart_at effect now v u (Some task) apart = apart_by now v u task (effect task) apart
 
-kept : (effect : TaskValue → Effect) (now : Moment) (tasks t : TasksValue) (us : List (List ℕ)) (u : List ℕ) → list_any (same_bytes u) us ≡ false → get (changed_all t (changes_by effect now tasks us)) u ≡ get t u
-kept effect now tasks t [] u apart = refl
-kept effect now tasks t (v ∷ us) u apart =
-    let here = change_at effect now v (get tasks v) in
-    ap (λ (m : TasksValue). get m u) (changed_all-append t here (changes_by effect now tasks us))
-    ∙ kept effect now tasks (changed_all t here) us u (not_second (same_bytes u v) (list_any (same_bytes u) us) apart)
-    ∙ kept_at effect now v u (get tasks v) t (not_first (same_bytes u v) (list_any (same_bytes u) us) apart)
+all_apart : (effect : TaskValue → Effect) (now : Moment) (tasks : TasksValue) (us : List (List ℕ)) (u : List ℕ) → list_any (same_bytes u) us ≡ false → AreApart u (changes_by effect now tasks us)
+all_apart effect now tasks [] u apart = tt
+all_apart effect now tasks (v ∷ us) u apart =
+    both_leave (λ o. ⊥) u (change_at effect now v (get tasks v)) (changes_by effect now tasks us)
+    (apart_at effect now v u (get tasks v) (not_first (same_bytes u v) (list_any (same_bytes u) us) apart))
+    (all_apart effect now tasks us u (not_second (same_bytes u v) (list_any (same_bytes u) us) apart))
 
 -- ---- the masks of templates
 
@@ -197,15 +199,29 @@ acting_applies deed request old [] marks c e = absurd cc
 acting_applies deed request old (change ∷ changes) marks c e =
     by_plan request old (record { work = Changes false (change ∷ changes) marks; show = Counted deed (length (change ∷ changes)) }) c e
 
+-- the same if hooks answer
+answered_applies : (deed : Deed) (request : Request) (answers : List TaskValue) (old : State) (changes : List Change) (marks : List Mark) (c : Carried)
+    → carried_by request old (answered_with answers old.tasks (acting deed changes marks)) ≡ Ok c
+    → applied old (step_in request.at old (Changes false (answered_all answers old.tasks changes) marks)) ≡ Some c.new
+answered_applies deed request [] old [] marks c e = absurd cc
+answered_applies deed request (answer ∷ answers) old [] marks c e = absurd cc
+answered_applies deed request answers old (change ∷ changes) marks c e =
+    let work : Work = Changes false (change ∷ changes) marks in
+    let show : Show = Counted deed (length (change ∷ changes)) in
+    by_plan request old (record { work = answered_work answers old.tasks work; show = show }) c
+    (sym (ap (carried_by request old) (answered_is answers old.tasks (record { work = work; show = show }))) ∙ e)
+
 pub others_stay : OthersStay
-others_stay request ids old c deed u carried acts apart =
+others_stay request ids answers old c deed u carried acts apart =
     let now = request.at in
-    let changes : List Change = changes_by (effect_in request old) now old.tasks (selected_in request old) in
-    let marks : List Mark = marks_of request.command old.tasks changes in
+    let planned : List Change = changes_by (effect_in request old) now old.tasks (selected_in request old) in
+    let changes : List Change = answered_all answers old.tasks planned in
+    let marks : List Mark = marks_of request.command old.tasks planned in
     let middle : TasksValue = changed_all old.tasks changes in
     let masks : List Change = mask_changes now middle marks in
-    let applies = acting_applies deed request old changes marks c (sym (ap (carried_by request old) acts) ∙ carried) in
+    let applies = answered_applies deed request answers old planned marks c (sym (ap (λ (p : Result Plan Refusal). carried_by request old (answered_with answers old.tasks p)) acts) ∙ carried) in
     let made : c.new.tasks ≡ changed_all middle masks = tasks_are false (changes ++ masks) now old c.new applies ∙ changed_all-append old.tasks changes masks in
-    let stays : get middle u ≡ get old.tasks u = kept (effect_in request old) now old.tasks old.tasks (selected_in request old) u apart in
+    let leaves = answered_leave (λ o. o ≡ get old.tasks u) u answers old.tasks planned (all_apart (effect_in request old) now old.tasks (selected_in request old) u apart) in
+    let stays : get middle u ≡ get old.tasks u = left_so (λ o. o ≡ get old.tasks u) u changes old.tasks leaves refl in
     subst (λ (t : TasksValue). IsSameButMask (get old.tasks u) (get t u)) (sym made)
     (subst (λ (o : Option TaskValue). IsSameButMask o (get (changed_all middle masks) u)) stays (masks_stay now middle marks u))

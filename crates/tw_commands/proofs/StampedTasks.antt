@@ -1,5 +1,5 @@
 -- What a command changes has its moment.
-use Rattle.std.proofs.Common.{◌≡◌, ◌∙◌, ap, sym, refl, subst, ℕ, Bool, true, false, cond, List, [], ◌∷◌, ◌++◌, map, Option, Some, None, Ok, codes, is_some, ◌⊎◌, inl, inr}
+use Rattle.std.proofs.Common.{◌≡◌, ◌∙◌, ap, sym, refl, subst, ℕ, Bool, true, false, cond, List, [], ◌∷◌, ◌++◌, map, Option, Some, None, codes, is_some, inl, inr}
 use Rattle.std.specs.Fmt.{decimal}
 use Rattle.std.specs.FinMap.{get, insert, empty, entries}
 use Rattle.tw_world.specs.declared.Moment.{Moment}
@@ -21,6 +21,7 @@ use Rattle.tw_commands.specs.Laws.{IsStamped, ChangesAreStamped}
 use Rattle.tw_changes.specs.declared.effects.Effect.{Effect}
 use Rattle.tw_changes.specs.declared.effects.Effect.TheVariants.{Nothing, Becomes, Removed}
 use Rattle.tw_changes.specs.declared.marks.Mark.{Mark}
+use Rattle.tw_commands.proofs.AnswersAsShown.{as_shown}
 use Rattle.tw_commands.proofs.OtherTasks.{AreMarked, all_marked, none_marked, tasks_are, acting_applies}
 
 -- ---- one task
@@ -86,13 +87,13 @@ masks_stamped now first tasks t (e ∷ es) u all before so_far =
     (λ same. again now first (get tasks e.0) e.1 all.0.there (subst (λ (v : List ℕ). IsStamped now first (get tasks v)) same before)) so_far)
 
 pub changes_stamped : ChangesAreStamped
-changes_stamped request ids old c deed u carried acts =
+changes_stamped request ids answers old c deed u carried shown acts =
     let now = request.at in
     let changes : List Change = changes_by (effect_in request old) now old.tasks (selected_in request old) in
     let marks : List Mark = marks_of request.command old.tasks changes in
     let middle : TasksValue = changed_all old.tasks changes in
     let masks : List Change = mask_changes now middle marks in
-    let applies = acting_applies deed request old changes marks c (sym (ap (carried_by request old) acts) ∙ carried) in
+    let applies = acting_applies deed request old changes marks c (sym (ap (carried_by request old) acts) ∙ sym (as_shown request ids old answers shown) ∙ carried) in
     let made : c.new.tasks ≡ changed_all middle masks = tasks_are false (changes ++ masks) now old c.new applies ∙ changed_all-append old.tasks changes masks in
     let before : IsStamped now (get old.tasks u) (get middle u) = all_stamped (effect_in request old) now old.tasks old.tasks (selected_in request old) u (as_it_was now (get old.tasks u)) in
     subst (λ (t : TasksValue). IsStamped now (get old.tasks u) (get t u)) (sym made)

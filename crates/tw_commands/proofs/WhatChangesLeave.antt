@@ -7,11 +7,12 @@ use Rattle.tw_model.specs.Maps.{bytes_cmp, same_bytes}
 use Rattle.tw_model.specs.Ops.{TaskValue, TasksValue}
 use Rattle.tw_model.specs.Changes.{changed, changed_all}
 use Rattle.tw_model.specs.declared.Change.{Change}
-use Rattle.tw_model.proofs.Maps.{same_bytes_exact, get-set_at}
+use Rattle.tw_model.proofs.Maps.{same_bytes_exact, same_bytes_itself, get-set_at}
 use Rattle.tw_numbers.proofs.FirstPlaces.{AreFound}
 use Rattle.tw_recur.specs.Instances.{made_changes}
 use Rattle.tw_recur.proofs.Once.{IsNew}
 use Rattle.tw_changes.specs.Marks.{mask_change, mask_changes}
+use Rattle.tw_commands.specs.Asks.{is_asked_in, answered_all}
 use Rattle.tw_commands.specs.Makes.Duplicate.{change_of}
 
 -- each change of this uuid leaves such a task, or none
@@ -30,6 +31,34 @@ left_so P u (c ∷ cs) tasks each so_far = left_so P u cs (changed tasks c) each
     by : (b : Bool) → same_bytes u c.uuid ≡ b → P (cond b c.task (get tasks u))
     by true same = each.0 (same_bytes_exact u c.uuid same)
     by false apart = so_far
+
+-- ---- changes that are apart from a uuid
+
+-- no change is of this uuid
+abbrev pub AreApart : List ℕ → List Change → Type 0
+AreApart u cs = EachLeaves (λ o. ⊥) u cs
+
+apart_leave : (P : Option TaskValue → Type 0) (u : List ℕ) (cs : List Change) → AreApart u cs → EachLeaves P u cs
+apart_leave P u [] apart = tt
+apart_leave P u (c ∷ cs) apart = (λ same. absurd (apart.0 same), apart_leave P u cs apart.1)
+
+-- whatever hooks answer
+pub answered_leave : (P : Option TaskValue → Type 0) (u : List ℕ) (answers : List TaskValue) (tasks : TasksValue) (cs : List Change) → AreApart u cs
+    → EachLeaves P u (answered_all answers tasks cs)
+answered_leave P u [] tasks cs apart = apart_leave P u cs apart
+answered_leave P u (answer ∷ answers) tasks [] apart = tt
+answered_leave P u (answer ∷ answers) tasks (c ∷ cs) apart =
+    by (is_asked_in tasks c) (answered_leave P u answers tasks cs apart.1) (answered_leave P u (answer ∷ answers) tasks cs apart.1)
+  where
+    by : (t : Bool) → EachLeaves P u (answered_all answers tasks cs) → EachLeaves P u (answered_all (answer ∷ answers) tasks cs)
+        → EachLeaves P u (cond t (record { uuid = c.uuid; task = Some answer } ∷ answered_all answers tasks cs) (c ∷ answered_all (answer ∷ answers) tasks cs))
+    by true taken left = (λ same. absurd (apart.0 same), taken)
+    by false taken left = (λ same. absurd (apart.0 same), left)
+
+pub is_apart : (u v : List ℕ) → same_bytes u v ≡ false → u ≡ v → ⊥
+is_apart u v apart same = let is : same_bytes u v ≡ true = ap (same_bytes u) (sym same) ∙ same_bytes_itself u in absurd cc
+
+-- ---- what changes without marks leave
 
 no_entries : entries {X = TaskValue} {R = bytes_cmp} empty ≡ []
 no_entries = nil_from_length (entries {X = TaskValue} {R = bytes_cmp} empty) (sym (len-entries {X = TaskValue} {R = bytes_cmp} empty) ∙ len-empty bytes_cmp TaskValue)

@@ -1,5 +1,5 @@
 -- What a command comes to, in a replica of some state: its step, the state after it, and its text, or why it does nothing.
-use Rattle.std.specs.Prelude.{ℕ, cond, List, [], drop, length, Option, Some, None, Result, Ok, Err}
+use Rattle.std.specs.Prelude.{ℕ, cond, List, [], ◌∷◌, drop, length, Option, Some, None, Result, Ok, Err}
 use Rattle.tw_world.specs.declared.ids.IdWords.{IdWords}
 use Rattle.tw_model.specs.Ops.{TaskValue}
 use Rattle.tw_bodies.specs.Body.{Step}
@@ -57,3 +57,8 @@ asked_in request ids old = asked_by request old (plan_of request ids old)
 -- what a request comes to, by the uuids that are drawn for it and the tasks that hooks answer
 abbrev pub carried_out : Request → IdWords → (answers : List TaskValue) → State → Result Carried Refusal
 carried_out request ids answers old = carried_by request old (answered_with answers old.tasks (plan_of request ids old))
+
+-- the tasks that hooks are shown, as they are to become
+abbrev pub shown_tasks : List Ask → List TaskValue
+shown_tasks [] = []
+shown_tasks (ask ∷ asks) = ask.after ∷ shown_tasks asks

@@ -6,11 +6,11 @@ use Rattle.tw_model.specs.declared.changes.Change.{Change}
 use Rattle.tw_state.specs.State.{State}
 use Rattle.tw_terms.specs.declared.bad_word.BadWord.{BadWord}
 use Rattle.tw_report.specs.declared.report.Report.TheVariants as report
-use Rattle.tw_words.specs.Unnamed.{first_unnamed}
+use Rattle.tw_words.specs.Readings.{first_bad}
 use Rattle.tw_words.specs.declared.command.Command.{Command}
 use Rattle.tw_words.specs.declared.command.Command.TheVariants as command
 use Rattle.tw_changes.specs.Request.{after_draw}
-use Rattle.tw_commands.specs.Request.{scene_in, selected_in}
+use Rattle.tw_commands.specs.Request.{scene_in, selected_in, words_in}
 use Rattle.tw_commands.specs.Plan.{Plan}
 use Rattle.tw_commands.specs.Plan.Work.{Changes, TakeBack}
 use Rattle.tw_commands.specs.Plan.Show.{Counted, TakenBack}
@@ -37,7 +37,7 @@ use Rattle.tw_changes.specs.declared.refusal.Refusal.TheVariants.{BadWords, NoMa
 
 -- what a request makes of a task in a replica of this state
 abbrev pub effect_in : Request → State → TaskValue → Effect
-effect_in request state task = effect_by request (scene_in request state) task
+effect_in request state task = effect_by request (words_in request state) task
 
 -- a command that made these changes, and leaves these marks; it needs a task on which it acts
 abbrev pub acting : Deed → List Change → List Mark → Result Plan Refusal
@@ -85,14 +85,14 @@ plan_by command.Completed request ids state = Ok (reporting report.Completed req
 plan_by command.Waiting request ids state = Ok (reporting report.Waiting request state)
 plan_by command.Blocked request ids state = Ok (reporting report.Blocked request state)
 
-abbrev pub unless_unnamed : Option BadWord → Result Plan Refusal → Result Plan Refusal
-unless_unnamed None plan = plan
-unless_unnamed (Some bad) plan = Err (BadWords bad.word bad.kind)
+abbrev pub unless_bad : Option BadWord → Result Plan Refusal → Result Plan Refusal
+unless_bad None plan = plan
+unless_bad (Some bad) plan = Err (BadWords bad.word bad.kind)
 
--- what a request is to do with a replica in this state, or why it does nothing; a word that names no task comes first
+-- what a request is to do with a replica in this state, or why it does nothing; a modification word that is wrong, as one that names no task, comes first
 abbrev pub plan_of : Request → IdWords → State → Result Plan Refusal
 plan_of request ids state =
-    unless_unnamed (first_unnamed (scene_in request state) request.line) (plan_by request.command request ids state)
+    unless_bad (first_bad (scene_in request state) request.line) (plan_by request.command request ids state)
 
 -- the identifiers once a command is decided on
 abbrev pub ids_by : Command → Request → IdWords → State → IdWords
@@ -108,7 +108,7 @@ ids_unless (Some bad) old left = old
 
 abbrev pub ids_after : Request → IdWords → State → IdWords
 ids_after request ids state =
-    ids_unless (first_unnamed (scene_in request state) request.line) ids (ids_by request.command request ids state)
+    ids_unless (first_bad (scene_in request state) request.line) ids (ids_by request.command request ids state)
 
 -- no identifier was drawn yet, or all were
 abbrev pub DrewNoneOr : (all old new : IdWords) → Type 0

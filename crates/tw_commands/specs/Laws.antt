@@ -1,5 +1,5 @@
 -- Laws of commands.
-use Rattle.std.specs.Prelude.{◌≡◌, ◌⊎◌, ℕ, Bool, true, false, List, [], ◌∷◌, Option, Some, None, Ok, is_some, codes}
+use Rattle.std.specs.Prelude.{◌≡◌, ◌⊎◌, ℕ, Bool, true, false, List, [], ◌∷◌, length, Option, Some, None, Ok, is_some, codes}
 use Rattle.std.specs.List.{list_any}
 use Rattle.std.specs.Fmt.{decimal}
 use Rattle.std.specs.FinMap.{get}
@@ -18,7 +18,7 @@ use Rattle.tw_commands.specs.Plan.{Plan, step_in}
 use Rattle.tw_commands.specs.Plan.Work.{Changes}
 use Rattle.tw_commands.specs.Commands.{plan_of, editing}
 use Rattle.tw_commands.specs.Asks.{answered_with}
-use Rattle.tw_commands.specs.Carried.{Carried, with_text, concluded, carried_out}
+use Rattle.tw_commands.specs.Carried.{Carried, with_text, concluded, asked_in, carried_out, shown_tasks}
 use Rattle.tw_changes.specs.declared.marks.Mark.{Mark}
 use Rattle.tw_commands.specs.declared.plan.Deed.{Deed}
 use Rattle.tw_changes.specs.declared.request.Request.{Request}
@@ -60,13 +60,28 @@ pub record IsSameButMask (before after : Option TaskValue) : Type 0 where
   pub there : is_some after ≡ is_some before
   pub others : (p : List ℕ) → same_bytes p (codes "mask") ≡ false → same_bytes p (codes "modified") ≡ false → value_of p after ≡ value_of p before
 
--- ---- of a command for which no hook answers
+-- ---- what hooks answer
+
+-- hooks answer each task that they are shown as it is
+abbrev pub AreAsShown : Request → IdWords → State → (answers : List TaskValue) → Type 0
+AreAsShown request ids old answers = answers ≡ shown_tasks (asked_in request ids old)
+
+-- such answers change nothing
+abbrev pub AnswersAsShownChangeNothing : Type 0
+AnswersAsShownChangeNothing = (request : Request) (ids : IdWords) (old : State) (answers : List TaskValue)
+    → AreAsShown request ids old answers → carried_out request ids answers old ≡ carried_out request ids [] old
+
+-- hooks answer one task for each that they are shown
+abbrev pub AreAnswers : Request → IdWords → State → (answers : List TaskValue) → Type 0
+AreAnswers request ids old answers = length answers ≡ length (asked_in request ids old)
+
+-- ---- the tasks that a command acts on
 
 -- a command that acts on the tasks that its filter selects leaves the others as they were, but for the masks of templates
 abbrev pub OthersStay : Type 0
-OthersStay = (request : Request) (ids : IdWords) (old : State) (carried : Carried) (deed : Deed) (u : List ℕ) → IsCarriedOut request ids [] old carried
-    → plan_of request ids old ≡ editing deed request old → list_any (same_bytes u) (selected_in request old) ≡ false
-    → IsSameButMask (get old.tasks u) (get carried.new.tasks u)
+OthersStay = (request : Request) (ids : IdWords) (answers : List TaskValue) (old : State) (carried : Carried) (deed : Deed) (u : List ℕ)
+    → IsCarriedOut request ids answers old carried → plan_of request ids old ≡ editing deed request old
+    → list_any (same_bytes u) (selected_in request old) ≡ false → IsSameButMask (get old.tasks u) (get carried.new.tasks u)
 
 -- a task, or none, as it was, or with the moment at which it changed
 abbrev pub IsStamped : Moment → (before after : Option TaskValue) → Type 0
@@ -75,8 +90,9 @@ IsStamped now before (Some task) = (before ≡ Some task) ⊎ (get task (codes "
 
 -- a task that such a command changes has its moment
 abbrev pub ChangesAreStamped : Type 0
-ChangesAreStamped = (request : Request) (ids : IdWords) (old : State) (carried : Carried) (deed : Deed) (u : List ℕ) → IsCarriedOut request ids [] old carried
-    → plan_of request ids old ≡ editing deed request old → IsStamped request.at (get old.tasks u) (get carried.new.tasks u)
+ChangesAreStamped = (request : Request) (ids : IdWords) (answers : List TaskValue) (old : State) (carried : Carried) (deed : Deed) (u : List ℕ)
+    → IsCarriedOut request ids answers old carried → AreAsShown request ids old answers → plan_of request ids old ≡ editing deed request old
+    → IsStamped request.at (get old.tasks u) (get carried.new.tasks u)
 
 -- ---- when `modified` moves
 
@@ -98,8 +114,8 @@ pub record MovesExactly (now : Moment) (before after : TaskValue) : Type 0 where
 
 -- what any other command leaves of a task that was there
 abbrev pub ModifiedMovesExactly : Type 0
-ModifiedMovesExactly = (request : Request) (ids : IdWords) (old : State) (carried : Carried) (u : List ℕ) (before after : TaskValue)
-    → IsCarriedOut request ids [] old carried → brings_moments request.command ≡ false → get old.tasks u ≡ Some before
+ModifiedMovesExactly = (request : Request) (ids : IdWords) (answers : List TaskValue) (old : State) (carried : Carried) (u : List ℕ) (before after : TaskValue)
+    → IsCarriedOut request ids answers old carried → AreAsShown request ids old answers → brings_moments request.command ≡ false → get old.tasks u ≡ Some before
     → get carried.new.tasks u ≡ Some after → MovesExactly request.at before after
 
 -- ---- what an undo takes back

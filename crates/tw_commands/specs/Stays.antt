@@ -1,5 +1,5 @@
 -- Laws on the tasks that were there before a command that acts on no selected ones.
-use Rattle.std.specs.Prelude.{◌≡◌, ℕ, Bool, true, false, List, [], Some, Ok}
+use Rattle.std.specs.Prelude.{◌≡◌, ℕ, Bool, true, false, List, Some, Ok}
 use Rattle.std.specs.List.{list_any}
 use Rattle.std.specs.FinMap.{get}
 use Rattle.tw_world.specs.declared.ids.IdWords.{IdWords}
@@ -11,7 +11,7 @@ use Rattle.tw_state.specs.State.{State}
 use Rattle.tw_words.specs.declared.command.Command.{Command}
 use Rattle.tw_words.specs.declared.command.Command.TheVariants as command
 use Rattle.tw_commands.specs.Carried.{Carried}
-use Rattle.tw_commands.specs.Laws.{IsCarriedOut, IsSameButMask}
+use Rattle.tw_commands.specs.Laws.{IsCarriedOut, IsSameButMask, AreAnswers}
 use Rattle.tw_changes.specs.declared.request.Request.{Request}
 
 -- commands that only make tasks
@@ -23,8 +23,8 @@ makes _ = false
 
 -- such a command leaves each task that was there as it was
 abbrev pub MakersChangeNone : Type 0
-MakersChangeNone = (request : Request) (ids : IdWords) (old : State) (carried : Carried) (u : List ℕ) (task : TaskValue)
-    → IsCarriedOut request ids [] old carried → makes request.command ≡ true → get old.tasks u ≡ Some task → get carried.new.tasks u ≡ Some task
+MakersChangeNone = (request : Request) (ids : IdWords) (answers : List TaskValue) (old : State) (carried : Carried) (u : List ℕ) (task : TaskValue)
+    → IsCarriedOut request ids answers old carried → makes request.command ≡ true → get old.tasks u ≡ Some task → get carried.new.tasks u ≡ Some task
 
 -- whether one of these elements gives a uuid
 abbrev pub gives : List Imported → List ℕ → Bool
@@ -32,8 +32,8 @@ gives elements u = list_any (λ (e : Imported). has_uuid u e.uuid) elements
 
 -- an import leaves each task that was there as it was, unless its input gives the uuid
 abbrev pub ImportsChangeWhatTheyGive : Type 0
-ImportsChangeWhatTheyGive = (request : Request) (ids : IdWords) (old : State) (carried : Carried) (elements : List Imported) (u : List ℕ) (task : TaskValue)
-    → IsCarriedOut request ids [] old carried → request.command ≡ command.Import → import_of request.input request.at.seconds ≡ Ok elements
+ImportsChangeWhatTheyGive = (request : Request) (ids : IdWords) (answers : List TaskValue) (old : State) (carried : Carried) (elements : List Imported) (u : List ℕ) (task : TaskValue)
+    → IsCarriedOut request ids answers old carried → request.command ≡ command.Import → import_of request.input request.at.seconds ≡ Ok elements
     → gives elements u ≡ false → get old.tasks u ≡ Some task → get carried.new.tasks u ≡ Some task
 
 -- reports, which make instances
@@ -48,6 +48,6 @@ is_report _ = false
 
 -- a report leaves each task that was there as it was, but for the masks of templates
 abbrev pub ReportsChangeMasks : Type 0
-ReportsChangeMasks = (request : Request) (ids : IdWords) (old : State) (carried : Carried) (u : List ℕ) (task : TaskValue)
-    → IsCarriedOut request ids [] old carried → is_report request.command ≡ true → get old.tasks u ≡ Some task
+ReportsChangeMasks = (request : Request) (ids : IdWords) (answers : List TaskValue) (old : State) (carried : Carried) (u : List ℕ) (task : TaskValue)
+    → IsCarriedOut request ids answers old carried → AreAnswers request ids old answers → is_report request.command ≡ true → get old.tasks u ≡ Some task
     → IsSameButMask (Some task) (get carried.new.tasks u)

@@ -2,9 +2,9 @@
 ghost use Rattle.std.specs.Prelude.{◌≡◌, IfOk, OnOk, OnErr};
 ghost use Rattle.tw_replica.specs.Replica.{held_state};
 ghost use Rattle.tw_terms.specs.Scenes.{scene_of};
-ghost use Rattle.tw_words.specs.Unnamed.{first_unnamed};
+ghost use Rattle.tw_words.specs.Readings.{first_bad};
 ghost use Rattle.tw_commands.specs.Plan.{planned};
-ghost use Rattle.tw_commands.specs.Request.{scene_in};
+ghost use Rattle.tw_commands.specs.Request.{scene_in, words_in};
 ghost use Rattle.tw_commands.specs.Commands as spec;
 
 mod add;
@@ -27,16 +27,18 @@ use tw_changes::{Refusal, Request};
 use tw_replica::Replica;
 use tw_report::Report;
 use tw_terms::BadWord;
-use tw_words::{Command, first_unnamed};
+use tw_words::{Command, Modification, read_changes};
 use tw_world::{IdWords, Memory};
 
-// What a command is to do, whose words all name tasks.
+// What a command is to do, whose words ask for these modifications.
 fn plan_by(
     alloc: Global,
     request: &Request<'_>,
+    words: &Vec<Modification>,
     ids: &mut IdWords,
     replica: &Replica,
 ) -> Result<Result<Plan, Refusal>, Memory>
+    requires { words.now.items ≡ words_in request.now (held_state replica.now) }
     ensures plan { IfOk result (λ plan. planned plan
         ≡ spec.plan_by request.now.command request.now ids.old (held_state replica.now)) }
     ensures ids { OnOk result (ids.new ≡ spec.ids_by request.now.command request.now ids.old (held_state replica.now)) }
@@ -44,9 +46,9 @@ fn plan_by(
         (spec.DrewNoneOr (spec.ids_by request.now.command request.now ids.old (held_state replica.now)) ids.old ids.new) }
 {
     let deed = match request.command {
-        Command::Add => return add::adding(alloc, request, ids, replica),
-        Command::Log => return add::logging(alloc, request, ids, replica),
-        Command::Duplicate => return duplicate::copying(alloc, request, ids, replica),
+        Command::Add => return add::adding(alloc, request, words, ids, replica),
+        Command::Log => return add::logging(alloc, request, words, ids, replica),
+        Command::Duplicate => return duplicate::copying(alloc, request, words, ids, replica),
         Command::Import => return import::importing(alloc, request, ids, replica),
         Command::Undo => return Ok(Ok(undo::undoing())),
         Command::Count => return Ok(Ok(count::counting(alloc, request, replica)?)),
@@ -71,7 +73,7 @@ fn plan_by(
         Command::Start => Deed::Started,
         Command::Stop => Deed::Stopped,
     };
-    editing::editing(alloc, deed, request, replica)
+    editing::editing(alloc, deed, request, words, replica)
 }
 
 /// What a request is to do with a replica, or why it does nothing.
@@ -85,8 +87,9 @@ pub fn plan_of(
     ensures ids { OnOk result (ids.new ≡ spec.ids_after request.now ids.old (held_state replica.now)) }
     ensures want { OnErr result (spec.MayHaveDrawn request.now ids.old ids.new (held_state replica.now)) }
 {
-    if let Some(BadWord { word, kind }) = first_unnamed(&request.line, &view_of(request, replica)) {
-        return Ok(Err(Refusal::BadWords { word, kind }));
-    }
-    plan_by(alloc, request, ids, replica)
+    let words = match read_changes(alloc, &request.line, &view_of(request, replica))? {
+        Ok(words) => words,
+        Err(BadWord { word, kind }) => return Ok(Err(Refusal::BadWords { word, kind })),
+    };
+    plan_by(alloc, request, &words, ids, replica)
 }

@@ -7,7 +7,7 @@ use Rattle.tw_changes.specs.Request.{drawn}
 use Rattle.tw_changes.specs.Makes.Add.{added, logged}
 use Rattle.tw_changes.specs.declared.request.Request.{Request}
 use Rattle.tw_changes.specs.declared.refusal.Refusal.{Refusal}
-use Rattle.tw_commands.specs.Request.{scene_in}
+use Rattle.tw_commands.specs.Request.{words_in}
 use Rattle.tw_commands.specs.Plan.{Plan}
 use Rattle.tw_commands.specs.Plan.Show.{Created, Logged}
 use Rattle.tw_commands.specs.Makes.{making}
@@ -15,8 +15,8 @@ use Rattle.tw_commands.specs.Makes.{making}
 -- what they are to do
 abbrev pub adding : Request → IdWords → State → Result Plan Refusal
 adding request ids state =
-    making (Created (drawn ids)) (drawn ids) (added (scene_in request state) request.line request.at) (get state.tasks (drawn ids))
+    making (Created (drawn ids)) (drawn ids) (added (words_in request state) request.at) (get state.tasks (drawn ids))
 
 abbrev pub logging : Request → IdWords → State → Result Plan Refusal
 logging request ids state =
-    making Logged (drawn ids) (logged (scene_in request state) request.line request.at) (get state.tasks (drawn ids))
+    making Logged (drawn ids) (logged (words_in request state) request.at) (get state.tasks (drawn ids))

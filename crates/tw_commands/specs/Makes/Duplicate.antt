@@ -9,7 +9,7 @@ use Rattle.tw_changes.specs.Makes.Duplicate.{Copies, copies_beside}
 use Rattle.tw_changes.specs.declared.request.Request.{Request}
 use Rattle.tw_changes.specs.declared.refusal.Refusal.{Refusal}
 use Rattle.tw_changes.specs.declared.refusal.Refusal.TheVariants.{NoMatch}
-use Rattle.tw_commands.specs.Request.{scene_in, selected_in}
+use Rattle.tw_commands.specs.Request.{selected_in, words_in}
 use Rattle.tw_commands.specs.Plan.{Plan}
 use Rattle.tw_commands.specs.Plan.Work.{Changes}
 use Rattle.tw_commands.specs.Plan.Show.{Counted}
@@ -29,7 +29,7 @@ duplicated (Ok made) = duplicating (entries made)
 
 -- the copies of the tasks that a request selects
 abbrev pub copies_in : Request → IdWords → State → Copies
-copies_in request ids state = copies_beside (scene_in request state) request.line request.at ids empty (selected_in request state)
+copies_in request ids state = copies_beside (words_in request state) request.at ids state.tasks empty (selected_in request state)
 
 -- what `duplicate` is to do
 abbrev pub copying : Request → IdWords → State → Result Plan Refusal

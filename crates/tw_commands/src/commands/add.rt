@@ -4,15 +4,16 @@ ghost use Rattle.std.specs.FinMap as map;
 ghost use Rattle.tw_replica.specs.Replica.{held_state};
 ghost use Rattle.tw_changes.specs.Request.{after_draw};
 ghost use Rattle.tw_commands.specs.Plan.{planned, show_view};
+ghost use Rattle.tw_commands.specs.Request.{words_in};
 ghost use Rattle.tw_commands.specs.Makes.{making};
 ghost use Rattle.tw_commands.specs.Makes.Add as spec;
 
 use crate::plan::{Plan, Show, Work};
-use crate::request::view_of;
 use std::alloc::Global;
 use tw_changes::{Refusal, Request, added, draw, logged};
 use tw_model::{Change, TaskMap, Tasks};
 use tw_replica::Replica;
+use tw_words::Modification;
 use tw_world::{IdWords, Memory};
 use uuid::Uuid;
 
@@ -48,15 +49,16 @@ fn making(
 pub(crate) fn adding(
     alloc: Global,
     request: &Request<'_>,
+    words: &Vec<Modification>,
     ids: &mut IdWords,
     replica: &Replica,
 ) -> Result<Result<Plan, Refusal>, Memory>
+    requires { words.now.items ≡ words_in request.now (held_state replica.now) }
     ensures plan { IfOk result (λ plan. planned plan ≡ spec.adding request.now ids.old (held_state replica.now)) }
     ensures ids { ids.new ≡ after_draw ids.old }
 {
     let uuid = draw(ids);
-    let view = view_of(request, replica);
-    let task = added(alloc, &request.line, &view, request.at)?;
+    let task = added(alloc, words, request.at)?;
     making(alloc, Show::Created { uuid }, uuid, task, replica.tasks())
 }
 
@@ -64,14 +66,15 @@ pub(crate) fn adding(
 pub(crate) fn logging(
     alloc: Global,
     request: &Request<'_>,
+    words: &Vec<Modification>,
     ids: &mut IdWords,
     replica: &Replica,
 ) -> Result<Result<Plan, Refusal>, Memory>
+    requires { words.now.items ≡ words_in request.now (held_state replica.now) }
     ensures plan { IfOk result (λ plan. planned plan ≡ spec.logging request.now ids.old (held_state replica.now)) }
     ensures ids { ids.new ≡ after_draw ids.old }
 {
     let uuid = draw(ids);
-    let view = view_of(request, replica);
-    let task = logged(alloc, &request.line, &view, request.at)?;
+    let task = logged(alloc, words, request.at)?;
     making(alloc, Show::Logged, uuid, task, replica.tasks())
 }

@@ -4,15 +4,17 @@ ghost use Rattle.std.specs.FinMap as map;
 ghost use Rattle.tw_replica.specs.Replica.{held_state};
 ghost use Rattle.tw_changes.specs.Makes.Duplicate.{copies_view, taken_or};
 ghost use Rattle.tw_commands.specs.Plan.{planned};
+ghost use Rattle.tw_commands.specs.Request.{words_in};
 ghost use Rattle.tw_commands.specs.Commands.{DrewNoneOr};
 ghost use Rattle.tw_commands.specs.Makes.Duplicate as spec;
 
 use crate::plan::{Deed, Plan, Show, Work};
-use crate::request::{selected, view_of};
+use crate::request::selected;
 use std::alloc::Global;
 use tw_changes::{Refusal, Request, copies};
 use tw_model::{Change, Tasks};
 use tw_replica::Replica;
+use tw_words::Modification;
 use tw_world::{IdWords, Memory};
 use uuid::Uuid;
 
@@ -66,19 +68,20 @@ fn duplicated(alloc: Global, made: Result<Tasks, Uuid>) -> Result<Result<Plan, R
 fn copies_in(
     alloc: Global,
     request: &Request<'_>,
+    words: &Vec<Modification>,
     ids: &mut IdWords,
     replica: &Replica,
 ) -> Result<Result<Tasks, Uuid>, Memory>
+    requires { words.now.items ≡ words_in request.now (held_state replica.now) }
     ensures made { IfOk result (λ made. copies_view made ids.new ≡ spec.copies_in request.now ids.old (held_state replica.now)) }
     ensures want { OnErr result (ids.new ≡ ids.old) }
 {
     let rows = selected(alloc, request, replica)?;
-    let view = view_of(request, replica);
     let mut left = IdWords {
         start: ids.start,
         step: ids.step,
     };
-    let made = copies(alloc, &request.line, &view, request.at, &mut left, &rows)?;
+    let made = copies(alloc, words, replica.tasks(), request.at, &mut left, &rows)?;
     *ids = left;
     Ok(made)
 }
@@ -87,14 +90,16 @@ fn copies_in(
 pub(crate) fn copying(
     alloc: Global,
     request: &Request<'_>,
+    words: &Vec<Modification>,
     ids: &mut IdWords,
     replica: &Replica,
 ) -> Result<Result<Plan, Refusal>, Memory>
+    requires { words.now.items ≡ words_in request.now (held_state replica.now) }
     ensures plan { IfOk result (λ plan. planned plan ≡ spec.copying request.now ids.old (held_state replica.now)) }
     ensures ids { OnOk result (ids.new ≡ (spec.copies_in request.now ids.old (held_state replica.now)).ids) }
     ensures want { OnErr result
         (DrewNoneOr (spec.copies_in request.now ids.old (held_state replica.now)).ids ids.old ids.new) }
 {
-    let made = copies_in(alloc, request, ids, replica)?;
+    let made = copies_in(alloc, request, words, ids, replica)?;
     duplicated(alloc, made)
 }

@@ -1,8 +1,8 @@
-use Rattle.std.proofs.Common.{◌≡◌, ◌∙◌, ap, Result, Ok, Err, IfOk}
+use Rattle.std.proofs.Common.{◌≡◌, ◌∙◌, ap, List, Result, Ok, Err, IfOk}
 use Rattle.std.specs.FinMap.{get}
 use Rattle.tw_replica.specs.Replica.{held_state}
-use Rattle.tw_terms.specs.Scenes.{Scene}
-use Rattle.tw_commands.specs.Request.{scene_in}
+use Rattle.tw_words.specs.declared.changes.modification.Modification.{Modification}
+use Rattle.tw_commands.specs.Request.{words_in}
 use Rattle.tw_commands.specs.Plan.Show.{Created}
 use Rattle.tw_commands.specs.Makes.{making}
 use Rattle.tw_changes.specs.Makes.Add.{added}
@@ -14,10 +14,9 @@ if_ok_map (Err e) f p = tt
 
 pub returns-clause-plan : goal.returns-clause-plan
 returns-clause-plan c =
-    let line = c.args.request.now.line in
     let at = c.args.request.now.at in
-    let task : c.in_ok-task.task ≡ added (scene_in c.args.request.now (held_state c.args.replica.now)) line at =
-    c.in_ok-task.ensures ∙ ap (λ (s : Scene). added s line at) c.view_of-view.ensures in
+    let task : c.in_ok-task.task ≡ added (words_in c.args.request.now (held_state c.args.replica.now)) at =
+    c.in_ok-task.ensures ∙ ap (λ (ms : List Modification). added ms at) c.requires in
     if_ok_map c.making.result
     (λ plan is. is ∙ (λ i. making (Created (c.draw-uuid.ensures.uuid i)) (c.draw-uuid.ensures.uuid i) (task i) (get (c.tasks.ensures i) (c.draw-uuid.ensures.uuid i))))
     c.making.ensures
