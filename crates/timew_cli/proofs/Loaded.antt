@@ -163,8 +163,14 @@ module _ {F D : Type 0} (m : FolderModel F) (n : DiskModel D) (command : Command
     step_ends : (IsOnlyRead m n (went f1 f2 d1 d2) → IsLeft m n (went f0 f2 d0 d2)) → FaultsRise m f0 f1 → disk.FaultsRise n d0 d1 → (cause : Cause)
         → ((bodies : List (List ℕ)) (history : History) → IsStoreOn m n store f1 d1 bodies history → EndsBadly m n (went f1 f2 d1 d2) (carried_by command (held_by m f1 history) (intervals_of store) now zone) bodies (held_by m f1 history) cause)
         → IsFaultOf m n (went f1 f2 d1 d2) store cause → Because m n command now zone (went f0 f2 d0 d2) cause
-    step_ends leaves folder kept causes.DiskFault ends is = omega (arith, kept.faults, is)
-    step_ends leaves folder kept causes.FolderFault ends is = omega (arith, folder.faults, is)
+    step_ends leaves folder kept causes.DiskFault ends is = (
+      omega (arith, kept.faults, is),
+      inr (record { folder = f1; disk = d1; store = store; loads = loaded; since = is }),
+    )
+    step_ends leaves folder kept causes.FolderFault ends is = (
+      omega (arith, folder.faults, is),
+      inr (record { folder = f1; disk = d1; store = store; loads = loaded; since = is }),
+    )
     step_ends leaves folder kept causes.Memory ends is = leaves is
     step_ends leaves folder kept (causes.RecordTooLong bytes) ends is = (is, λ held opens. passes store f0 f1 f2 d0 d1 d2 loaded held opens bytes (here (causes.RecordTooLong bytes) ends held opens))
     step_ends leaves folder kept (causes.Damaged offset) ends is = (

@@ -41,8 +41,8 @@ ends_at file offset holds = record {
 module _ {F D : Type 0} (m : FolderModel F) (n : DiskModel D) (command : Command) (now : ℕ) (zone : TimeZone) where
   module _ (f0 f1 : F) (d0 d1 : D) where
     pub load_ends : (e : LoadError) → LoadRefused m n f0 f1 d0 d1 e → (LoadSparesDisk e → Stays m n f0 f1 d0 d1) → LeavesAlike m n f0 f1 d0 d1 → Because m n command now zone (went f0 f1 d0 d1) (load_cause e)
-    load_ends load.Folder r stays alike = r
-    load_ends (load.Journal fault.Disk) r stays alike = r.1
+    load_ends load.Folder r stays alike = (r, inl (record { stays = inr (stays tt); any_moment = alike }))
+    load_ends (load.Journal fault.Disk) r stays alike = (r.1, inl (record { stays = inl r.0; any_moment = alike }))
     load_ends (load.Journal fault.Memory) r stays alike = record { stays = stays tt; any_moment = alike }
     load_ends (load.Journal (fault.Damaged offset)) r stays alike = (λ tells. of_either (r.1 tells), record { stays = stays tt; any_moment = alike })
       where

@@ -12,6 +12,8 @@ use Rattle.tw_journal.specs.declared.journal.Journal.{Journal}
 use Rattle.timew_store.specs.History.{History}
 use Rattle.timew_store.specs.Held.{magic, Held, OpensTo, IsAtRest, held_by}
 use Rattle.timew_store.specs.Loading.{OpensAlike, LeavesAlike, Stays, IsNoStep}
+use Rattle.timew_store.specs.Store.{LoadsStore}
+use Rattle.timew_store.specs.declared.store.Store.{Store}
 use Rattle.timew_words.specs.declared.command.Command.{Command}
 use Rattle.timew_words.specs.declared.error.BadWord.{BadWord}
 use Rattle.tw_ending.specs.Ending.{End, HasNotFailed}
@@ -66,6 +68,20 @@ module _ {F D : Type 0} (m : FolderModel F) (n : DiskModel D) where
     pub stays : Stays m n w.f0 w.f1 w.d0 w.d1
     pub any_moment : LeavesAlike m n w.f0 w.f1 w.d0 w.d1
 
+  -- A fault before the store is loaded leaves what folder and disk hold, whatever the records lead to: one of the disk leaves the folder as it was.
+  -- A crash leaves the same.
+  pub record AreSpared (w : Outside F D) : Type 0 where
+    pub stays : (w.f1 ≡ w.f0) ⊎ Stays m n w.f0 w.f1 w.d0 w.d1
+    pub any_moment : LeavesAlike m n w.f0 w.f1 w.d0 w.d1
+
+  -- the store was loaded, and this is so of folder and disk from then on
+  pub record SinceLoaded (w : Outside F D) (P : F → D → Type 0) : Type 0 where
+    pub folder : F
+    pub disk : D
+    pub store : Store
+    pub loads : LoadsStore m n w.f0 folder w.d0 disk store
+    pub since : P folder disk
+
   -- these records come after those of before, and folder and disk rest and hold this
   pub record HoldsMore (w : Outside F D) (adds : List (List ℕ)) (held : Held) : Type 0 where
     pub bodies : List (List ℕ)
@@ -99,8 +115,8 @@ module _ {F D : Type 0} (m : FolderModel F) (n : DiskModel D) (command : Command
 
   -- why a command is not carried out, by the cause
   abbrev pub Because : Cause → Type 0
-  Because DiskFault = Rose (n.faults w.d0) (n.faults w.d1)
-  Because FolderFault = Rose (m.faults w.f0) (m.faults w.f1)
+  Because DiskFault = Rose (n.faults w.d0) (n.faults w.d1) × (AreSpared m n w ⊎ SinceLoaded m n w (λ folder disk. Rose (n.faults disk) (n.faults w.d1)))
+  Because FolderFault = Rose (m.faults w.f0) (m.faults w.f1) × (AreSpared m n w ⊎ SinceLoaded m n w (λ folder disk. Rose (m.faults folder) (m.faults w.f1)))
   Because Memory = IsLeft m n w
   Because (RecordTooLong bytes) = (2 ^ 30 < bytes) × ((held : Held) → Opens m n w.f0 w.d0 held → PassesLimit held bytes)
   Because (Damaged offset) = (disk.Tells n w.d0 → IsDamagedAt magic (n.seen w.d0) offset ⊎ HoldsNoStepAt (n.seen w.d0) offset) × IsLeft m n w

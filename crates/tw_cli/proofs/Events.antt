@@ -21,7 +21,7 @@ use Rattle.tw_replica.specs.Opening.{IsOpening, opened_bodies}
 use Rattle.tw_state.proofs.CommittedChanges.{changes_are_group}
 use Rattle.tw_outcome.specs.End.{Answer}
 use Rattle.tw_outcome.specs.End.Answer.{Done as DoneSync}
-use Rattle.tw_sync.specs.End.{EndFrom, counts_of}
+use Rattle.tw_sync.specs.Ends.End.{EndFrom, counts_of}
 use Rattle.tw_outcome.specs.Start.{starts_at}
 use Rattle.tw_sync.specs.Start.{Start, from_state, MayStart, IsSoundStart}
 use Rattle.tw_sync.proofs.ReplicaMoved.{starts_soundly}
@@ -29,7 +29,7 @@ use Rattle.tw_sync.proofs.EndsSeen.{ends_before}
 use Rattle.tw_sync.proofs.Served.{grows_on}
 use Rattle.tw_cli.proofs.Starting.{if_sound}
 use Rattle.tw_sync.specs.Sync.{server_chain, IsEndIn, IsSyncOf}
-use Rattle.tw_sync.specs.World.{IsAmong, IsCommit, Makes, with_next, Runs}
+use Rattle.tw_sync.specs.Theorem.{IsAmong, IsCommit, Makes, with_next, Runs}
 use Rattle.tw_sync.specs.declared.report.SyncReport.{SyncReport}
 use Rattle.tw_settings.specs.declared.server.ServerSettings.{ServerSettings}
 use Rattle.tw_changes.specs.Marks.{mask_changes}
@@ -50,7 +50,8 @@ use Rattle.tw_cli.specs.Cause.{end_of}
 use Rattle.tw_cli.specs.Crash.{LeavesRecords, IsStepOf, LeavesEither, LeavesCommand, LeavesOneEnd, LeavesSync, new_of, next_of}
 use Rattle.tw_cli.specs.Syncing.{Synced, SyncGivesBy}
 use Rattle.tw_cli.specs.Whole.{Models, Outside, from_link, IsHonestFor, IsRunFrom, IsRun}
-use Rattle.tw_cli.specs.Events.{OpensAmong, StandsFor, IsChainFor, OpensReplica, RunsOn, IsEvent}
+use Rattle.tw_cli.specs.Agreement.{IsChainFor}
+use Rattle.tw_cli.specs.Events.{OpensAmong, StandsFor, OpensReplica, RunsOn, IsEvent}
 use Rattle.tw_cli.specs.declared.asked.Job.{Job}
 use Rattle.tw_cli.specs.declared.asked.Job.TheVariants.{Here, Sync, Generate}
 use Rattle.tw_cli.specs.declared.asked.LineError.{LineError}

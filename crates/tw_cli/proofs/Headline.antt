@@ -18,11 +18,11 @@ use Rattle.tw_sync.specs.declared.error.SyncError.{SyncError}
 use Rattle.tw_sync.specs.declared.error.SyncError.TheVariants as syncs
 use Rattle.tw_settings.specs.declared.server.ServerSettings.{ServerSettings}
 use Rattle.tw_terms.specs.declared.bad_word.BadWord.{BadWord}
-use Rattle.tw_words.specs.Unnamed.{first_unnamed}
+use Rattle.tw_words.specs.Readings.{first_bad}
 use Rattle.tw_words.specs.declared.command.Command.{Command}
 use Rattle.tw_words.specs.declared.command.Command.TheVariants as command
 use Rattle.tw_commands.specs.Request.{scene_in}
-use Rattle.tw_commands.specs.Commands.{plan_by, unless_unnamed, undoing}
+use Rattle.tw_commands.specs.Commands.{plan_by, unless_bad, undoing}
 use Rattle.tw_commands.specs.Asks.{answered_with}
 use Rattle.tw_commands.specs.Carried.{Carried, carried_by, carried_out}
 use Rattle.tw_commands.proofs.Applied.{by_plan}
@@ -55,16 +55,16 @@ planned_undo : (request : Request) (old : State) (answers : List TaskValue) (c :
 planned_undo request old [] c e = by_plan request old undoing c e
 planned_undo request old (answer ∷ answers) c e = by_plan request old undoing c e
 
-named_undo : (request : Request) (old : State) (answers : List TaskValue) (c : Carried) (bad : Option BadWord) → carried_by request old (answered_with answers old.tasks (unless_unnamed bad (Ok undoing))) ≡ Ok c → undone old ≡ Some c.new
+named_undo : (request : Request) (old : State) (answers : List TaskValue) (c : Carried) (bad : Option BadWord) → carried_by request old (answered_with answers old.tasks (unless_bad bad (Ok undoing))) ≡ Ok c → undone old ≡ Some c.new
 named_undo request old answers c None e = planned_undo request old answers c e
 named_undo request old [] c (Some bad) e = absurd cc
 named_undo request old (answer ∷ answers) c (Some bad) e = absurd cc
 
 undo_is : (request : Request) (ids : IdWords) (answers : List TaskValue) (old : State) (c : Carried) → request.command ≡ command.Undo → carried_out request ids answers old ≡ Ok c → undone old ≡ Some c.new
 undo_is request ids answers old c is e =
-    let bad : Option BadWord = first_unnamed (scene_in request old) request.line in
+    let bad : Option BadWord = first_bad (scene_in request old) request.line in
     named_undo request old answers c bad
-    (subst (λ (of : Command). carried_by request old (answered_with answers old.tasks (unless_unnamed bad (plan_by of request ids old))) ≡ Ok c) is e)
+    (subst (λ (of : Command). carried_by request old (answered_with answers old.tasks (unless_bad bad (plan_by of request ids old))) ≡ Ok c) is e)
 
 -- ---- what was carried out survives
 
@@ -191,9 +191,9 @@ module _ {D S O L P F J : Type 0} (m : Models D S O L P F J) (w : Outside D S O 
   pub headline : ((disk : D) → Tells m.disk disk → m.disk.leaves disk (m.disk.seen disk)) → CountsNow m.disk → (asked : Result Job LineError) (old new : IdWords) (cause : Cause)
       → IsRun m asked old new w cause → Tells m.disk w.d0 → IsHonestFor m.link asked w.l0 → Headline m old w asked cause
   headline seen_may_stay counts_now asked old new cause run tells honest = record {
-    follows = λ sound all. weaker m.disk w.d0 w.d1 (OpensAgreeing (m.link.chain w.l1)) (OpensFollowing (m.link.chain w.l1))
-        ((agreement_stays m w tells_chain seen_may_stay counts_now asked old new cause run tells honest sound).any_moment all)
-        (λ file opens. (opens.0, opens.1, λ whole there fold. pending_acts_on_the_fold opens.0 (m.link.chain w.l1) there whole opens.2 fold));
+    follows = λ sound chain now is all. weaker m.disk w.d0 w.d1 (OpensAgreeing now) (OpensFollowing now)
+        ((agreement_stays m w tells_chain seen_may_stay counts_now asked old new cause run tells honest sound chain now is).any_moment all)
+        (λ file opens. (opens.0, opens.1, λ whole there fold. pending_acts_on_the_fold opens.0 now there whole opens.2 fold));
     survives = λ which. survives_where m old w tells asked cause (run_gives m w asked old new cause run) which;
     undo = λ is which. taken_back m old w tells asked is (survives_where m old w tells asked cause (run_gives m w asked old new cause run) which);
     exports = λ done. export_prints m old w tells asked (subst (RunGives m asked old w) done (run_gives m w asked old new cause run));

@@ -9,8 +9,8 @@ use Rattle.tw_protocol.specs.Snapshots.{Account}
 use Rattle.tw_protocol.proofs.Responses.{response_grows}
 use Rattle.tw_http.specs.Serving.{demand_of}
 use Rattle.tw_state.specs.State.{State}
-use Rattle.tw_sync.specs.World.{World, Event, IsAmong, Makes, Leads, Reach, Runs, Crashes, OnMachine, with_next}
-use Rattle.tw_sync.specs.World.Event.{Run, Crash, Answer}
+use Rattle.tw_sync.specs.Theorem.{World, Event, IsAmong, Makes, Leads, Reach, Runs, Crashes, OnMachine, with_next}
+use Rattle.tw_sync.specs.Theorem.Event.{Run, Crash, Answer}
 use Rattle.tw_sync.proofs.Served.{grows_same}
 use Rattle.tw_replica.specs.Replica.{OpensTo}
 use Rattle.tw_replica.specs.Opening.{opened_bodies}

@@ -182,6 +182,7 @@ module _ {F J : Type 0} (m : FolderModel F) (n : DiskModel J) where
         → PrepareRefused store (rows_after edit store) (prepares.TooLong bytes) → PassesHours m n f0 f1 j0 j1 now before after bytes
     passes_hours folder_stays disk_stays now before after edit bytes rows_are refused = record {
       above = refused.0;
+      loads = may_be_loaded;
       stays = loaded_stays folder_stays disk_stays;
       size = λ held opens rows read tasks are.
           let same : intervals_of store ≡ rows = same_rows (rows_of held.files) (intervals_of store) rows (rows_read held opens) read in

@@ -11,11 +11,13 @@ use Rattle.tw_groups.specs.Groups.{Groups, joined}
 use Rattle.tw_groups.specs.Cross.{cross}
 use Rattle.tw_groups.specs.Cut.{put_group, first, rest, IsFirst, IsRowOfGroups, IsPartOfGroup}
 use Rattle.tw_groups.proofs.Cutting.{cut_is_first}
+use Rattle.tw_state.specs.State.{State}
+use Rattle.tw_path.specs.Fold.{IsFold}
 use Rattle.tw_path.specs.Path.{Reached, Leg, passed, come, MayPass, IsPath, is_batch, version_on, versions_of}
 use Rattle.tw_path.specs.Path.Leg.{Pull, Push}
 use Rattle.tw_path.proofs.Lengths.{batch_is_limit}
 use Rattle.tw_cli.specs.Meeting.{MeetsOne, MeetsInGroup, MeetsIn}
-use Rattle.tw_cli.specs.Surviving.{IsIn, IsInVersion, IsGone, AreLeft}
+use Rattle.tw_cli.specs.Surviving.{IsIn, IsInVersion, IsPassed, IsGone, AreLeft}
 
 -- ---- lists
 
@@ -90,11 +92,16 @@ module _ (gone : SyncOp → Type 0) where
   grid_left (s ∷ ss) ls f =
       again gone ls (carry s ls).1 (grid ss (carry s ls).1).1 (carried_left s ls (λ l met lost. f s l (inl (refl, met)) lost)) (grid_left ss (carry s ls).1 (λ t l met lost. f t l (inr met) lost))
 
-module _ (versions : List Version) where
+-- a place that was passed, whose tasks are the chain folded to it
+pub record IsThere (old : State) (begin chain : List Version) (place : Reached) : Type 0 where
+  pub passed : IsPassed old begin chain place
+  pub folded : IsFold chain place.at place.tasks
+
+module _ (old : State) (begin chain versions : List Version) where
   -- what is left of operations is one of the groups, unless nothing is left
   pub record LeftIn (ops : List SyncOp) (gs : Groups) : Type 0 where
     pub left : List SyncOp
-    pub are : AreLeft (IsGone versions) ops left
+    pub are : AreLeft (IsGone old begin chain versions) ops left
     pub among : (left ≡ []) ⊎ IsIn gs left
 
   one_more : (ops g : List SyncOp) (gs : Groups) → LeftIn ops gs → LeftIn ops (g ∷ gs)
@@ -104,11 +111,11 @@ module _ (versions : List Version) where
       by (inl none) = inl none
       by (inr is) = inr (inr is)
 
-  crossed : (ss : List SyncOp) (gs : Groups) (mine : List SyncOp) → ((s l : SyncOp) → MeetsIn ss gs s l → (table s l).local ≡ false → IsGone versions l) → IsIn gs mine → LeftIn mine (cross ss gs).1
+  crossed : (ss : List SyncOp) (gs : Groups) (mine : List SyncOp) → ((s l : SyncOp) → MeetsIn ss gs s l → (table s l).local ≡ false → IsGone old begin chain versions l) → IsIn gs mine → LeftIn mine (cross ss gs).1
   crossed ss [] mine f is = absurd is
   crossed ss (g ∷ gs) mine f (inl same) = record {
     left = (grid ss mine).1;
-    are = grid_left (IsGone versions) ss mine (λ s l met lost. f s l (inl (subst (λ (ls : List SyncOp). MeetsInGroup ss ls s l) (sym same) met)) lost);
+    are = grid_left (IsGone old begin chain versions) ss mine (λ s l met lost. f s l (inl (subst (λ (ls : List SyncOp). MeetsInGroup ss ls s l) (sym same) met)) lost);
     among = inr (inl (ap (λ (ls : List SyncOp). (grid ss ls).1) same));
   }
   crossed ss (g ∷ gs) mine f (inr later) = one_more mine (grid ss g).1 (cross (grid ss g).0 gs).1 (crossed (grid ss g).0 gs mine (λ s l met lost. f s l (inr met) lost) later)
@@ -134,17 +141,17 @@ module _ (versions : List Version) where
   rest_in (op ∷ others) more = inr (inl refl)
 
   pub stays_in : (gs : Groups) (mine : List SyncOp) → (mine ≡ []) ⊎ IsIn gs mine → LeftIn mine gs
-  stays_in gs mine at = record { left = mine; are = left_all (IsGone versions) mine; among = at }
+  stays_in gs mine at = record { left = mine; are = left_all (IsGone old begin chain versions) mine; among = at }
 
   -- the operations of the version
   module _ (sent : List SyncOp) (holds : (op : SyncOp) → IsIn sent op → IsInVersion versions op) where
-    gone_of : (ops : List SyncOp) → ((op : SyncOp) → IsIn ops op → IsIn sent op) → AllByRecursion (IsGone versions) ops
-    gone_of ops f = all_of (IsGone versions) ops (λ op is. inl (holds op (f op is)))
+    gone_of : (ops : List SyncOp) → ((op : SyncOp) → IsIn ops op → IsIn sent op) → AllByRecursion (IsGone old begin chain versions) ops
+    gone_of ops f = all_of (IsGone old begin chain versions) ops (λ op is. inl (holds op (f op is)))
 
     row_sent : (gs left : Groups) (mine : List SyncOp) → (w : IsRowOfGroups is_batch gs sent left) → IsIn w.few mine ⊎ IsIn left mine → LeftIn mine left
     row_sent gs left mine w (inl few) = record {
       left = [];
-      are = all_gone (IsGone versions) mine (gone_of mine (λ op is. subst (λ (ls : List SyncOp). IsIn ls op) (sym w.all) (in_joined w.few mine op few is)));
+      are = all_gone (IsGone old begin chain versions) mine (gone_of mine (λ op is. subst (λ (ls : List SyncOp). IsIn ls op) (sym w.all) (in_joined w.few mine op few is)));
       among = inl refl;
     }
     row_sent gs left mine w (inr is) = stays_in left mine (inr is)
@@ -153,7 +160,7 @@ module _ (versions : List Version) where
     part_sent gs left mine w (inl none) = stays_in left mine (inl (nothing_in w.none mine w.empty none))
     part_sent gs left mine w (inr (inl same)) = record {
       left = w.others;
-      are = subst (λ (ls : List SyncOp). AreLeft (IsGone versions) ls w.others) (sym w.parts ∙ same) (first_gone (IsGone versions) sent w.others (gone_of sent (λ op is. is)));
+      are = subst (λ (ls : List SyncOp). AreLeft (IsGone old begin chain versions) ls w.others) (sym w.parts ∙ same) (first_gone (IsGone old begin chain versions) sent w.others (gone_of sent (λ op is. is)));
       among = subst (λ (ls : Groups). (w.others ≡ []) ⊎ IsIn ls w.others) (sym w.is_left) (rest_in w.others w.more);
     }
     part_sent gs left mine w (inr (inr is)) = stays_in left mine (inr (subst (λ (ls : Groups). IsIn ls mine) (sym w.is_left) (in_put w.others w.more mine is)))
@@ -170,17 +177,19 @@ module _ (versions : List Version) where
   holds_ops : (v : Version) (ops : List SyncOp) → IsIn versions v → IsSegment v.segment ops → (op : SyncOp) → IsIn ops op → IsInVersion versions op
   holds_ops v ops is reads op holds = record { version = v; there = is; ops = ops; reads = reads; holds = holds }
 
-  passed_left : (r : Reached) (leg : Leg) (mine : List SyncOp) → MayPass r leg → IsIn versions (version_on leg) → IsIn r.left mine → LeftIn mine (passed r leg).left
-  passed_left r (Pull v ops) mine may is at = crossed (fit_part r.tasks ops) r.left mine
-      (λ s l met lost. inr (record { place = r; version = v; there = is; ops = ops; may = may; other = s; met = met; lost = lost })) at
-  passed_left r (Push v ops) mine may is at =
+  passed_left : (r : Reached) (leg : Leg) (mine : List SyncOp) → IsThere old begin chain r → MayPass r leg → IsIn versions (version_on leg) → IsIn r.left mine → LeftIn mine (passed r leg).left
+  passed_left r (Pull v ops) mine there may is at = crossed (fit_part r.tasks ops) r.left mine
+      (λ s l met lost. inr (record { place = r; passed = there.passed; folded = there.folded; version = v; there = is; ops = ops; may = may; other = s; met = met; lost = lost })) at
+  passed_left r (Push v ops) mine there may is at =
       first_sent (first is_batch r.left) (λ op holds. holds_ops v ops is may.reads op (subst (λ (ls : List SyncOp). IsIn ls op) (sym may.sent) holds)) r.left (rest is_batch r.left) mine
       (cut_is_first is_batch r.left batch_is_limit may.some) at
 
-  pub path_left : (r : Reached) (legs : List Leg) (mine : List SyncOp) → IsPath r legs → AllByRecursion (IsIn versions) (versions_of legs) → (mine ≡ []) ⊎ IsIn r.left mine → LeftIn mine (come r legs).left
-  path_left r [] mine path all at = stays_in r.left mine at
-  path_left r (leg ∷ legs) mine path all (inl none) = stays_in (come r (leg ∷ legs)).left mine (inl none)
-  path_left r (leg ∷ legs) mine path all (inr is) =
-      let one : LeftIn mine (passed r leg).left = passed_left r leg mine path.0 all.0 is in
-      let two : LeftIn one.left (come r (leg ∷ legs)).left = path_left (passed r leg) legs one.left path.1 all.1 one.among in
-      record { left = two.left; are = again (IsGone versions) mine one.left two.left one.are two.are; among = two.among }
+  pub path_left : (r : Reached) (legs : List Leg) (mine : List SyncOp) → ((gone more : List Leg) → legs ≡ gone ++ more → IsThere old begin chain (come r gone)) → IsPath r legs → AllByRecursion (IsIn versions) (versions_of legs) → (mine ≡ []) ⊎ IsIn r.left mine
+      → LeftIn mine (come r legs).left
+  path_left r [] mine there path all at = stays_in r.left mine at
+  path_left r (leg ∷ legs) mine there path all (inl none) = stays_in (come r (leg ∷ legs)).left mine (inl none)
+  path_left r (leg ∷ legs) mine there path all (inr is) =
+      let one : LeftIn mine (passed r leg).left = passed_left r leg mine (there [] (leg ∷ legs) refl) path.0 all.0 is in
+      let two : LeftIn one.left (come r (leg ∷ legs)).left =
+      path_left (passed r leg) legs one.left (λ gone more e. there (leg ∷ gone) more (ap (λ (ls : List Leg). leg ∷ ls) e)) path.1 all.1 one.among in
+      record { left = two.left; are = again (IsGone old begin chain versions) mine one.left two.left one.are two.are; among = two.among }

@@ -5,7 +5,7 @@ use Rattle.tw_model.specs.LocalOps.{plain}
 use Rattle.tw_path.proofs.Sending.{sent_stays}
 use Rattle.tw_outcome.specs.End.{starts_at}
 use Rattle.tw_outcome.proofs.Ends.{all_in_groups}
-use Rattle.tw_sync.specs.LaterOps.{Follows}
+use Rattle.tw_sync.specs.Laws.LaterOps.{Follows}
 use Rattle.tw_sync.proofs.PendingOps.{plain-append}
 use Rattle.tw_sync.proofs.LaterOps.{commit_follows}
 use Rattle.tw_sync.proofs.Ends.{added_was_sent}

@@ -5,7 +5,7 @@ use Rattle.tw_world.specs.declared.ids.IdWords.{IdWords}
 use Rattle.tw_world.proofs.Moments.{OnlyNow}
 use Rattle.tw_protocol.specs.Chain.{Grows}
 use Rattle.tw_sync.proofs.Served.{grows_same}
-use Rattle.tw_sync.specs.Answers.{IsLinkKept}
+use Rattle.tw_sync.specs.Replies.Answers.{IsLinkKept}
 use Rattle.tw_http.specs.Link.{IsHonest}
 use Rattle.tw_words.specs.Lines.{Parts}
 use Rattle.tw_settings.specs.Settings.{Pair}
@@ -99,6 +99,7 @@ module _ {D S O L P F J : Type 0} (m : Models D S O L P F J) where
   hours_same : OnlyNow m.track → (request : Request) (ids : IdWords) (d : D) (i : S) (p : P) (f : F) (j : J) → DrivesHours m.disk m.source m.spawner m.folder m.track request ids d d i i p p f f j j Memory
   hours_same track_now request ids d i p f j = record {
     gives = unopened_kept m.folder m.track f f j j (refl, refl);
+    because = tt;
     spares = λ off. (refl, refl);
     any_moment = inl (refl, refl);
     growth = nothing_grown m.track track_now j (2 ^ 30 + 29);

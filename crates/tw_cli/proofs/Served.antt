@@ -17,7 +17,7 @@ use Rattle.tw_server.specs.Serve.{IsAsked, IsStep}
 use Rattle.tw_server.specs.declared.server.Server.{Server}
 use Rattle.tw_server.specs.Message.{IsMessage}
 use Rattle.tw_server.proofs.LogLaws.{own_account_is_answered}
-use Rattle.tw_sync.specs.World.{World}
+use Rattle.tw_sync.specs.Theorem.{World}
 use Rattle.tw_cli.specs.Served.{HasEither, HoldsEither, IsAnswerIn, IsEvent, KeepsLog, ServedIsEvent}
 
 -- a request that was read has a body within its limit

@@ -15,42 +15,61 @@ use Rattle.tw_groups.proofs.Grouping.{renewed_is_of_groups}
 use Rattle.tw_state.specs.State.{State, undone, applied}
 use Rattle.tw_state.proofs.Groups.{IsOfGroup}
 use Rattle.tw_path.specs.Path.{Reached, Leg, come, IsPath, versions_of}
+use Rattle.tw_path.specs.Fold.{IsFold}
+use Rattle.tw_path.proofs.Folds.{fold_grows}
 use Rattle.tw_path.proofs.Paths.{path_splits}
-use Rattle.tw_path.proofs.Versions.{first_between}
+use Rattle.tw_outcome.proofs.Ends.{first_part, went_folds, end_agrees}
 use Rattle.tw_outcome.specs.Agreement.{Agrees}
 use Rattle.tw_outcome.specs.Start.{StartsSoundly}
 use Rattle.tw_outcome.specs.End.{ServerChain, moved, stands_at, ends_at, EndsSo}
 use Rattle.tw_outcome.specs.End as end
 use Rattle.tw_outcome.specs.End.Answer.{Done, Stopped, Unwritten}
-use Rattle.tw_sync.specs.LaterOps.{Follows}
-use Rattle.tw_sync.specs.World.{World, AllAgree, IsGood, Makes, IsCommit}
+use Rattle.tw_sync.specs.Laws.LaterOps.{Follows}
+use Rattle.tw_sync.specs.Theorem.{World, AllAgree, IsGood, Makes, IsCommit}
 use Rattle.tw_sync.proofs.LaterOps.{commit_follows}
 use Rattle.tw_sync.proofs.CursorInChain.{between_none, between_grows, cut_behind}
-use Rattle.tw_sync.proofs.Served.{chain_front}
+use Rattle.tw_sync.proofs.Folds.{agrees_is_kept}
+use Rattle.tw_sync.proofs.LocalSteps.{commit_agrees, undo_agrees}
+use Rattle.tw_sync.proofs.Served.{chain_front, grows_same, grows_on}
 use Rattle.tw_sync.proofs.Worlds.{reached_is_good}
 use Rattle.tw_commands.proofs.Applied.{step_of_group, carried_applies}
-use Rattle.tw_cli.specs.Surviving.{states_of, Came, IsIn, IsInVersion, IsGone, AreLeft, Remain, LiveOn, TakesThemBack, WereTakenBack, AcknowledgedSurvives, added_by}
+use Rattle.tw_cli.specs.Surviving.{states_of, Came, IsIn, IsPassed, IsGone, AreLeft, Remain, LiveOn, TakesThemBack, WereTakenBack, AcknowledgedSurvives, added_by}
 use Rattle.tw_cli.specs.Surviving.Came.{stayed, grew, ran}
-use Rattle.tw_cli.proofs.Remaining.{in_left, in_right, all_of, left_all, left_then, LeftIn, nothing_in, path_left}
+use Rattle.tw_cli.proofs.Remaining.{in_left, in_right, all_of, left_all, left_then, IsThere, LeftIn, nothing_in, path_left}
 use Rattle.tw_cli.proofs.Histories.{came_since, reached_since}
 use Rattle.tw_cli.proofs.LastGroup.{groups_append, group_begins, group_of_ops, last_or, IsUndoneOf, undo_leaves}
 
 -- ---- what remains
 
-module _ (base : List ℕ) (ops : List SyncOp) where
-  remain_grown : (old new : List Version) (at : List ℕ) (left : List SyncOp) → Grows old new → Remain old base at ops left → Remain new base at ops left
-  remain_grown old new at left g r = record { versions = r.versions; between = between_grows old new base at r.versions r.between g; are = r.are }
+module _ (old : State) (begin : List Version) (ops : List SyncOp) where
+  -- a place that was passed was so also over a longer chain
+  soundly_grown : (chain now : List Version) (state : State) (from : Reached) → Grows chain now → StartsSoundly chain state from → StartsSoundly now state from
+  soundly_grown chain now state from g (inl at) = inl at
+  soundly_grown chain now state from g (inr (new, fold)) = inr (new, fold_grows chain now from.at from.tasks fold g)
 
-  survive_grown : (old new : List Version) (state : State) → Grows old new → LiveOn old base ops state → LiveOn new base ops state
-  survive_grown old new state g s = record { left = s.left; remain = remain_grown old new state.base s.left g s.remain; pending = s.pending }
+  lies_grown : (chain now : List Version) (v w : List ℕ) (legs : List Leg) → Grows chain now → (legs ≡ []) ⊎ IsBetween chain v w (versions_of legs) → (legs ≡ []) ⊎ IsBetween now v w (versions_of legs)
+  lies_grown chain now v w legs g (inl none) = inl none
+  lies_grown chain now v w legs g (inr is) = inr (between_grows chain now v w (versions_of legs) is g)
 
-  in_more : (vs ws : List Version) → ((v : Version) → IsIn vs v → IsIn ws v) → (op : SyncOp) → IsInVersion vs op → IsInVersion ws op
-  in_more vs ws wider op is = record { version = is.version; there = wider is.version is.there; ops = is.ops; reads = is.reads; holds = is.holds }
+  passed_grown : (chain now : List Version) (place : Reached) → Grows chain now → IsPassed old begin chain place → IsPassed old begin now place
+  passed_grown chain now place g p = record {
+    before = p.before;
+    state = p.state;
+    came = p.came;
+    grows = grows_on p.before chain now p.grows g;
+    from = p.from;
+    legs = p.legs;
+    on = record { soundly = soundly_grown chain now p.state p.from g p.on.soundly; path = p.on.path; between = lies_grown chain now p.from.at (come p.from p.legs).at p.legs g p.on.between };
+    is = p.is;
+  }
 
-  gone_more : (vs ws : List Version) → ((v : Version) → IsIn vs v → IsIn ws v) → (op : SyncOp) → IsGone vs op → IsGone ws op
-  gone_more vs ws wider op (inl is) = inl (in_more vs ws wider op is)
-  gone_more vs ws wider op (inr dropped) = inr (record {
+  -- what is gone is so over a longer chain, and of more versions
+  gone_grown : (chain now vs ws : List Version) → Grows chain now → ((v : Version) → IsIn vs v → IsIn ws v) → (op : SyncOp) → IsGone old begin chain vs op → IsGone old begin now ws op
+  gone_grown chain now vs ws g wider op (inl is) = inl (record { version = is.version; there = wider is.version is.there; ops = is.ops; reads = is.reads; holds = is.holds })
+  gone_grown chain now vs ws g wider op (inr dropped) = inr (record {
     place = dropped.place;
+    passed = passed_grown chain now dropped.place g dropped.passed;
+    folded = fold_grows chain now dropped.place.at dropped.place.tasks dropped.folded g;
     version = dropped.version;
     there = wider dropped.version dropped.there;
     ops = dropped.ops;
@@ -60,37 +79,51 @@ module _ (base : List ℕ) (ops : List SyncOp) where
     lost = dropped.lost;
   })
 
+  left_grown : (F G : SyncOp → Type 0) → ((op : SyncOp) → F op → G op) → (os left : List SyncOp) → AreLeft F os left → AreLeft G os left
+  left_grown F G f os left are = left_then F G G f (λ op is. is) os left left are (left_all G left)
+
+  remain_grown : (chain now : List Version) (at : List ℕ) (left : List SyncOp) → Grows chain now → Remain old begin chain at ops left → Remain old begin now at ops left
+  remain_grown chain now at left g r = record {
+    versions = r.versions;
+    between = between_grows chain now old.base at r.versions r.between g;
+    are = left_grown (IsGone old begin chain r.versions) (IsGone old begin now r.versions) (gone_grown chain now r.versions r.versions g (λ v is. is)) ops left r.are;
+  }
+
+  survive_grown : (chain now : List Version) (state : State) → Grows chain now → LiveOn old begin chain ops state → LiveOn old begin now ops state
+  survive_grown chain now state g s = record { left = s.left; remain = remain_grown chain now state.base s.left g s.remain; pending = s.pending }
+
   -- versions more have passed
-  remain_on : (chain : List Version) (at next : List ℕ) (mid left : List SyncOp) (vs : List Version) → IsChain chain → Remain chain base at ops mid → IsBetween chain at next vs
-      → AreLeft (IsGone vs) mid left → Remain chain base next ops left
+  remain_on : (chain : List Version) (at next : List ℕ) (mid left : List SyncOp) (vs : List Version) → IsChain chain → Remain old begin chain at ops mid → IsBetween chain at next vs
+      → AreLeft (IsGone old begin chain vs) mid left → Remain old begin chain next ops left
   remain_on chain at next mid left vs whole r between are = record {
     versions = r.versions ++ vs;
-    between = between_joins chain base at next r.versions vs whole r.between between;
-    are = left_then (IsGone r.versions) (IsGone vs) (IsGone (r.versions ++ vs)) (gone_more r.versions (r.versions ++ vs) (in_left r.versions vs)) (gone_more vs (r.versions ++ vs) (in_right r.versions vs)) ops mid left r.are are;
+    between = between_joins chain old.base at next r.versions vs whole r.between between;
+    are = left_then (IsGone old begin chain r.versions) (IsGone old begin chain vs) (IsGone old begin chain (r.versions ++ vs)) (gone_grown chain chain r.versions (r.versions ++ vs) (grows_same chain) (in_left r.versions vs))
+        (gone_grown chain chain vs (r.versions ++ vs) (grows_same chain) (in_right r.versions vs)) ops mid left r.are are;
   }
 
   -- ---- a commit, and an undo
 
-  commit_survives : (chain : List Version) (state next : State) → IsCommit state next → LiveOn chain base ops state → LiveOn chain base ops next
+  commit_survives : (chain : List Version) (state next : State) → IsCommit state next → LiveOn old begin chain ops state → LiveOn old begin chain ops next
   commit_survives chain state next c s =
       let f : Follows state next c.ops = commit_follows state state next c.renumber [] c.ops (record { base = refl; start = refl; pending = sym (append-nil state.pending) }) c.step in
       let groups : groups_of next.pending ≡ groups_of state.pending ++ groups_of c.ops = ap groups_of f.pending ∙ groups_append state.pending c.ops (group_begins c.ops c.group) in
-      record { left = s.left; remain = subst (λ (at : List ℕ). Remain chain base at ops s.left) (sym f.base) s.remain; pending = by groups s.pending }
+      record { left = s.left; remain = subst (λ (at : List ℕ). Remain old begin chain at ops s.left) (sym f.base) s.remain; pending = by groups s.pending }
     where
       by : groups_of next.pending ≡ groups_of state.pending ++ groups_of c.ops → (s.left ≡ []) ⊎ IsIn (groups_of state.pending) s.left → (s.left ≡ []) ⊎ IsIn (groups_of next.pending) s.left
       by groups (inl none) = inl none
       by groups (inr is) = inr (subst (λ (gs : Groups). IsIn gs s.left) (sym groups) (in_left (groups_of state.pending) (groups_of c.ops) s.left is))
 
-  undo_survives : (chain : List Version) (state next : State) → undone state ≡ Some next → LiveOn chain base ops state → LiveOn chain base ops next ⊎ TakesThemBack chain base ops state next
+  undo_survives : (chain : List Version) (state next : State) → undone state ≡ Some next → LiveOn old begin chain ops state → LiveOn old begin chain ops next ⊎ TakesThemBack old begin chain ops state next
   undo_survives chain state next e s = by s.left refl s.pending
     where
       is : IsUndoneOf state next
       is = undo_leaves state next e
 
-      remains : Remain chain base next.base ops s.left
-      remains = subst (λ (at : List ℕ). Remain chain base at ops s.left) (sym is.base) s.remain
+      remains : Remain old begin chain next.base ops s.left
+      remains = subst (λ (at : List ℕ). Remain old begin chain at ops s.left) (sym is.base) s.remain
 
-      taken : (x : SyncOp) (xs : List SyncOp) → s.left ≡ x ∷ xs → is.group ≡ s.left → TakesThemBack chain base ops state next
+      taken : (x : SyncOp) (xs : List SyncOp) → s.left ≡ x ∷ xs → is.group ≡ s.left → TakesThemBack old begin chain ops state next
       taken x xs same last = record {
         left = s.left;
         remain = s.remain;
@@ -100,11 +133,11 @@ module _ (base : List ℕ) (ops : List SyncOp) where
         undo = e;
       }
 
-      either : (x : SyncOp) (xs : List SyncOp) → s.left ≡ x ∷ xs → IsIn (groups_of next.pending) s.left ⊎ (is.group ≡ s.left) → LiveOn chain base ops next ⊎ TakesThemBack chain base ops state next
+      either : (x : SyncOp) (xs : List SyncOp) → s.left ≡ x ∷ xs → IsIn (groups_of next.pending) s.left ⊎ (is.group ≡ s.left) → LiveOn old begin chain ops next ⊎ TakesThemBack old begin chain ops state next
       either x xs same (inl held) = inl (record { left = s.left; remain = remains; pending = inr held })
       either x xs same (inr last) = inr (taken x xs same last)
 
-      by : (left : List SyncOp) → s.left ≡ left → (s.left ≡ []) ⊎ IsIn (groups_of state.pending) s.left → LiveOn chain base ops next ⊎ TakesThemBack chain base ops state next
+      by : (left : List SyncOp) → s.left ≡ left → (s.left ≡ []) ⊎ IsIn (groups_of state.pending) s.left → LiveOn old begin chain ops next ⊎ TakesThemBack old begin chain ops state next
       by left same (inl none) = inl (record { left = s.left; remain = remains; pending = inl none })
       by [] same (inr held) = inl (record { left = s.left; remain = remains; pending = inl same })
       by (x ∷ xs) same (inr held) = either x xs same (last_or (groups_of next.pending) is.group s.left (subst (λ (gs : Groups). IsIn gs s.left) is.groups held))
@@ -121,62 +154,73 @@ module _ (base : List ℕ) (ops : List SyncOp) where
   -- what a path leaves at a place of it
   pub record IsLeftAt (chain : List Version) (r : Reached) : Type 0 where
     pub left : List SyncOp
-    pub remain : Remain chain base r.at ops left
+    pub remain : Remain old begin chain r.at ops left
     pub among : (left ≡ []) ⊎ IsIn r.left left
 
-  path_survives : (chain : List Version) (from : Reached) (legs : List Leg) → IsChain chain → IsPath from legs
+  -- a path starts here whose tasks are the fold, of a state to which the machine came
+  record IsFrom (chain : List Version) (from : Reached) : Type 0 where
+    before : List Version
+    state : State
+    came : Came old begin before state
+    grows : Grows before chain
+    soundly : StartsSoundly chain state from
+    folded : IsFold chain from.at from.tasks
+
+  -- so each of its places is there
+  there_on : (chain : List Version) (from : Reached) (legs : List Leg) → IsChain chain → IsPath from legs → (legs ≡ []) ⊎ IsBetween chain from.at (come from legs).at (versions_of legs) → IsFrom chain from
+      → (gone more : List Leg) → legs ≡ gone ++ more → IsThere old begin chain (come from gone)
+  there_on chain from legs whole path lies f gone more e =
+      let p : IsPath from gone = (path_splits from gone more (subst (IsPath from) e path)).0 in
+      let l : (gone ≡ []) ⊎ IsBetween chain from.at (come from gone).at (versions_of gone) =
+      first_part from chain gone more (subst (λ (ls : List Leg). (ls ≡ []) ⊎ IsBetween chain from.at (come from ls).at (versions_of ls)) e lies) in
+      record {
+        passed = record { before = f.before; state = f.state; came = f.came; grows = f.grows; from = from; legs = gone; on = record { soundly = f.soundly; path = p; between = l }; is = refl };
+        folded = went_folds from chain gone whole f.folded p l;
+      }
+
+  path_survives : (chain : List Version) (from : Reached) (legs : List Leg) → IsChain chain → IsFrom chain from → IsPath from legs
       → (legs ≡ []) ⊎ IsBetween chain from.at (come from legs).at (versions_of legs) → IsLeftAt chain from → IsLeftAt chain (come from legs)
-  path_survives chain from legs whole path lies s =
+  path_survives chain from legs whole f path lies s =
       let r : Reached = come from legs in
       let b = s.remain.between in
       let between : IsBetween chain from.at r.at (versions_of legs) =
-      lies_between chain from legs (b.front ++ s.remain.versions) b.back (cut_behind chain base from.at s.remain.versions b) lies in
-      let l : LeftIn (versions_of legs) s.left r.left =
-      path_left (versions_of legs) from legs s.left path (all_of (IsIn (versions_of legs)) (versions_of legs) (λ v is. is)) s.among in
+      lies_between chain from legs (b.front ++ s.remain.versions) b.back (cut_behind chain old.base from.at s.remain.versions b) lies in
+      let l : LeftIn old begin chain (versions_of legs) s.left r.left =
+      path_left old begin chain (versions_of legs) from legs s.left (there_on chain from legs whole path lies f) path (all_of (IsIn (versions_of legs)) (versions_of legs) (λ v is. is)) s.among in
       record { left = l.left; remain = remain_on chain from.at r.at s.left l.left (versions_of legs) whole s.remain between l.are; among = l.among }
 
-  -- the first part of a path
-  first_part : (from : Reached) (chain : List Version) (legs more : List Leg) → (legs ++ more ≡ []) ⊎ IsBetween chain from.at (come from (legs ++ more)).at (versions_of (legs ++ more))
-      → (legs ≡ []) ⊎ IsBetween chain from.at (come from legs).at (versions_of legs)
-  first_part from chain legs more (inl none) = inl (no_legs legs none)
-    where
-      no_legs : (ls : List Leg) → ls ++ more ≡ [] → ls ≡ []
-      no_legs [] e = refl
-      no_legs (leg ∷ ls) e = absurd cc
-  first_part from chain legs more (inr b) = inr (first_between chain from legs more (come from (legs ++ more)).at b)
-
   -- what is left at the start of a path: nothing, if it is a snapshot, since a new replica has nothing pending
-  starts_left : (chain : List Version) (old : State) (from : Reached) → IsChain chain → StartsSoundly chain old from → LiveOn chain base ops old → IsLeftAt chain from
-  starts_left chain old from whole (inl at) s = subst (IsLeftAt chain) (sym at) (record { left = s.left; remain = s.remain; among = s.pending })
-  starts_left chain old from whole (inr (new, fold)) s = by (none s.pending)
+  starts_left : (chain : List Version) (state : State) (from : Reached) → IsChain chain → StartsSoundly chain state from → LiveOn old begin chain ops state → IsLeftAt chain from
+  starts_left chain state from whole (inl at) s = subst (IsLeftAt chain) (sym at) (record { left = s.left; remain = s.remain; among = s.pending })
+  starts_left chain state from whole (inr (new, fold)) s = by (none s.pending)
     where
-      none : (s.left ≡ []) ⊎ IsIn (groups_of old.pending) s.left → s.left ≡ []
+      none : (s.left ≡ []) ⊎ IsIn (groups_of state.pending) s.left → s.left ≡ []
       none (inl e) = e
       none (inr held) = absurd (subst (λ (pending : List Op). IsIn (groups_of pending) s.left) new.fresh.nothing held)
 
-      between : IsBetween chain old.base from.at fold.front
+      between : IsBetween chain state.base from.at fold.front
       between = record { front = []; back = fold.back; split = fold.cut.split; from = sym new.fresh.nil; to = fold.cut.at }
 
       by : s.left ≡ [] → IsLeftAt chain from
       by e = record {
         left = [];
-        remain = remain_on chain old.base from.at s.left [] fold.front whole s.remain between (subst (λ (left : List SyncOp). AreLeft (IsGone fold.front) left []) (sym e) refl);
+        remain = remain_on chain state.base from.at s.left [] fold.front whole s.remain between (subst (λ (left : List SyncOp). AreLeft (IsGone old begin chain fold.front) left []) (sym e) refl);
         among = inl refl;
       }
 
-  done_survives : (chain : List Version) (old : State) (r : Reached) → joined r.left ≡ [] → LiveOn chain base ops old → IsLeftAt chain r → LiveOn chain base ops (ends_at old r)
-  done_survives chain old r none s l = by (same_id r.at old.base)
+  done_survives : (chain : List Version) (state : State) (r : Reached) → joined r.left ≡ [] → LiveOn old begin chain ops state → IsLeftAt chain r → LiveOn old begin chain ops (ends_at state r)
+  done_survives chain state r none s l = by (same_id r.at state.base)
     where
       nothing : (l.left ≡ []) ⊎ IsIn r.left l.left → l.left ≡ []
       nothing (inl e) = e
-      nothing (inr held) = nothing_in [] r.left l.left none held
+      nothing (inr held) = nothing_in old begin chain [] r.left l.left none held
 
-      by : (same : Bool) → LiveOn chain base ops (cond same old (moved r.at [] r.tasks old))
+      by : (same : Bool) → LiveOn old begin chain ops (cond same state (moved r.at [] r.tasks state))
       by true = s
       by false = record { left = l.left; remain = l.remain; pending = inl (nothing l.among) }
 
-  stopped_survives : (chain : List Version) (old : State) (r : Reached) → LiveOn chain base ops old → IsLeftAt chain r → LiveOn chain base ops (stands_at old r)
-  stopped_survives chain old r s l = by (same_id r.at old.base)
+  stopped_survives : (chain : List Version) (state : State) (r : Reached) → LiveOn old begin chain ops state → IsLeftAt chain r → LiveOn old begin chain ops (stands_at state r)
+  stopped_survives chain state r s l = by (same_id r.at state.base)
     where
       groups : groups_of (pending_on r.tasks r.left) ≡ r.left
       groups = (renewed_is_of_groups r.tasks r.left).0
@@ -185,52 +229,79 @@ module _ (base : List ℕ) (ops : List SyncOp) where
       there (inl e) = inl e
       there (inr held) = inr (subst (λ (gs : Groups). IsIn gs l.left) (sym groups) held)
 
-      by : (same : Bool) → LiveOn chain base ops (cond same old (moved r.at (pending_on r.tasks r.left) (apply_all r.tasks (joined r.left)) old))
+      by : (same : Bool) → LiveOn old begin chain ops (cond same state (moved r.at (pending_on r.tasks r.left) (apply_all r.tasks (joined r.left)) state))
       by true = s
       by false = record { left = l.left; remain = l.remain; pending = there l.among }
 
-  ends_survive : (answer : end.Answer) (old : State) (from : Reached) (new : State) (before after : ServerChain) → IsChain after.chain → EndsSo answer old from new before after → LiveOn after.chain base ops old → IsLeftAt after.chain from → LiveOn after.chain base ops new
-  ends_survive (Done report) old from new before after whole d s start =
-      subst (LiveOn after.chain base ops) (sym d.state)
-      (done_survives after.chain old (come from d.legs) d.nothing s (path_survives after.chain from d.legs whole d.went.path d.went.between start))
-  ends_survive Stopped old from new before after whole d s start =
-      subst (LiveOn after.chain base ops) (sym d.state)
-      (stopped_survives after.chain old (come from d.legs) s
-      (path_survives after.chain from d.legs whole (path_splits from d.legs d.untold d.went.path).0 (first_part from after.chain d.legs d.untold d.went.between) start))
-  ends_survive Unwritten old from new before after whole d s start = subst (LiveOn after.chain base ops) (sym d.state) s
+  ends_survive : (answer : end.Answer) (state : State) (from : Reached) (new : State) (before after : ServerChain) → IsChain after.chain → IsFrom after.chain from → EndsSo answer state from new before after → LiveOn old begin after.chain ops state → IsLeftAt after.chain from → LiveOn old begin after.chain ops new
+  ends_survive (Done report) state from new before after whole f d s start =
+      subst (LiveOn old begin after.chain ops) (sym d.state)
+      (done_survives after.chain state (come from d.legs) d.nothing s (path_survives after.chain from d.legs whole f d.went.path d.went.between start))
+  ends_survive Stopped state from new before after whole f d s start =
+      subst (LiveOn old begin after.chain ops) (sym d.state)
+      (stopped_survives after.chain state (come from d.legs) s
+      (path_survives after.chain from d.legs whole f (path_splits from d.legs d.untold d.went.path).0 (first_part from after.chain d.legs d.untold d.went.between) start))
+  ends_survive Unwritten state from new before after whole f d s start = subst (LiveOn old begin after.chain ops) (sym d.state) s
 
   -- ---- a run
 
-  made_survives : (before now : List Version) (state next : State) → IsChain now → Grows before now → Makes before now state (Some next) → LiveOn before base ops state
-      → LiveOn now base ops next ⊎ TakesThemBack before base ops state next
-  made_survives before now state next whole g (inl commit) s = inl (commit_survives now state next commit (survive_grown before now state g s))
-  made_survives before now state next whole g (inr (inl undo)) s = by (undo_survives before state next undo s)
-    where
-      by : LiveOn before base ops next ⊎ TakesThemBack before base ops state next → LiveOn now base ops next ⊎ TakesThemBack before base ops state next
-      by (inl kept) = inl (survive_grown before now next g kept)
-      by (inr taken) = inr taken
-  made_survives before now state next whole g (inr (inr sync)) s =
-      let kept : LiveOn now base ops state = survive_grown before now state g s in
-      inl (ends_survive sync.answer state sync.from next (record { chain = before; own = sync.own }) (record { chain = now; own = sync.own_now }) whole sync.ended.1 kept
-      (starts_left now state sync.from whole sync.sound kept))
+  -- each state to which the machine came agrees with the chain
+  module _ (agrees : Agrees old begin) where
+    came_agrees : (now : List Version) (state : State) → IsChain now → Came old begin now state → Agrees state now
+    came_agrees _ _ whole stayed = agrees
+    came_agrees _ _ whole (grew before now state came grows) = agrees_is_kept state before now (came_agrees before state (chain_front before now grows whole) came) grows
+    came_agrees _ _ whole (ran before now state next came makes grows) = by makes (came_agrees before state (chain_front before now grows whole) came)
+      where
+        by : Makes before now state (Some next) → Agrees state before → Agrees next now
+        by (inl c) a = commit_agrees c.renumber c.ops state next now c.group (agrees_is_kept state before now a grows) c.step
+        by (inr (inl undo)) a = undo_agrees state next now (agrees_is_kept state before now a grows) undo
+        by (inr (inr s)) a = end_agrees s.answer state s.from next (record { chain = before; own = s.own }) (record { chain = now; own = s.own_now }) whole a s.sound s.ended
 
-  survives_in : (old : State) (chain : List Version) → LiveOn chain base ops old → (now : List Version) (state : State) → IsChain now → (came : Came old chain now state)
-      → LiveOn now base ops state ⊎ WereTakenBack base ops came
-  survives_in old chain start _ _ whole stayed = inl start
-  survives_in old chain start _ _ whole (grew before now state came grows) = by (survives_in old chain start before state (chain_front before now grows whole) came)
-    where
-      by : LiveOn before base ops state ⊎ WereTakenBack base ops came → LiveOn now base ops state ⊎ WereTakenBack base ops came
-      by (inl kept) = inl (survive_grown before now state grows kept)
-      by (inr taken) = inr taken
-  survives_in old chain start _ _ whole (ran before now state next came makes grows) = by (survives_in old chain start before state (chain_front before now grows whole) came)
-    where
-      made : LiveOn now base ops next ⊎ TakesThemBack before base ops state next → LiveOn now base ops next ⊎ (WereTakenBack base ops came ⊎ TakesThemBack before base ops state next)
-      made (inl kept) = inl kept
-      made (inr taken) = inr (inr taken)
+    -- where its path starts the tasks are the fold
+    start_folds : (chain : List Version) (state : State) (from : Reached) → Agrees state chain → StartsSoundly chain state from → IsFold chain from.at from.tasks
+    start_folds chain state from a (inl at) = subst (λ (r : Reached). IsFold chain r.at r.tasks) (sym at) a.folded
+    start_folds chain state from a (inr (new, fold)) = fold
 
-      by : LiveOn before base ops state ⊎ WereTakenBack base ops came → LiveOn now base ops next ⊎ (WereTakenBack base ops came ⊎ TakesThemBack before base ops state next)
-      by (inl kept) = made (made_survives before now state next whole grows makes kept)
-      by (inr taken) = inr (inl taken)
+    sync_from : (before now : List Version) (state : State) (from : Reached) → IsChain now → Came old begin before state → Grows before now → StartsSoundly now state from → IsFrom now from
+    sync_from before now state from whole came g soundly = record {
+      before = before;
+      state = state;
+      came = came;
+      grows = g;
+      soundly = soundly;
+      folded = start_folds now state from (agrees_is_kept state before now (came_agrees before state (chain_front before now g whole) came) g) soundly;
+    }
+
+    made_survives : (before now : List Version) (state next : State) → IsChain now → Came old begin before state → Grows before now → Makes before now state (Some next) → LiveOn old begin before ops state
+        → LiveOn old begin now ops next ⊎ TakesThemBack old begin before ops state next
+    made_survives before now state next whole came g (inl commit) s = inl (commit_survives now state next commit (survive_grown before now state g s))
+    made_survives before now state next whole came g (inr (inl undo)) s = by (undo_survives before state next undo s)
+      where
+        by : LiveOn old begin before ops next ⊎ TakesThemBack old begin before ops state next → LiveOn old begin now ops next ⊎ TakesThemBack old begin before ops state next
+        by (inl kept) = inl (survive_grown before now next g kept)
+        by (inr taken) = inr taken
+    made_survives before now state next whole came g (inr (inr sync)) s =
+        let kept : LiveOn old begin now ops state = survive_grown before now state g s in
+        inl (ends_survive sync.answer state sync.from next (record { chain = before; own = sync.own }) (record { chain = now; own = sync.own_now }) whole (sync_from before now state sync.from whole came g sync.sound) sync.ended.1 kept
+        (starts_left now state sync.from whole sync.sound kept))
+
+    survives_in : LiveOn old begin begin ops old → (now : List Version) (state : State) → IsChain now → (came : Came old begin now state)
+        → LiveOn old begin now ops state ⊎ WereTakenBack old begin ops came
+    survives_in start _ _ whole stayed = inl start
+    survives_in start _ _ whole (grew before now state came grows) = by (survives_in start before state (chain_front before now grows whole) came)
+      where
+        by : LiveOn old begin before ops state ⊎ WereTakenBack old begin ops came → LiveOn old begin now ops state ⊎ WereTakenBack old begin ops came
+        by (inl kept) = inl (survive_grown before now state grows kept)
+        by (inr taken) = inr taken
+    survives_in start _ _ whole (ran before now state next came makes grows) = by (survives_in start before state (chain_front before now grows whole) came)
+      where
+        made : LiveOn old begin now ops next ⊎ TakesThemBack old begin before ops state next → LiveOn old begin now ops next ⊎ (WereTakenBack old begin ops came ⊎ TakesThemBack old begin before ops state next)
+        made (inl kept) = inl kept
+        made (inr taken) = inr (inr taken)
+
+        by : LiveOn old begin before ops state ⊎ WereTakenBack old begin ops came → LiveOn old begin now ops next ⊎ (WereTakenBack old begin ops came ⊎ TakesThemBack old begin before ops state next)
+        by (inl kept) = made (made_survives before now state next whole came grows makes kept)
+        by (inr taken) = inr (inl taken)
 
 -- ---- a command that was carried out
 
@@ -250,10 +321,10 @@ added_pends (Carried base ops) old new group e = inl refl
 added_pends (Partial base ops pending) old new group e = inl refl
 added_pends (Checkpoint base places tasks pending) old new group e = inl refl
 
-starts_surviving : (chain : List Version) (step : Step) (old new : State) → Agrees new chain → IsOfGroup step → applied old step ≡ Some new → LiveOn chain new.base (added_by step) new
+starts_surviving : (chain : List Version) (step : Step) (old new : State) → Agrees new chain → IsOfGroup step → applied old step ≡ Some new → LiveOn new chain chain (added_by step) new
 starts_surviving chain step old new agrees group e = record {
   left = added_by step;
-  remain = record { versions = []; between = between_none chain new.base agrees.folded.front agrees.folded.back agrees.folded.cut; are = left_all (IsGone []) (added_by step) };
+  remain = record { versions = []; between = between_none chain new.base agrees.folded.front agrees.folded.back agrees.folded.cut; are = left_all (IsGone new chain chain []) (added_by step) };
   pending = added_pends step old new group e;
 }
 
@@ -272,6 +343,6 @@ acknowledged_survives request ids answers old carried is number earlier events f
     let came : Came carried.new from.chain now.chain state = came_since number from carried.new alone events now since state among in
     let good : IsGood now = reached_is_good (events ++ earlier) now (reached_since earlier from reached events now since) in
     let agrees : Agrees carried.new from.chain = one_agrees from number carried.new (reached_is_good earlier from reached) alone in
-    let start : LiveOn from.chain carried.new.base (added_by carried.step) carried.new =
+    let start : LiveOn carried.new from.chain from.chain (added_by carried.step) carried.new =
     starts_surviving from.chain carried.step old carried.new agrees (step_of_group request ids answers old carried is) (carried_applies request ids answers old carried is) in
-    (came, survives_in carried.new.base (added_by carried.step) carried.new from.chain start now.chain state good.served.whole came)
+    (came, survives_in carried.new from.chain (added_by carried.step) agrees start now.chain state good.served.whole came)

@@ -84,7 +84,7 @@ module _ {D L : Type 0} (m : DiskModel D) (links : LinkModel L) (server : Server
       done_at = (
         starts (Ok report) run,
         record {
-          synced = synced m links server run.start d0 mid d1 r0 r1 run.begun now l1 report (may_start links server.client server.host (held_state r0) l0 run.begun run.start run.begins) any_moment opened on run.rest.ends.done run.rest.offers run.rest.wanted;
+          synced = synced m links server run.start d0 mid d1 r0 r1 run.begun now l1 report (may_start links server.client server.host (held_state r0) l0 run.begun run.start run.begins) any_moment opened on run.rest.ends.done run.rest.offers run.rest.wanted run.rest.unwanted;
           refused = tt;
           complete = tt;
           any_moment = leaves_end m links server run.start d0 mid d1 r0 run.begun l1 any_moment opened

@@ -5,7 +5,8 @@ use Rattle.tw_protocol.specs.Chain.{Version}
 use Rattle.tw_http.specs.Link.{LinkModel}
 use Rattle.tw_state.specs.State.{State}
 use Rattle.tw_replica.specs.Replica.{OpensTo}
-use Rattle.tw_sync.specs.World.{IsAmong, Runs}
+use Rattle.tw_sync.specs.Theorem.{IsAmong, Runs}
+use Rattle.tw_cli.specs.Agreement.{IsChainFor}
 use Rattle.tw_cli.specs.Whole.{Outside, IsHonestFor, IsSoundFor}
 use Rattle.tw_cli.specs.declared.asked.Job.{Job}
 use Rattle.tw_cli.specs.declared.asked.Job.TheVariants.{Here, Sync, Generate}
@@ -20,13 +21,6 @@ OpensAmong states file = (state : State) × IsAmong states state × OpensTo file
 -- each image that a crash now may leave opens to one of the states
 abbrev pub StandsFor : {D : Type 0} → DiskModel D → D → List State → Type 0
 StandsFor m disk states = (file : List ℕ) → m.leaves disk file → OpensAmong states file
-
--- the chains of the world before and after a run: those that the link of a sync tells, or else one
-abbrev pub IsChainFor : {L : Type 0} → LinkModel L → Result Job LineError → (l0 l1 : L) → (chain now : List Version) → Type 0
-IsChainFor links (Ok (Here request)) l0 l1 chain now = now ≡ chain
-IsChainFor links (Ok (Sync server)) l0 l1 chain now = (chain ≡ links.chain l0) × (now ≡ links.chain l1)
-IsChainFor links (Ok (Generate line settings)) l0 l1 chain now = now ≡ chain
-IsChainFor links (Err error) l0 l1 chain now = now ≡ chain
 
 -- what is asked for opens the replica
 abbrev pub OpensReplica : Result Job LineError → Type 0

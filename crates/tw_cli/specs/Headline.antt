@@ -8,7 +8,7 @@ use Rattle.tw_protocol.specs.Chain.{Version, IsChain}
 use Rattle.tw_state.specs.State.{State, undone}
 use Rattle.tw_replica.specs.Replica.{OpensTo}
 use Rattle.tw_outcome.specs.Agreement.{Agrees}
-use Rattle.tw_sync.specs.World.{FollowsTheChain}
+use Rattle.tw_sync.specs.Theorem.{FollowsTheChain}
 use Rattle.tw_sync.specs.declared.report.SyncReport.{SyncReport}
 use Rattle.tw_sync.specs.declared.error.SyncError.{SyncError}
 use Rattle.tw_words.specs.declared.command.Command.{Command}
@@ -21,7 +21,7 @@ use Rattle.tw_cli.specs.Input.{WithInput}
 use Rattle.tw_cli.specs.Run.{CarriedOut}
 use Rattle.tw_cli.specs.Syncing.{SyncStart, Synced, WasStopped}
 use Rattle.tw_cli.specs.Opening.{KeepsState}
-use Rattle.tw_cli.specs.Agreement.{AllAgree}
+use Rattle.tw_cli.specs.Agreement.{AllAgree, IsChainFor}
 use Rattle.tw_cli.specs.Whole.{Models, Outside, IsSoundFor}
 use Rattle.tw_cli.specs.declared.asked.Job.{Job}
 use Rattle.tw_cli.specs.declared.asked.Job.TheVariants.{Here, Sync, Generate}
@@ -94,9 +94,9 @@ module _ {D S O L P F J : Type 0} (m : Models D S O L P F J) (ids : IdWords) (w 
   -- What a run keeps of a disk that tells what it holds, over a link that is honest if the run uses it
   pub record Headline (asked : Result Job LineError) (cause : Cause) : Type 0 where
     -- At every moment a crash leaves a replica whose tasks are the server's chain folded to its base version, then what is pending. The server
-    -- returns what was written, also a snapshot
-    pub follows : IsSoundFor m.disk m.link asked w.d0 w.l0 w.l1 → AllAgree m.disk (m.link.chain w.l0) w.d0
-        → LeavesOnly m.disk w.d0 w.d1 (OpensFollowing (m.link.chain w.l1))
+    -- returns what was written, also a snapshot. What uses no link keeps so with any chain
+    pub follows : IsSoundFor m.disk m.link asked w.d0 w.l0 w.l1 → (chain now : List Version) → IsChainFor m.link asked w.l0 w.l1 chain now
+        → AllAgree m.disk chain w.d0 → LeavesOnly m.disk w.d0 w.d1 (OpensFollowing now)
     -- what was carried out survives every crash
     pub survives : WasCarriedOut cause → OutcomeSurvives asked
     -- an undo takes back exactly the pending operations since the last undo point

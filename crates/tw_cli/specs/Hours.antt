@@ -1,5 +1,5 @@
 -- What a run of a command does to the hours, by the cause that it ends with, and what a crash leaves of both stores.
-use Rattle.std.specs.Prelude.{◌≡◌, ◌⊎◌, ◌≤◌, ◌^◌, ℕ, Bool, true, false, List, Some, Ok}
+use Rattle.std.specs.Prelude.{◌≡◌, ◌⊎◌, ◌<◌, ◌≤◌, ◌^◌, ℕ, Bool, true, false, List, Some, Ok}
 use Rattle.tw_world.specs.Disk.{DiskModel, Rose}
 use Rattle.tw_world.specs.Disk as disk
 use Rattle.tw_world.specs.Crash as crash
@@ -11,24 +11,27 @@ use Rattle.tw_model.specs.Ops.{TaskValue}
 use Rattle.tw_spawn.specs.Spawner.{SpawnerModel}
 use Rattle.tw_state.specs.State.{State}
 use Rattle.tw_replica.specs.Opening.{IsOpening}
-use Rattle.tw_replica.specs.Replica.{OpensTo}
+use Rattle.tw_replica.specs.Replica.{OpensTo, OpeningRefused}
+use Rattle.tw_replica.specs.declared.error.OpenError.TheVariants as opening
 use Rattle.tw_changes.specs.declared.request.Request.{Request}
 use Rattle.timew_store.specs.Held.{Held}
 use Rattle.timew_store.specs.Held.{OpensTo as OpenTo}
 use Rattle.timew_store.specs.Loading.{OpensAlike}
 use Rattle.timew_month.specs.Rows.{rows_of}
-use Rattle.timew_store.specs.Store.{changed}
+use Rattle.timew_store.specs.Store.{changed, LoadsStore}
+use Rattle.timew_store.specs.declared.store.Store.{Store}
 use Rattle.timew_interval.specs.declared.interval.Interval.{Interval}
 use Rattle.tw_ending.specs.Ending.{End}
 use Rattle.tw_ending.specs.Ending.End.{Well, Output, Failed}
 use Rattle.tw_cli.specs.Cause.{end_of}
 use Rattle.tw_cli.specs.Crash.{IsStepOf, next_of}
-use Rattle.tw_cli.specs.Driving.{driven, driven_size, is_driving, Opens, AreUnopened, AreDriven, AreUndriven}
+use Rattle.tw_cli.specs.Driving.{driven, driven_size, is_driving, Opens, MayBeLoaded, AreUnopened, AreDriven, AreSpared, AreUndriven}
 use Rattle.tw_cli.specs.Growth.{HoursGrow}
 use Rattle.tw_cli.specs.Hooks.{Answered}
 use Rattle.tw_cli.specs.Input.{WithInput}
-use Rattle.tw_cli.specs.Run.{CarriedOut, CanBeCarriedOut, CanCarryOut}
+use Rattle.tw_cli.specs.Run.{CarriedOut, HeldBack, PassesLimit, CanBeCarriedOut, CanCarryOut}
 use Rattle.tw_cli.specs.declared.cause.Cause.{Cause}
+use Rattle.tw_cli.specs.declared.cause.Cause.TheVariants.{RecordTooLong, TrackFault}
 
 -- ---- a premise
 
@@ -99,6 +102,31 @@ module _ {D F J : Type 0} (m : DiskModel D) (folders : FolderModel F) (tracks : 
     pub leaves : disk.Tells m d0 → (old : State) → OpensTo (m.seen d0) old → (held : Held) → Opens folders tracks f0 j0 held
         → InPhases (InOrder request ids answers d0 f0 j0 old held) d0 d1 f0 f1 j0 j1
 
+-- ---- why the hours were not driven
+
+module _ {D P F J : Type 0} (m : DiskModel D) (hooks : SpawnerModel P) (folders : FolderModel F) (tracks : DiskModel J) (request : Request)
+    (ids : IdWords) (d0 d1 : D) (p0 p1 : P) (f0 f1 : F) (j0 j1 : J) where
+  -- the hours were not loaded, and the records of the tasks stay
+  abbrev pub FailsLoading : Type 0
+  FailsLoading = AreSpared folders tracks f0 f1 j0 j1 × HeldBack m hooks request ids d0 d1 p0 p1
+
+  -- they were loaded, the record of the command was written, and then folder or journal failed
+  pub record FailsLater : Type 0 where
+    pub mid : F
+    pub track : J
+    pub store : Store
+    pub loads : LoadsStore folders tracks f0 mid j0 track store
+    pub run : CarriedOut m hooks request ids d0 d1 p0 p1
+    pub rose : Rose (folders.faults mid) (folders.faults f1) ⊎ Rose (tracks.faults track) (tracks.faults j1)
+
+  -- they can be loaded, the record of their change would have so many bytes, and the records of the tasks stay
+  pub record PassesDriven (bytes : ℕ) : Type 0 where
+    pub held_back : HeldBack m hooks request ids d0 d1 p0 p1
+    pub loads : MayBeLoaded folders tracks f0 j0
+    pub above : 2 ^ 30 < bytes
+    pub size : (held : Held) → Opens folders tracks f0 j0 held → (rows : List Interval) → rows_of held.files ≡ Ok rows
+        → bytes ≡ driven_size held.files held_back.state.tasks held_back.carried.new.tasks rows request.at.seconds
+
 -- ---- a run of a command
 
 module _ {D S P F J : Type 0} (m : DiskModel D) (sources : SourceModel S) (hooks : SpawnerModel P) (folders : FolderModel F) (tracks : DiskModel J)
@@ -113,9 +141,23 @@ module _ {D S P F J : Type 0} (m : DiskModel D) (sources : SourceModel S) (hooks
   HoursBy cause Output = HoursDone
   HoursBy cause Failed = AreUndriven folders tracks f0 f1 j0 j1 cause
 
+  -- a record of the tasks would have so many bytes: one of an opening, or that of the command
+  abbrev pub OwnTooLong : ℕ → Type 0
+  OwnTooLong bytes =
+      OpeningRefused m d0 d1 (opening.TooLong bytes) ⊎ WithInput sources request i0 i1 (λ r. PassesLimit m hooks r ids d0 d1 p0 p1 bytes)
+
+  -- when folder or journal failed, and whose record is too long
+  abbrev pub HoursBecause : Cause → Type 0
+  HoursBecause TrackFault = WithInput sources request i0 i1
+      (λ r. FailsLoading m hooks folders tracks r ids d0 d1 p0 p1 f0 f1 j0 j1 ⊎ FailsLater m hooks folders tracks r ids d0 d1 p0 p1 f0 f1 j0 j1)
+  HoursBecause (RecordTooLong bytes) =
+      OwnTooLong bytes ⊎ WithInput sources request i0 i1 (λ r. PassesDriven m hooks folders tracks r ids d0 d1 p0 p1 f0 f1 j0 j1 bytes)
+  HoursBecause cause = Unit {0}
+
   -- all that is known of the hours, by the cause that the command ends with
   pub record DrivesHours (cause : Cause) : Type 0 where
     pub gives : HoursBy cause (end_of cause)
+    pub because : HoursBecause cause
     pub spares : is_driving request ≡ false → AreUnopened folders tracks f0 f1 j0 j1
     pub any_moment : AreUnopened folders tracks f0 f1 j0 j1
         ⊎ WithInput sources request i0 i1 (λ r. LeavesDriven m folders tracks hooks r ids d0 d1 p0 p1 f0 f1 j0 j1)

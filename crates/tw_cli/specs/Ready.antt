@@ -33,7 +33,7 @@ use Rattle.timew_bridge.specs.Known.{AreDrivers}
 use Rattle.tw_cli.specs.Deciding.{DecidedBy}
 use Rattle.tw_cli.specs.Crash.{LeavesRecords}
 use Rattle.tw_cli.specs.Growth.{LoadingGrows, ChangeGrows}
-use Rattle.tw_cli.specs.Driving.{driven, driven_size, is_driving, Opens, AreUnopened}
+use Rattle.tw_cli.specs.Driving.{driven, driven_size, is_driving, Opens, MayBeLoaded, AreUnopened}
 use Rattle.tw_cli.specs.declared.hours.Before.{Before}
 use Rattle.tw_cli.specs.declared.carry.Made.{Made}
 use Rattle.tw_cli.specs.declared.carry.CarryError.{CarryError}
@@ -86,9 +86,10 @@ module _ {F J : Type 0} (m : FolderModel F) (n : DiskModel J) where
   AreReady now (Some b) new f0 f1 j0 j1 (Some change) = ¬ (b.pending ≡ length new.pending) × IsReadyChange now b.drivers new.tasks f0 f1 j0 j1 change
 
   module _ (f0 f1 : F) (j0 j1 : J) where
-    -- the record of the change passes its limit
+    -- the hours can be loaded, and the record of the change passes its limit
     pub record PassesHours (now : ℕ) (before : Drivers) (after : TasksValue) (bytes : ℕ) : Type 0 where
       pub above : 2 ^ 30 < bytes
+      pub loads : MayBeLoaded m n f0 j0
       pub stays : Stays m n f0 f1 j0 j1
       pub size : (held : Held) → Opens m n f0 j0 held → (rows : List Interval) → rows_of held.files ≡ Ok rows
           → (tasks : TasksValue) → AreDrivers tasks now before → bytes ≡ driven_size held.files tasks after rows now

@@ -9,7 +9,7 @@ use Rattle.tw_records.specs.Log.{Log, chain_of}
 use Rattle.tw_server.specs.Server.{HoldsLog, IsServerOn, is_closed, drawn_id}
 use Rattle.tw_server.specs.Serve.{IsAsked, IsStepOn}
 use Rattle.tw_server.specs.declared.server.Server.{Server}
-use Rattle.tw_sync.specs.World.{World, Answers}
+use Rattle.tw_sync.specs.Theorem.{World, Answers}
 
 -- a log in which a client has one of these chains
 abbrev pub HasEither : (client : List ℕ) (chain now : List Version) → Log → Type 0

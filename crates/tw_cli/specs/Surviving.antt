@@ -10,12 +10,14 @@ use Rattle.tw_protocol.specs.Chain.{Version, IsBetween, Grows}
 use Rattle.tw_segment.specs.Segment.{IsSegment}
 use Rattle.tw_transform.specs.Table.{table}
 use Rattle.tw_groups.specs.Groups.{Groups, groups_of}
-use Rattle.tw_path.specs.Path.{Reached, MayPass}
+use Rattle.tw_path.specs.Fold.{IsFold}
+use Rattle.tw_path.specs.Path.{Reached, Leg, come, MayPass}
 use Rattle.tw_path.specs.Path.Leg.{Pull}
+use Rattle.tw_outcome.specs.Laws.{IsPathIn}
 use Rattle.tw_bodies.specs.Body.{Step}
 use Rattle.tw_bodies.specs.Body.Step.{Commit}
 use Rattle.tw_state.specs.State.{State, undone}
-use Rattle.tw_sync.specs.World.{World, Event, IsAmong, Makes, Leads, Reach}
+use Rattle.tw_sync.specs.Theorem.{World, Event, IsAmong, Makes, Leads, Reach}
 use Rattle.tw_commands.specs.Carried.{Carried, carried_out}
 use Rattle.tw_changes.specs.declared.request.Request.{Request}
 use Rattle.tw_cli.specs.Events.{OpensReplica, RunsOn}
@@ -68,10 +70,24 @@ pub record IsInVersion (versions : List Version) (op : SyncOp) : Type 0 where
   pub reads : IsSegment version.segment ops
   pub holds : IsIn ops op
 
--- the operation was pending at a place of a path from which one of the versions was pulled: an operation of that, which fits there, met it, and it is
--- not kept beside that one
-pub record WasDropped (versions : List Version) (op : SyncOp) : Type 0 where
+-- A place on the path of a sync through a chain. A machine came from one state to another, and the path goes from the base of that, or from a sound
+-- snapshot.
+pub record IsPassed (old : State) (begin chain : List Version) (place : Reached) : Type 0 where
+  pub before : List Version
+  pub state : State
+  pub came : Came old begin before state
+  pub grows : Grows before chain
+  pub from : Reached
+  pub legs : List Leg
+  pub on : IsPathIn chain state from legs
+  pub is : place ≡ come from legs
+
+-- The operation was pending at a place that was passed, whose tasks are the chain folded to it. From there one of the versions was pulled: an operation of
+-- that, which fits there, met it, and it is not kept beside that one.
+pub record WasDropped (old : State) (begin chain versions : List Version) (op : SyncOp) : Type 0 where
   pub place : Reached
+  pub passed : IsPassed old begin chain place
+  pub folded : IsFold chain place.at place.tasks
   pub version : Version
   pub there : IsIn versions version
   pub ops : List SyncOp
@@ -81,41 +97,42 @@ pub record WasDropped (versions : List Version) (op : SyncOp) : Type 0 where
   pub lost : (table other op).local ≡ false
 
 -- one of the versions holds the operation, or it was dropped as one of them was pulled
-abbrev pub IsGone : List Version → SyncOp → Type 0
-IsGone versions op = IsInVersion versions op ⊎ WasDropped versions op
+abbrev pub IsGone : (old : State) (begin chain versions : List Version) → SyncOp → Type 0
+IsGone old begin chain versions op = IsInVersion versions op ⊎ WasDropped old begin chain versions op
 
 -- these are left of operations, in their order: each of the others is gone
 abbrev pub AreLeft : (SyncOp → Type 0) → (ops left : List SyncOp) → Type 0
 AreLeft gone [] left = left ≡ []
 AreLeft gone (op ∷ ops) left = ((more : List SyncOp) × (left ≡ op ∷ more) × AreLeft gone ops more) ⊎ (gone op × AreLeft gone ops left)
 
--- these are left of operations, once the chain was followed from one version to another: the others are in the versions between, or were dropped as
--- these were pulled
-pub record Remain (chain : List Version) (base at : List ℕ) (ops left : List SyncOp) : Type 0 where
+-- these are left of operations, once the chain was followed from the base of the state to a version: the others are in the versions between, or were
+-- dropped as these were pulled
+pub record Remain (old : State) (begin chain : List Version) (at : List ℕ) (ops left : List SyncOp) : Type 0 where
   pub versions : List Version
-  pub between : IsBetween chain base at versions
-  pub are : AreLeft (IsGone versions) ops left
+  pub between : IsBetween chain old.base at versions
+  pub are : AreLeft (IsGone old begin chain versions) ops left
 
--- Operations that were pending at a version live on in a state: what is left of them is a group of what is pending, unless nothing is left.
-pub record LiveOn (chain : List Version) (base : List ℕ) (ops : List SyncOp) (state : State) : Type 0 where
+-- Operations that were pending in a state live on in another: what is left of them is a group of what is pending, unless nothing is left.
+pub record LiveOn (old : State) (begin chain : List Version) (ops : List SyncOp) (state : State) : Type 0 where
   pub left : List SyncOp
-  pub remain : Remain chain base state.base ops left
+  pub remain : Remain old begin chain state.base ops left
   pub pending : (left ≡ []) ⊎ IsIn (groups_of state.pending) left
 
 -- what is left of them is the last group of what is pending, and an undo takes it back
-pub record TakesThemBack (chain : List Version) (base : List ℕ) (ops : List SyncOp) (state next : State) : Type 0 where
+pub record TakesThemBack (old : State) (begin chain : List Version) (ops : List SyncOp) (state next : State) : Type 0 where
   pub left : List SyncOp
-  pub remain : Remain chain base state.base ops left
+  pub remain : Remain old begin chain state.base ops left
   pub some : ¬ (left ≡ [])
   pub before : Groups
   pub last : groups_of state.pending ≡ before ++ left ∷ []
   pub undo : undone state ≡ Some next
 
 -- one of the runs was an undo that took them back
-abbrev pub WereTakenBack : List ℕ → List SyncOp → {old : State} {chain now : List Version} {state : State} → Came old chain now state → Type 0
-WereTakenBack base ops stayed = ⊥
-WereTakenBack base ops (grew before now state came grows) = WereTakenBack base ops came
-WereTakenBack base ops (ran before now state next came makes grows) = WereTakenBack base ops came ⊎ TakesThemBack before base ops state next
+abbrev pub WereTakenBack : (old : State) (begin : List Version) → List SyncOp → {now : List Version} {state : State} → Came old begin now state → Type 0
+WereTakenBack old begin ops stayed = ⊥
+WereTakenBack old begin ops (grew before now state came grows) = WereTakenBack old begin ops came
+WereTakenBack old begin ops (ran before now state next came makes grows) =
+    WereTakenBack old begin ops came ⊎ TakesThemBack old begin before ops state next
 
 -- ---- the law
 
@@ -131,4 +148,4 @@ AcknowledgedSurvives = (request : Request) (ids : IdWords) (answers : List TaskV
     → carried_out request ids answers old ≡ Ok carried → (number : ℕ) (earlier events : List Event) (from now : World)
     → Reach earlier from → states_of from number ≡ carried.new ∷ [] → Since from events now → (state : State) → IsAmong (states_of now number) state
     → (came : Came carried.new from.chain now.chain state)
-    × (LiveOn now.chain carried.new.base (added_by carried.step) state ⊎ WereTakenBack carried.new.base (added_by carried.step) came)
+    × (LiveOn carried.new from.chain now.chain (added_by carried.step) state ⊎ WereTakenBack carried.new from.chain (added_by carried.step) came)

@@ -4,7 +4,7 @@ use Rattle.tw_world.specs.Disk.{DiskModel}
 use Rattle.tw_world.specs.Sink.{SinkModel}
 use Rattle.tw_http.specs.Link.{LinkModel, IsHonest}
 use Rattle.tw_protocol.specs.Chain.{Grows}
-use Rattle.tw_sync.specs.Answers.{IsLinkKept}
+use Rattle.tw_sync.specs.Replies.Answers.{IsLinkKept}
 use Rattle.tw_sync.specs.Start.{Start}
 use Rattle.tw_sync.specs.declared.report.SyncReport.{SyncReport}
 use Rattle.tw_settings.specs.declared.server.ServerSettings.{ServerSettings}

@@ -2,7 +2,7 @@
 ghost use Rattle.std.specs.Prelude.{◌≡◌};
 ghost use Rattle.tw_world.specs.Disk.{FaultsRise, Tells};
 ghost use Rattle.tw_spawn.specs.Spawner.{SpawnerKept};
-ghost use Rattle.tw_sync.specs.Answers.{IsLinkKept};
+ghost use Rattle.tw_sync.specs.Replies.Answers.{IsLinkKept};
 ghost use Rattle.tw_cli.specs.Opening.{KeepsState};
 ghost use Rattle.tw_cli.specs.Fault.{GotFault, status_of};
 ghost use Rattle.tw_cli.specs.Asked.{asked_by};
@@ -97,10 +97,11 @@ pub fn task_run<D: Disk, L: Link, S: Source, O: Sink, E: Sink, P: Spawner, F: Fo
         spawner.old spawner.new folder.old folder.new track.old track.new) result.cause }
     ensures stays { KeepsState D.model disk.old disk.new result.cause }
 
-    // A replica that agrees with the server's chain agrees with it after each run, if the server returns what was written, also a snapshot.
+    // A replica that agrees with the server's chain agrees with it after each run, if the server returns what was written, also a snapshot. Only
+    // a sync asks the link for that chain.
     ensures agrees { Tells D.model disk.old → IsHonestFor L.model (asked_by words.now settings.now now zone.entry) link.old
         → IsSoundFor D.model L.model (asked_by words.now settings.now now zone.entry) disk.old link.old link.new
-        → AgreementStays D.model L.model
+        → AgreementStays D.model L.model (asked_by words.now settings.now now zone.entry)
         (went disk.old disk.new input.old input.new out.old out.new link.old link.new
         spawner.old spawner.new folder.old folder.new track.old track.new) result.cause }
     // So it is an event of each world in which the disk stands for some states, and so is what a crash leaves of it.

@@ -7,7 +7,7 @@ use Rattle.tw_cli.specs.declared.carry.Made.{Made}
 use Rattle.tw_cli.proofs.BothStores.{made_moments}
 use Rattle.tw_cli.proofs.Carrying.{done_drew}
 use Rattle.tw_cli.proofs.DrivenHours.{left_unopened}
-use Rattle.tw_cli.proofs.DrivenRequest.{made_shows, made_refused, made_wants, made_leaves, made_hours, made_spares, made_ready, made_live, made_knows}
+use Rattle.tw_cli.proofs.DrivenRequest.{made_shows, made_refused, made_wants, made_leaves, made_hours, made_because, unmade_because, made_spares, made_ready, made_live, made_knows}
 use Rattle.tw_cli.proofs.Endings.{carry_fails}
 use Rattle.tw_cli.proofs.Growth.{nothing_grown, opening_grows, made_grows, hours_grow}
 use Rattle.tw_cli.proofs.carry.carry_out.Goals as goal
@@ -37,6 +37,7 @@ returns-in-Ok-clause-growth g c = made_grows g.D.Disk.model g.met.D.Disk.seen_ma
 pub returns-in-Ok-clause-hours : goal.returns-in-Ok-clause-hours
 returns-in-Ok-clause-hours g c = record {
   gives = made_hours g.D.Disk.model g.S.Source.model g.P.Spawner.model g.F.Folder.model g.J.Disk.model c.args.request c.args.ids.now c.args.disk.now c.make.new.disk c.write_made.new.disk c.args.input.now c.make.new.input c.args.spawner.now c.make.new.spawner c.args.folder.now c.write_made.new.folder c.args.track.now c.write_made.new.track c.in-Ok.made c.in-Ok.ensures.made c.make.ensures.kept g.met.F.Folder.seen_may_stay g.met.J.Disk.seen_may_stay c.write_made.result c.write_made.ensures.ends;
+  because = made_because g.D.Disk.model g.S.Source.model g.P.Spawner.model g.F.Folder.model g.J.Disk.model c.args.request c.args.ids.now c.args.disk.now c.make.new.disk c.write_made.new.disk c.args.input.now c.make.new.input c.args.spawner.now c.make.new.spawner c.args.folder.now c.write_made.new.folder c.args.track.now c.write_made.new.track c.in-Ok.made c.in-Ok.ensures.made c.make.ensures.kept c.write_made.result c.write_made.ensures.ends;
   spares = made_spares g.D.Disk.model g.S.Source.model g.P.Spawner.model g.F.Folder.model g.J.Disk.model c.args.request c.args.ids.now c.args.disk.now c.make.new.disk c.write_made.new.disk c.args.input.now c.make.new.input c.args.spawner.now c.make.new.spawner c.args.folder.now c.write_made.new.folder c.args.track.now c.write_made.new.track c.in-Ok.made c.in-Ok.ensures.made c.make.ensures.kept c.write_made.result c.write_made.ensures.ends;
   any_moment = made_moments g.D.Disk.model g.met.D.Disk.only_now g.met.D.Disk.counts_now g.S.Source.model g.P.Spawner.model g.F.Folder.model g.J.Disk.model c.args.request c.args.ids.now c.args.disk.now c.make.new.disk c.write_made.new.disk c.args.input.now c.make.new.input c.args.spawner.now c.make.new.spawner c.args.folder.now c.write_made.new.folder c.args.track.now c.write_made.new.track c.in-Ok.made c.in-Ok.ensures.made c.write_made.result c.write_made.ensures.ends;
   growth = hours_grow g.J.Disk.model g.met.J.Disk.seen_may_stay g.met.J.Disk.counts_now g.D.Disk.model g.F.Folder.model c.in-Ok.made c.make.new.disk c.write_made.new.disk c.args.folder.now c.write_made.new.folder c.args.track.now c.write_made.new.track c.write_made.result c.write_made.ensures.ends;
@@ -66,6 +67,7 @@ pub returns-in-Err-clause-hours : goal.returns-in-Err-clause-hours
 returns-in-Err-clause-hours g c = record {
   gives = subst (HoursBy g.D.Disk.model g.S.Source.model g.P.Spawner.model g.F.Folder.model g.J.Disk.model c.args.request c.args.ids.now c.args.disk.now c.make.new.disk c.args.input.now c.make.new.input c.args.spawner.now c.make.new.spawner c.args.folder.now c.args.folder.now c.args.track.now c.args.track.now (carry_cause c.in-Err.error))
       (sym (carry_fails c.in-Err.error)) (left_unopened g.F.Folder.model g.J.Disk.model c.args.folder.now c.args.folder.now c.args.track.now c.args.track.now c.in-Err.error c.in-Err.ensures.unopened (refl, refl));
+  because = unmade_because g.D.Disk.model g.S.Source.model g.P.Spawner.model g.F.Folder.model g.J.Disk.model c.args.request c.args.ids.now c.args.disk.now c.make.new.disk c.args.input.now c.make.new.input c.args.spawner.now c.make.new.spawner c.args.folder.now c.args.folder.now c.args.track.now c.args.track.now c.in-Err.error c.in-Err.ensures.unopened c.in-Err.ensures.refused;
   spares = λ off. (refl, refl);
   any_moment = inl (refl, refl);
   growth = nothing_grown g.J.Disk.model g.met.J.Disk.only_now c.args.track.now (2 ^ 30 + 29);

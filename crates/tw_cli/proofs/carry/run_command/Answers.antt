@@ -57,7 +57,7 @@ returns-in-Ok-clause-hours g c =
     subst (λ (r : Result (Vec ℕ) CarryError). DrivesHours g.D.Disk.model g.S.Source.model g.P.Spawner.model g.F.Folder.model g.J.Disk.model c.args.request c.args.ids.now c.args.disk.now c.carry_out.new.disk c.args.input.now c.carry_out.new.input c.args.spawner.now c.carry_out.new.spawner c.args.folder.now c.carry_out.new.folder c.args.track.now c.carry_out.new.track (ended carry_cause r)) c.in-Ok.is c.carry_out.ensures.hours in
     at_end g.O.Sink.model c.args.out.now c.print.new.out c.as_slice.result.now c.print.result (DrivesHours g.D.Disk.model g.S.Source.model g.P.Spawner.model g.F.Folder.model g.J.Disk.model c.args.request c.args.ids.now c.args.disk.now c.carry_out.new.disk c.args.input.now c.carry_out.new.input c.args.spawner.now c.carry_out.new.spawner c.args.folder.now c.carry_out.new.folder c.args.track.now c.carry_out.new.track) c.print.ensures
     (λ got. left)
-    (λ part rose. record { gives = left.gives; spares = left.spares; any_moment = left.any_moment; growth = left.growth; folder = left.folder; track = left.track })
+    (λ part rose. record { gives = left.gives; because = tt; spares = left.spares; any_moment = left.any_moment; growth = left.growth; folder = left.folder; track = left.track })
 
 pub returns-in-Err-clause-hours : goal.returns-in-Err-clause-hours
 returns-in-Err-clause-hours g c =
