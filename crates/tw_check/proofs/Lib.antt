@@ -1,0 +1,5 @@
+pub mod Inside
+pub mod Cutting
+mod Before
+pub mod Leading
+pub mod OneState
