@@ -5,7 +5,7 @@ use std::io;
 use std::net::{Ipv4Addr, SocketAddr};
 use std::test::Fail;
 use std::time::Duration;
-use tw_files::{AskError, Dialer, Framing, TimedStream, ask};
+use tw_streams::{AskError, Dialer, Framing, TimedStream, ask};
 
 // The bytes of the longest reply: a head of 16,384 and a body of 16,777,216.
 const LONGEST: usize = 16_793_600;
@@ -64,6 +64,8 @@ impl Dialer for TwoAddresses {
     ghost leads_to = { λ stream address nanos. Unit {0} };
 
     ghost has_opened = { λ host count. Unit {0} };
+
+    ghost may_fail = { Unit {0} };
 
     fn addresses(&self, _host: &str, port: u16) -> io::Result<Vec<SocketAddr>> {
         let mut found = Vec::new(self.alloc);

@@ -1,4 +1,4 @@
-//! Tests of disks, folders, files and the journal, over the public calls of tw_world, tw_files and tw_journal.
+//! Tests of disks, folders, files and the journal, over the public calls of tw_world, tw_files, tw_streams and tw_journal.
 //! A module is named after the crate that it tests.
 #![tactic(auto)]
 

@@ -2,9 +2,8 @@
 
 use std::alloc::Global;
 use std::io;
-use std::io::{Read, Write};
 use std::test::Fail;
-use tw_files::{Stream, StreamPeer, StreamSource};
+use tw_streams::{Reader, Stream, StreamPeer, StreamSource, Writer};
 use tw_world::{Peer, Sink, Source, StreamError};
 
 // Gives and takes two bytes a call, and fails once it is used up.
@@ -14,8 +13,14 @@ struct Narrow {
     room: usize,
 }
 
-impl Read for Narrow {
-    fn read(&mut self, buffer: &mut [u8]) -> io::Result<usize> {
+impl Reader for Narrow {
+    ghost use Rattle.std.specs.Prelude.{None};
+
+    ghost remaining = { λ stream. None };
+
+    ghost may_not_read = { Unit {0} };
+
+    fn read_next(&mut self, buffer: &mut [u8]) -> io::Result<usize> {
         let count = buffer.len().min(2);
         if count > self.room {
             return Err(io::Error::from(io::ErrorKind::TimedOut));
@@ -26,16 +31,39 @@ impl Read for Narrow {
     }
 }
 
-impl Write for Narrow {
-    fn write(&mut self, bytes: &[u8]) -> io::Result<usize> {
+impl Writer for Narrow {
+    ghost use Rattle.std.specs.Prelude.{None};
+
+    ghost contents = { λ stream. None };
+
+    ghost may_not_write = { Unit {0} };
+
+    fn write_next(&mut self, bytes: &[u8]) -> io::Result<usize> {
         let count = bytes.len().min(2).min(self.room);
         self.got.extend_from_slice(&bytes[..count])?;
         self.room -= count;
         Ok(count)
     }
 
-    fn flush(&mut self) -> io::Result<()> {
+    fn pass_on(&mut self) -> io::Result<()> {
         Ok(())
+    }
+}
+
+// The same by reference, so that what it got can be looked at later.
+impl Writer for &mut Narrow {
+    ghost use Rattle.std.specs.Prelude.{None};
+
+    ghost contents = { λ stream. None };
+
+    ghost may_not_write = { Unit {0} };
+
+    fn write_next(&mut self, bytes: &[u8]) -> io::Result<usize> {
+        (**self).write_next(bytes)
+    }
+
+    fn pass_on(&mut self) -> io::Result<()> {
+        (**self).pass_on()
     }
 }
 

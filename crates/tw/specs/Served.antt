@@ -1,7 +1,7 @@
 -- The words of `tw server`, and the statuses that it ends with.
 use Rattle.std.specs.Prelude.{ℕ, ◌^◌, ◌-◌, ◌==◌, ◌&&◌, nat_le, List, [], length, slice_index_or, Option, Some, None, if◌then◌else◌}
 use Rattle.tw_text.specs.Natural.{natural}
-use Rattle.tw_files.specs.declared.connection.Limits.{Limits}
+use Rattle.tw_streams.specs.declared.connection.Limits.{Limits}
 use Rattle.tw.specs.declared.server_words.Service.{Service}
 use Rattle.tw_server.specs.declared.error.ServerOpenError.{ServerOpenError}
 use Rattle.tw_server.specs.declared.error.ServerOpenError.TheVariants as refused

@@ -6,7 +6,7 @@ use Rattle.std.specs.declared.env.VarError.TheVariants as variable
 use Rattle.tw.specs.declared.start.StartError.{StartError}
 use Rattle.tw.specs.declared.start.StartError.TheVariants.{CommandLine, Service, Zone, Failed, InUse, Memory}
 use Rattle.tw.specs.declared.start.Part.{Part}
-use Rattle.tw.specs.declared.start.Part.TheVariants.{Help, Version, Task, Timew, Server}
+use Rattle.tw.specs.declared.start.Part.TheVariants.{Help, Version, Task, Timew, Server, Check, Rescue, Audit}
 
 -- the status of a program that does not begin
 abbrev pub status_of : StartError → ℕ
@@ -31,6 +31,7 @@ abbrev pub parts : List (List ℕ × Part)
 parts =
     (codes "--help", Help) ∷ (codes "help", Help) ∷ (codes "-h", Help) ∷ (codes "--version", Version)
     ∷ (codes "task", Task) ∷ (codes "timew", Timew) ∷ (codes "server", Server)
+    ∷ (codes "check", Check) ∷ (codes "rescue", Rescue) ∷ (codes "audit", Audit)
     ∷ []
 
 -- what a variable says: nothing if it is not set, or empty

@@ -1,6 +1,6 @@
 // What a request asks for, as the first bytes of it say.
-ghost use Rattle.std.specs.Prelude.{◌≡◌, ◌≤◌, ◌++◌, length, map, OnOk};
-ghost use Rattle.tw.specs.Asked.{shown, shown_word};
+ghost use Rattle.std.specs.Prelude.{◌≡◌, ◌≤◌, ◌++◌, length, map, take, option_map, OnOk};
+ghost use Rattle.tw.specs.Asked.{shown, shown_word, word_len, first_word, ends_word, after_blank, after_client, client_of, asked};
 
 use tw_world::Memory;
 
@@ -12,7 +12,9 @@ const SHOWN_DIGITS: usize = 8;
 
 /// Puts the method, the path and the first eight digits of the client's id to the end of a line, with a blank between. What is not there
 /// is a dash. After an error a part of them is there.
-pub fn push_asked(line: &mut Vec<u8>, front: &[u8]) -> Result<(), Memory> {
+pub fn push_asked(line: &mut Vec<u8>, front: &[u8]) -> Result<(), Memory>
+    ensures { OnOk result (line.new.items ≡ line.old.items ++ asked front.now) }
+{
     let (method, rest) = front.split_at(word_len(front));
     let rest = without_blank(rest);
     let (path, _) = rest.split_at(word_len(rest));
@@ -24,18 +26,32 @@ pub fn push_asked(line: &mut Vec<u8>, front: &[u8]) -> Result<(), Memory> {
 }
 
 // The digits of the client's id that are shown.
-fn client_of(front: &[u8]) -> &[u8] {
+#[tactic(auto, using(crate::proofs::Requests::found_here))]
+fn client_of(front: &[u8]) -> &[u8]
+    ensures { result.now ≡ client_of front.now }
+{
     for at in 0..front.len() {
-        if let Some(value) = after_client(&front[at..]) {
-            let value = without_blank(value);
-            return &value[..word_len(value).min(SHOWN_DIGITS)];
+        match after_client(&front[at..]) {
+            Some(value) => return shown_digits(value),
+            None => {}
         }
     }
     &[]
 }
 
+// The first digits of a value.
+fn shown_digits(value: &[u8]) -> &[u8]
+    ensures { result.now ≡ take 8 (first_word (after_blank value.now)) }
+{
+    let value = without_blank(value);
+    let (word, _) = value.split_at(word_len(value));
+    &word[..SHOWN_DIGITS.min(word.len())]
+}
+
 // What follows the header's name, if the bytes begin with it. A name has no case (RFC 9110, 5.1).
-fn after_client(bytes: &[u8]) -> Option<&[u8]> {
+fn after_client(bytes: &[u8]) -> Option<&[u8]>
+    ensures { option_map (λ value. value.now) result ≡ after_client bytes.now }
+{
     if bytes.len() < CLIENT.len() {
         return None;
     }
@@ -48,7 +64,9 @@ fn after_client(bytes: &[u8]) -> Option<&[u8]> {
 }
 
 // The bytes after the blank that they begin with, if they do.
-fn without_blank(bytes: &[u8]) -> &[u8] {
+fn without_blank(bytes: &[u8]) -> &[u8]
+    ensures { result.now ≡ after_blank bytes.now }
+{
     match bytes {
         [b' ', rest @ ..] => rest,
         _ => bytes,
@@ -57,14 +75,23 @@ fn without_blank(bytes: &[u8]) -> &[u8] {
 
 // How many bytes there are before the first blank, or the end of the line.
 fn word_len(bytes: &[u8]) -> usize
-    ensures { result ≤ length bytes.now }
+    ensures len { result ≡ word_len bytes.now }
+    ensures within { result ≤ length bytes.now }
 {
-    for at in 0..bytes.len() {
-        if bytes[at] == b' ' || bytes[at] == b'\r' || bytes[at] == b'\n' {
-            return at;
+    let mut len = 0;
+    for byte in bytes {
+        if ends_word(*byte) {
+            return len;
         }
+        len += 1;
     }
-    bytes.len()
+    len
+}
+
+fn ends_word(byte: u8) -> bool
+    ensures { result ≡ ends_word byte }
+{
+    byte == b' ' || byte == b'\r' || byte == b'\n'
 }
 
 // Puts a word to the end of a line.

@@ -11,6 +11,13 @@ usage:
   tw server PORT FILE [COUNT]
                         serve syncs on a port of 127.0.0.1, with the history of
                         all clients in a file; end after COUNT connections
+  tw check [FOLDER|FILE]
+                        tell what the journals of this machine hold, or those
+                        of a folder, or a file; nothing is written
+  tw rescue FILE        write what is whole of a damaged journal, or of a
+                        server's file, to FILE.rescued; FILE stays as it is
+  tw audit              compare the tasks of this machine with the server's
+                        history; nothing is written, here or there
   tw --help             print this text
   tw --version          print the version
 

@@ -6,7 +6,7 @@ use std::alloc::Global;
 use std::env;
 use std::env::VarError;
 use std::io::IsTerminal;
-use tw_files::Stream;
+use tw_streams::Stream;
 use tw_text::cell;
 use tw_world::Sink;
 

@@ -1,8 +1,10 @@
 // The standard input.
+ghost use Rattle.std.specs.Prelude.{None};
 
 use crate::hint::hint_line;
 use std::io;
 use std::io::{IsTerminal, Read};
+use tw_streams::Reader;
 
 /// The standard input of the program, and whether it was read from. The first read says what is awaited, if a person has to type it.
 #[derive(Drop)]
@@ -21,8 +23,12 @@ impl<'a> Input<'a> {
     }
 }
 
-impl Read for Input<'_> {
-    fn read(&mut self, buf: &mut [u8]) -> io::Result<usize> {
+impl Reader for Input<'_> {
+    ghost remaining = { λ input. None };
+
+    ghost may_not_read = { Unit {0} };
+
+    fn read_next(&mut self, buf: &mut [u8]) -> io::Result<usize> {
         if !self.is_begun {
             self.is_begun = true;
             if self.rt.stdin().is_terminal() {

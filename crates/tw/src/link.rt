@@ -3,11 +3,11 @@ ghost use Rattle.std.specs.Prelude.{◌≡◌, None, Err, OnOk, IsErrOf, IsSomeA
 ghost use Rattle.tw_world.specs.Disk.{Rose};
 ghost use Rattle.tw_http.specs.Link.{IsExchange, IsAnswered};
 ghost use Rattle.tw_http.specs.Lengths.{ResponseEndsAt};
-ghost use Rattle.tw_files.specs.Asked.{Asked, OpensOne};
+ghost use Rattle.tw_streams.specs.Asked.{Asked, Dialled, Exchanged, OpensOne};
 
 use tw_cli::Address;
-use tw_files::{AskError, Dialer, Framing, Timer, ask};
 use tw_http::{Link, LinkError, response_len};
+use tw_streams::{AskError, Dialer, Framing, Timer, ask};
 
 // A reply ends where its head says.
 struct Responses;
@@ -60,8 +60,8 @@ impl<S: Dialer + Timer + Copy> Link for TcpLink<S> {
 
         ensures unaddressed { self.old.address ≡ None → result ≡ Err LinkError.Failed }
         // A connection to the server's address got the request, and gave the reply. It is the one that this value of the system opened.
-        ensures asked { OnOk result (IsSomeAnd self.old.address (λ address. Asked (S.is_of address.host address.port) S.leads_to S.has_shown
-            S.Stream.contents S.Stream.remaining ResponseEndsAt request.now reply.new.items)) }
+        ensures asked { OnOk result (IsSomeAnd self.old.address (λ address. Asked (Dialled (S.is_of address.host address.port) S.leads_to S.has_shown)
+            (Exchanged S.Stream.contents S.Stream.remaining ResponseEndsAt request.now reply.new.items))) }
         ensures opened { OpensOne S.has_opened self.old.system self.new.system result }
         ensures well { OnOk result (self.new.faults ≡ self.old.faults) }
     {

@@ -5,8 +5,8 @@ use crate::hint::hint_new;
 use crate::start::{StartError, variable};
 use std::alloc::Global;
 use std::time::Duration;
-use tw_files::Stream;
 use tw_server::{ServeEnd, ServerOpenError};
+use tw_streams::Stream;
 use tw_text::cell;
 use tw_world::{Memory, Sink};
 

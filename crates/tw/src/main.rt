@@ -4,6 +4,8 @@
 #![tactic(auto)]
 
 mod asked;
+mod audit;
+mod check;
 mod disk;
 mod help;
 mod hint;
@@ -13,6 +15,7 @@ mod link;
 mod log;
 mod print;
 mod reasons;
+mod rescue;
 mod server;
 mod server_words;
 mod settings;
@@ -24,9 +27,12 @@ mod timew;
 mod timew_paths;
 mod zone;
 
+use audit::run_audit;
+use check::run_check;
 use help::{HELP, VERSION};
 use print::{print, print_error};
 use reasons::hint_start;
+use rescue::run_rescue;
 use server::run_server;
 use start::{Part, StartError, part_of, take_first, words};
 use std::alloc::Global;
@@ -50,6 +56,9 @@ fn run(rt: &HostRuntime, alloc: Global) -> Result<u8, StartError> {
             Err(StartError::CommandLine) => Err(StartError::Service),
             ended => ended,
         },
+        Some(Part::Check) => run_check(rt, alloc, &words),
+        Some(Part::Rescue) => run_rescue(rt, alloc, &words),
+        Some(Part::Audit) => run_audit(rt, alloc, &words),
         None => Err(StartError::CommandLine),
     }
 }

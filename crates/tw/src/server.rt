@@ -1,6 +1,6 @@
 // `tw server`.
 ghost use Rattle.std.specs.Prelude.{◌≡◌, false, IfOk};
-ghost use Rattle.tw_files.specs.Waits.{Begins};
+ghost use Rattle.tw_streams.specs.Waits.{Begins};
 ghost use Rattle.tw_server.specs.Server.{is_closed, server_end};
 ghost use Rattle.tw.specs.Served.{last_status, server_limits, status_of_refusal};
 
@@ -15,8 +15,9 @@ use std::io;
 use std::io::ErrorKind;
 use std::net::{Ipv4Addr, TcpListener, TcpStream};
 use std::time::Duration;
-use tw_files::{Busy, Connection, Limits, Noted, StreamPeer, TimedStream, Timer, open_disk};
+use tw_files::{Busy, open_disk};
 use tw_server::{ServeEnd, Server, ServerOpenError, serve_one};
+use tw_streams::{Connection, Limits, Noted, StreamPeer, TimedStream, Timer};
 use tw_world::{Disk, IdWords};
 
 // A client that is silent, or that moves less than 1,000 bytes a second, is cut off, and the next one is served. Ten minutes are the most.

@@ -1,4 +1,6 @@
 // `tw task`.
+ghost use Rattle.std.specs.Prelude.{◌≡◌, IfOk};
+ghost use Rattle.tw_cli.specs.Fault.{GotFault, status_of};
 
 use crate::disk::{Opened, disk_at};
 use crate::hint::hint_new;
@@ -13,11 +15,12 @@ use crate::zone::zone;
 use std::alloc::Global;
 use std::fs::File;
 use tw_cli::{Outcome, link_address, needs_hours, needs_store, task_run};
-use tw_files::{FailingFolder, FileDisk, ProcessSpawner, Stream, StreamSource};
+use tw_files::{FailingFolder, FileDisk, ProcessSpawner};
 use tw_http::Link;
 use tw_spawn::Spawner;
+use tw_streams::{Stream, StreamSource};
 use tw_time::Zone;
-use tw_world::{Disk, FailingDisk, Folder, IdWords, Moment};
+use tw_world::{Disk, FailingDisk, IdWords, Moment, Sink, Source};
 
 /// Does what the words after `task` ask for, and gives the program's status. Nothing is opened or made for bad words or
 /// settings, or for `_generate`; the zone is judged before. If the journal's file isn't opened, it works on a disk whose every call fails.
@@ -80,7 +83,8 @@ fn run_in(
     }
 }
 
-fn store_in(
+/// The store of a folder, as a disk.
+pub fn store_in(
     rt: &HostRuntime,
     alloc: Global,
     folder: &str,
@@ -95,7 +99,7 @@ fn store_in(
     Ok(opened)
 }
 
-// Carries the words out over a disk, the hooks of the folder, and a link to the server that the settings name.
+// Carries the words out over a disk, the hooks of the folder, a link to the server that the settings name, and the streams of the program.
 fn run_over<D: Disk>(
     rt: &HostRuntime,
     alloc: Global,
@@ -109,13 +113,17 @@ fn run_over<D: Disk>(
 ) -> Result<Outcome, StartError> {
     let mut link = TcpLink::new(rt, link_address(alloc, words, settings)?);
     let mut hooks = ProcessSpawner::new(alloc, rt, folder)?;
+    let mut input = StreamSource::new(Input::new(rt));
+    let mut out = Stream::new(rt.stdout());
+    let mut err = Stream::new(rt.stderr());
     over_hours(
-        rt, alloc, words, settings, now, zone, ids, disk, &mut link, &mut hooks,
+        rt, alloc, words, settings, now, zone, ids, disk, &mut link, &mut input, &mut out,
+        &mut err, &mut hooks,
     )
 }
 
 // The same over the hours, which are opened only for a command that drives them, after the tasks. If they can't be opened, each call of them fails.
-fn over_hours<D: Disk, L: Link, P: Spawner>(
+fn over_hours<D: Disk, L: Link, S: Source, O: Sink, E: Sink, P: Spawner>(
     rt: &HostRuntime,
     alloc: Global,
     words: &Vec<String>,
@@ -125,59 +133,60 @@ fn over_hours<D: Disk, L: Link, P: Spawner>(
     ids: &mut IdWords,
     disk: &mut D,
     link: &mut L,
+    input: &mut S,
+    out: &mut O,
+    err: &mut E,
     hooks: &mut P,
-) -> Result<Outcome, StartError> {
+) -> Result<Outcome, StartError>
+    ensures told { IfOk result (λ outcome. GotFault E.model err.old err.new outcome.cause) }
+    ensures status { IfOk result (λ outcome. outcome.status ≡ status_of outcome.cause) }
+{
     let opened = if needs_hours(alloc, words, settings, now, zone)? {
         open_hours(rt, alloc)?
     } else {
         Err(None)
     };
     match opened {
-        Ok(Hours { months, track }) => Ok(run_beside(
-            rt, alloc, words, settings, now, zone, ids, disk, link, hooks, months, track,
+        Ok(
+            Hours {
+                mut months,
+                mut track,
+            },
+        ) => Ok(task_run(
+            alloc,
+            words,
+            settings,
+            now,
+            zone,
+            ids,
+            disk,
+            link,
+            input,
+            out,
+            err,
+            hooks,
+            &mut months,
+            &mut track,
         )),
         Err(_) => {
-            let months = FailingFolder::new();
-            let track = FailingDisk::new();
-            Ok(run_beside(
-                rt, alloc, words, settings, now, zone, ids, disk, link, hooks, months, track,
+            let mut months = FailingFolder::new();
+            let mut track = FailingDisk::new();
+            Ok(task_run(
+                alloc,
+                words,
+                settings,
+                now,
+                zone,
+                ids,
+                disk,
+                link,
+                input,
+                out,
+                err,
+                hooks,
+                &mut months,
+                &mut track,
             ))
         }
     }
-}
-
-// The same over the streams of the program.
-fn run_beside<D: Disk, L: Link, P: Spawner, F: Folder + Drop, J: Disk + Drop>(
-    rt: &HostRuntime,
-    alloc: Global,
-    words: &Vec<String>,
-    settings: &Vec<u8>,
-    now: Moment,
-    zone: &Zone,
-    ids: &mut IdWords,
-    disk: &mut D,
-    link: &mut L,
-    hooks: &mut P,
-    mut months: F,
-    mut track: J,
-) -> Outcome {
-    let mut input = StreamSource::new(Input::new(rt));
-    let mut out = Stream::new(rt.stdout());
-    let mut err = Stream::new(rt.stderr());
-    task_run(
-        alloc,
-        words,
-        settings,
-        now,
-        zone,
-        ids,
-        disk,
-        link,
-        &mut input,
-        &mut out,
-        &mut err,
-        hooks,
-        &mut months,
-        &mut track,
-    )
 }

@@ -1,4 +1,6 @@
 // `tw timew`.
+ghost use Rattle.std.specs.Prelude.{◌≡◌, IfOk};
+ghost use Rattle.timew_cli.specs.Fault.{GotFault, status_of};
 
 use crate::hours::{hours_folder, track_in};
 use crate::reasons::{hint_timew, reason_of};
@@ -9,9 +11,10 @@ use std::alloc::Global;
 use std::io::ErrorKind;
 use timew_cli::{Outcome, timew_run};
 use timew_words::{WordsError, read_words};
-use tw_files::{FailingFolder, Stream, open_folder};
+use tw_files::{FailingFolder, open_folder};
+use tw_streams::Stream;
 use tw_time::Zone;
-use tw_world::{Disk, FailingDisk, Folder, Moment};
+use tw_world::{Disk, FailingDisk, Moment, Sink};
 
 /// Does what the words after `timew` ask for, and gives the program's status. Nothing is opened or made for bad words; the zone is
 /// judged before them. If the journal's file or the folder can't be opened, it works on one whose every call fails.
@@ -25,16 +28,37 @@ pub fn run_timew(rt: &HostRuntime, alloc: Global, words: &Vec<String>) -> Result
     } else {
         Err(None)
     };
+    let mut out = Stream::new(rt.stdout());
+    let mut err = Stream::new(rt.stderr());
     match opened {
         Ok(mut disk) => {
-            let outcome = over_months(rt, alloc, words, now, &zone, folder.as_str(), &mut disk)?;
+            let outcome = over_months(
+                rt,
+                alloc,
+                words,
+                now,
+                &zone,
+                folder.as_str(),
+                &mut disk,
+                &mut out,
+                &mut err,
+            )?;
             hint_timew(rt, alloc, words, folder.as_str(), None, &outcome.cause);
             Ok(outcome.status)
         }
         Err(kind) => {
             let mut months = FailingFolder::new();
             let mut disk = FailingDisk::new();
-            let outcome = run_over(rt, alloc, words, now, &zone, &mut months, &mut disk);
+            let outcome = timew_run(
+                alloc,
+                words,
+                now,
+                &zone,
+                &mut months,
+                &mut disk,
+                &mut out,
+                &mut err,
+            );
             hint_timew(
                 rt,
                 alloc,
@@ -63,7 +87,7 @@ fn are_good(
 }
 
 // Carries the words out over the month files and a journal.
-fn over_months<D: Disk>(
+fn over_months<D: Disk, O: Sink, E: Sink>(
     rt: &HostRuntime,
     alloc: Global,
     words: &Vec<String>,
@@ -71,28 +95,19 @@ fn over_months<D: Disk>(
     zone: &Zone,
     folder: &str,
     journal: &mut D,
-) -> Result<Outcome, StartError> {
+    out: &mut O,
+    err: &mut E,
+) -> Result<Outcome, StartError>
+    ensures told { IfOk result (λ outcome. GotFault E.model err.old err.new outcome.cause) }
+    ensures status { IfOk result (λ outcome. outcome.status ≡ status_of outcome.cause) }
+{
     let path = months_path(alloc, folder)?;
     match open_folder(alloc, rt, path.as_str()) {
-        Ok(mut months) => Ok(run_over(rt, alloc, words, now, zone, &mut months, journal)),
+        Ok(mut months) => Ok(timew_run(alloc, words, now, zone, &mut months, journal, out, err)),
         Err(error) if error.kind() == ErrorKind::OutOfMemory => Err(StartError::Memory),
         Err(_) => {
             let mut months = FailingFolder::new();
-            Ok(run_over(rt, alloc, words, now, zone, &mut months, journal))
+            Ok(timew_run(alloc, words, now, zone, &mut months, journal, out, err))
         }
     }
-}
-
-fn run_over<F: Folder, D: Disk>(
-    rt: &HostRuntime,
-    alloc: Global,
-    words: &Vec<String>,
-    now: Moment,
-    zone: &Zone,
-    months: &mut F,
-    journal: &mut D,
-) -> Outcome {
-    let mut out = Stream::new(rt.stdout());
-    let mut err = Stream::new(rt.stderr());
-    timew_run(alloc, words, now, zone, months, journal, &mut out, &mut err)
 }

@@ -46,7 +46,7 @@ fn text_of(cause: &Cause, not_opened: Option<NotOpened>) -> &'static str
         Cause::SegmentTooLong { .. } => "one change is above 16 MB",
         Cause::PullTooLong { .. } => "sync again: it goes on from there",
         Cause::OutFault => "it was carried out; only the answer is lost",
-        Cause::Damaged { .. } => "put back a copy of %; keep the damaged one",
+        Cause::Damaged { .. } => "tw rescue % saves what is whole; keep the damaged file",
         Cause::InFault => "the standard input can't be read",
         Cause::InputTooLong => "import at most 64 MiB at a time",
         Cause::HookRefused { .. } => "it ended with status #",
@@ -54,7 +54,8 @@ fn text_of(cause: &Cause, not_opened: Option<NotOpened>) -> &'static str
         Cause::HookFault => "hooks can't be read, or a signal ended one",
         Cause::TrackFault => "the hours are in %; try tw timew",
         Cause::TrackBad { .. } => "mend that line by hand",
-        Cause::TrackDamaged { .. } => "put back a copy of %/undo.journal; keep the damaged one",
+        Cause::TrackDamaged { .. } =>
+            "tw rescue %/undo.journal saves what is whole; keep the damaged file",
         Cause::Done
         | Cause::NoMatch
         | Cause::BadWords { .. }

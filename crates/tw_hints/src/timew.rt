@@ -38,7 +38,7 @@ fn text_of(cause: &Cause, not_opened: Option<NotOpened>) -> &'static str
         Cause::BadLine { .. } => "mend that line by hand",
         Cause::DiskFault => disk_text(not_opened),
         Cause::RecordTooLong { .. } => "do it in parts",
-        Cause::Damaged { .. } => "put back a copy of %; keep the damaged one",
+        Cause::Damaged { .. } => "tw rescue % saves what is whole; keep the damaged file",
         Cause::FolderFault => "% can't be read or written",
         Cause::Memory => "free some memory, or do it in parts",
         Cause::OutFault => "it was carried out; only the answer is lost",

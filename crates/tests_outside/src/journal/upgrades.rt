@@ -106,7 +106,7 @@ impl Opened {
     // Whether a journal of the first version is upgraded, with the body 9.
     fn upgrade(&mut self) -> bool {
         self.journal.version() == 49
-            && self.journal.upgrade(&mut self.disk, &[9]).is_ok()
+            && self.journal.upgrade(&mut self.disk, &SECOND, &[9]).is_ok()
             && self.journal.version() == 50
     }
 }

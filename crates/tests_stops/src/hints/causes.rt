@@ -76,7 +76,7 @@ fn are_faults_said(alloc: Global) -> bool {
     ) & says(
         alloc,
         Cause::Damaged { offset: 9 },
-        "tw: put back a copy of /a/j; keep the damaged one\n",
+        "tw: tw rescue /a/j saves what is whole; keep the damaged file\n",
     ) & says(
         alloc,
         Cause::InFault,
@@ -92,7 +92,7 @@ fn are_faults_said(alloc: Global) -> bool {
     ) & says(
         alloc,
         Cause::TrackDamaged { offset: 9 },
-        "tw: put back a copy of /a/h/undo.journal; keep the damaged one\n",
+        "tw: tw rescue /a/h/undo.journal saves what is whole; keep the damaged file\n",
     )
 }
 
