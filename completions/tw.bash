@@ -18,6 +18,10 @@ _tw() {
         [[ ${#words[@]} -eq 3 ]] && mapfile -t COMPREPLY < <(compgen -f -- "$begun")
         return
     fi
+    if [[ ${words[1]-} == check || ${words[1]-} == rescue ]]; then
+        [[ ${#words[@]} -eq 2 ]] && mapfile -t COMPREPLY < <(compgen -f -- "$begun")
+        return
+    fi
     # The shell replaces only what comes after its last break.
     kept=
     [[ $begun == *[:=]* ]] && kept=${begun%"${begun##*[:=]}"}

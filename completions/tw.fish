@@ -13,7 +13,14 @@ end
 
 function __tw_wants_file
     set -l before (commandline -opc)
-    test (count $before) -eq 3 -a "$before[2]" = server
+    switch "$before[2]"
+        case server
+            test (count $before) -eq 3
+        case check rescue
+            test (count $before) -eq 2
+        case '*'
+            false
+    end
 end
 
 complete -c tw -f -n 'not __tw_wants_file' -a '(__tw_complete)'

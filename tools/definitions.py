@@ -202,3 +202,57 @@ def in_order(cites):
         out.append(item)
         del left[item]
     return out
+
+
+def calls(crate, name):
+    """The source files with such a call, and in each the line of it."""
+    shapes = [r"    (pub )?fn %s\b"] if crate[:1].isupper() else [r"pub fn %s\b", r" *(pub )?fn %s\b"]
+    files = sorted(str(one) for one in Path().glob("*/src/**/*.rt") if not re.match("tests_|transcripts/", str(one)))
+    for shape in shapes:
+        found = []
+        for file in files:
+            if crate and not crate[0].isupper() and not file.startswith(crate + "/"):
+                continue
+            text = Path(file).read_text()
+            start = 0
+            if crate[:1].isupper():
+                home = re.search(r"^(?:impl(?:<.*>)? (?:.* for )?|(?:pub )?trait )%s\b.*\{$" % crate, text, re.M)
+                if not home:
+                    continue
+                start = home.start()
+            at = re.compile("^" + shape % name, re.M).search(text, start)
+            if at:
+                found.append((file, text.count("\n", 0, at.start())))
+        if len(found) == 1:
+            break
+    return found
+
+
+def contract(file, number):
+    """The head of a call, and its clauses: for each the word before it, its name and its text."""
+    lines = lines_of(file)
+    end = number
+    while lines[end].strip() not in ("{", "{}", "}") and not (lines[end].endswith(";") and "{" not in lines[number]):
+        end += 1
+    parts = re.split(r"\n(?= *(?:requires|ensures)\b)", re.sub(r"^\s*//.*\n", "", "\n".join(lines[number:end]) + "\n", flags=re.M))
+    clauses = []
+    for part in parts[1:]:
+        word, name = re.match(r"\s*(requires|ensures) ?(\w*)", part).groups()
+        clauses.append((word, name, part.rstrip()))
+    return parts[0].rstrip(), clauses
+
+
+def fields_below(items, field):
+    """The records nearest below these items that have a field of this name, in one file, each with the text of the field."""
+    seen, level = set(), list(items)
+    while level:
+        found = []
+        for item in level:
+            has = re.search(r"(?:^\s*--.*\n)*^(\s+)pub %s : .*(?:\n\1 .*)*" % field, item.text, re.M)
+            if has and "record " in item.text:
+                found.append((item, has[0]))
+        if found:
+            return found
+        seen.update(level)
+        level = sorted({one for item in level for one in cites_of(item)} - seen, key=lambda one: (one.file, one.line))
+    return []
